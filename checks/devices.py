@@ -5,7 +5,7 @@ usage: checks/devices.py [IMAGES] [SEED] [RUNS]     (default: 100,000 images; as
 
 An image is drawn from a real store, as the sessions of scripts.py leave it after each of their messages: bytes of it are changed, numbers
 put to their edges, parts filled, copied, moved, left out or put in, slots and cells exchanged, the end cut off or made longer. `dump` by
-either pick has to print documents, status 0, or end with status 1 and `error 30 NotFormatted` or `error 32 Damaged`: just what reading.py
+either pick has to print documents, status 0, or end with status 1 and `error 30 NotFormatted`, `error 32 Damaged` or `error 38 OldFormat`: just what reading.py
 finds by docs/FORMATS.md. It has a second of a processor for it; and the file has to be the same afterwards, and not written. An image that
 disagrees is kept, in a folder that is named.
 
@@ -125,7 +125,7 @@ def wanted_of(content, pick):
     """The status, the documents and the errors that are due for an image."""
     found = reading.found(content, pick == "newer")
     if isinstance(found, int):
-        return 1, [], b"error 30 NotFormatted\n" if found == reading.NOT_FORMATTED else b"error 32 Damaged\n"
+        return 1, [], f"error {found} {reading.NAMES[found]}\n".encode()
     return 0, [(name, rev, floor, json.dumps(ops, sort_keys=True)) for name, rev, floor, ops in found], b""
 
 

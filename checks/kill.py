@@ -4,18 +4,20 @@
 usage: checks/kill.py [ROUNDS] [SESSIONS]     (default: 50 rounds, 16 sessions)
 
 Each round is a new store. Each session is a source of its own, which creates a document of its own. It puts words at the beginning
-of that and of one document that all share, one edit of each at a time, and sends the one ahead of the reply to the other. Each word
-is used once. In every second round the journal has two small slots and milestones lie 16 revisions apart, so that slots are freed
+of that and of one document that all share, in turn one edit of each at a time and 16 of each ahead of their replies. Each word is
+used once. In every second round the journal has two small slots and milestones lie 16 revisions apart, so that slots are freed
 all the time. At a random moment the program is killed. Then `dump` has to show, with the newer milestones and with the older ones:
 each word that was acknowledged once, no word twice, and besides them none but what was on its way. Then the program is started
-again. Each client connects to it by itself, and sends what was on its way once more, with its numbers: the reply has to be `again`
-just where the word stands in the document. A number above the next one is refused, and the next one is taken.
+again. Each client connects to it by itself, and sends what was on its way once more, with its numbers, the oldest first: the reply has
+to be `again` just where the word stands in the document. Then each source sends the last 16 of its numbers once more, the oldest first: each was
+acknowledged, so the reply has to be `again` with its revision. A number above the next one is refused, and the next one is taken.
 
 SIGKILL ends the program and not the system, so what the program wrote is there even where it was not synced. What a loss of power
 leaves is proved of each call, and isn't tried here.
 
 Run ./demo first, which builds crates/richd/out/richd, or name another program in RICHD. The stores lie in a temporary folder (TMPDIR).
 """
+import itertools
 import json
 import os
 import random
@@ -40,6 +42,7 @@ SHARED = "all"
 MOST_EDITS = 4_800 // sessions  # of one session on one document, so that the shared document stays within its weight
 PATIENCE = 60  # seconds
 TOO_OLD, GAP = 13, 9
+WINDOW = 16  # how many of its last numbers a source may send again, and so how many commands of a document are on their way
 
 # Two kinds of stores and servers, in turn: the options of `format`, and those of `serve`.
 KINDS = [
@@ -62,23 +65,26 @@ class Writer:
         self.source, self.own = f"s{number}", f"own{number}"
         self.client = richd.connect(link=lambda: TcpLink(*place.server.address), source=self.source, timeout=PATIENCE)
         self.base = {self.own: 1, SHARED: 1}  # the newest revision that is known
+        self.revisions = {self.own: [], SHARED: []}  # of the numbers 1 and so on
         self.sent = []
         self.fault = None
 
     def create(self, doc):
         taken = self.client.create(doc, [{"insert": "begin;"}])
         assert taken == richd.Taken(1), taken
+        self.revisions[doc].append(1)
 
-    def edit_both(self):
-        """Sends a word to each document, and waits for both answers."""
-        pair = []
-        for doc in (self.own, SHARED):
+    def edit_both(self, count=1):
+        """Sends so many words to each document, and waits for their answers."""
+        words = []
+        for doc in (self.own, SHARED) * count:
             word = f"{self.source}.{len(self.sent)};"
-            pair.append(Sent(doc, word, self.client.ahead.edit(doc, [{"insert": word}], self.base[doc])))
-            self.sent.append(pair[-1])
-        for sent in pair:
+            words.append(Sent(doc, word, self.client.ahead.edit(doc, [{"insert": word}], self.base[doc])))
+            self.sent.append(words[-1])
+        for sent in words:
             try:
                 self.base[sent.doc] = sent.answer.result(PATIENCE).rev
+                self.revisions[sent.doc].append(self.base[sent.doc])
             except richd.Refused as refusal:
                 if refusal.code != TOO_OLD:
                     raise
@@ -86,15 +92,26 @@ class Writer:
 
     def run(self, until):
         try:
-            while not until.is_set() and len(self.sent) < 2 * MOST_EDITS:
-                self.edit_both()
+            for count in itertools.cycle((1, WINDOW)):
+                if until.is_set() or len(self.sent) >= 2 * (MOST_EDITS - WINDOW):
+                    return
+                self.edit_both(count)
         except Exception as fault:
             self.fault = fault
 
+    def send_again(self, server, doc):
+        """Sends the last numbers again, the oldest first."""
+        revisions = self.revisions[doc]
+        for number in range(max(1, len(revisions) - WINDOW + 1), len(revisions) + 1):
+            with server.connect(self.source, numbers={doc: number}, timeout=PATIENCE) as other:
+                answer = other.edit(doc, [], self.base[doc])
+                assert answer == richd.Taken(revisions[number - 1], True), (doc, number, answer)
+
     def go_on(self, server):
-        """What comes after the restart: a number above the next one is refused, and the next one is taken."""
+        """What comes after the restart: the last numbers are retries, one above the next is refused, and the next one is taken."""
         for doc in (self.own, SHARED):
             self.base[doc] = self.client.fetch(doc).rev
+            self.send_again(server, doc)
             beyond = {doc: self.client.numbers()[doc] + 1}
             with server.connect(self.source, numbers=beyond, timeout=PATIENCE) as other:
                 try:

@@ -1,10 +1,11 @@
-"""The rows that no_memory.py and faults.py both play: `format`, `dump`, the scripts of scripts.py, three sessions at once."""
+"""The rows that no_memory.py and faults.py both play: `format`, `dump`, `migrate`, the scripts of scripts.py, three sessions at once."""
 import functools
 import os
 import shutil
 import subprocess
 import tempfile
 
+from first_format import in_first_format
 from refusing import S, Tally, agree, arguments, content_of, richd, try_each, undisturbed
 from scripts import SCRIPTS, dumped, learn, play
 from three import play_three
@@ -45,11 +46,37 @@ def dump_store(refusal, script):
         agree(content_of(refusal.store) == before, f"`dump --pick {pick}` changed the file")
 
 
+def migrate_store(refusal, script, there):
+    """`migrate` of what a script leaves, in the first format, to a file that is missing, or is there and holds nothing."""
+    old, wanted, words = refusal.store + ".old", refusal.store + ".wanted", ["migrate", refusal.store + ".old", refusal.store]
+    content = in_first_format(content_of(script.left))
+    with open(old, "wb") as file:
+        file.write(content)
+    undisturbed("migrate", old, wanted)
+    if there:
+        with open(refusal.store, "wb") as file:
+            file.write(bytes(os.path.getsize(wanted)))
+    ended = refusal.run(words)
+    if refusal.shows_in(ended):
+        is_made = os.path.exists(refusal.store) and content_of(refusal.store)[:1] == b"\xa5"
+        agree(not is_made or refusal.is_of_the_file(), "what was refused has left a store")
+        ended = refusal.run(words)
+    if refusal.is_of_the_file() and refusal.has_shown and ended == ALREADY_FORMATTED:
+        ended = DONE  # its last call failed, and did what it should
+    agree(ended == DONE, f"`migrate` gives {ended}")
+    agree(content_of(old) == content, "`migrate` changed the old file")
+    agree(content_of(refusal.store) == content_of(wanted), "the file isn't the one that the undisturbed run makes")
+    for pick in ("newer", "older"):
+        agree(dumped(refusal.store, pick) == script.ends, f"by the {pick} pick it holds {dumped(refusal.store, pick)}")
+
+
 FILES = [
     ("format of a small store", functools.partial(format_store, options=S, there=False)),
     ("format of a file that is there", functools.partial(format_store, options=S, there=True)),
     ("format of the default shape", functools.partial(format_store, options=[], there=False)),
     *((f"dump of {script.name}", functools.partial(dump_store, script=script)) for script in SCRIPTS),
+    *((f"migration of {script.name}", functools.partial(migrate_store, script=script, there=False)) for script in SCRIPTS),
+    ("migration to a file that is there", functools.partial(migrate_store, script=SCRIPTS[0], there=True)),
 ]
 SESSIONS = [
     *((script.name, functools.partial(play, script=script)) for script in SCRIPTS),

@@ -1,8 +1,10 @@
 """Reads a device by docs/FORMATS.md, as devices.py compares with what `dump` prints: written from that page alone, for small devices."""
 import struct
 
-NOT_FORMATTED, DAMAGED = 30, 32
-LETTERS = b"QDSTORE1"
+NOT_FORMATTED, DAMAGED, OLD_FORMAT = 30, 32, 38
+NAMES = {NOT_FORMATTED: "NotFormatted", DAMAGED: "Damaged", OLD_FORMAT: "OldFormat"}
+OLD_LETTERS, LETTERS = b"QDSTORE1", b"QDSTORE2"
+WINDOW = 16  # how many numbers a window has at most
 RANGES = [(2, 1_024), (256, 16_777_216), (1, 65_536), (256, 16_777_216), (1, 4_096), (1, 65_536)]  # slots, slot, docs, cell, sources, keep
 OPEN = 0xA5
 MOST = (1 << 53) - 1
@@ -144,7 +146,7 @@ def applied(document, operations):
 
 
 def weight(document, sources):
-    total = 64 * sources
+    total = sum(56 + 8 * len(revisions) for _, revisions in sources.values())
     for unit, with_ in document:
         total += 12
         if isinstance(unit, tuple):
@@ -179,13 +181,14 @@ class Document:
         self.name, self.revision, self.floor, self.units, self.sources = name, 0, 0, [], {}
 
     def keep_limits(self, shape):
-        must(len(self.sources) <= shape["sources"] and weight(self.units, len(self.sources)) <= shape["cell"] - 128)
+        must(len(self.sources) <= shape["sources"] and weight(self.units, self.sources) <= shape["cell"] - 128)
 
     def go_on(self, entry, shape):
         must(entry["revision"] == self.revision + 1)
-        must(entry["number"] == self.sources.get(entry["source"], 0) + 1)
+        last, revisions = self.sources.get(entry["source"], (0, []))
+        must(entry["number"] == last + 1)
         self.units = applied(self.units, entry["delta"])
-        self.sources[entry["source"]] = entry["number"]
+        self.sources[entry["source"]] = entry["number"], (revisions + [entry["revision"]])[-WINDOW:]
         self.revision = entry["revision"]
         self.floor = max(self.floor, self.revision - shape["keep"])
         self.keep_limits(shape)
@@ -198,15 +201,18 @@ def cell(content, number):
     document = Document(read.name(64))
     document.revision = document.floor = read.u(8)
     must(1 <= document.revision <= MOST)
+    must(read.u(1) == 1)
     operations = delta(read)
     must(all(operation[0] == "insert" for operation in operations))
     document.units = [unit for operation in operations for unit in units(operation)]
     names = []
     for _ in range(read.u(4)):
-        name, last, revision = read.name(32), read.u(8), read.u(8)
-        must((not names or names[-1] < name) and 1 <= last <= MOST and 1 <= revision <= document.revision)
+        name, last, count = read.name(32), read.u(8), read.u(1)
+        must((not names or names[-1] < name) and 1 <= last <= MOST and 1 <= count <= min(WINDOW, last))
+        revisions = [read.u(8) for _ in range(count)]
+        must(all(a < b for a, b in zip([0] + revisions, revisions)) and revisions[-1] <= document.revision)
         names.append(name)
-        document.sources[name] = last
+        document.sources[name] = last, revisions
     read.end()
     return document
 
@@ -246,6 +252,8 @@ def found(content, newer):
     """What stands for a content by a pick: for each document its name, revision, floor and operations. Else the refusal's number."""
     if len(content) < 64 or content[0] != OPEN:
         return NOT_FORMATTED
+    if content[1:9] == OLD_LETTERS:
+        return OLD_FORMAT
     try:
         must(content[1:9] == LETTERS)
         numbers = struct.unpack_from("<6I", content, 9)

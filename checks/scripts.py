@@ -11,7 +11,7 @@ import time
 
 from refusing import NO_MEMORY, PATIENCE, STORE_FAILED, S, Disagreement, Refusal, agree, content_of, undisturbed
 
-WINDOW = 1  # how many of a source's last numbers are sent again after a start: those that the store answers by `again`
+WINDOW = 16  # how many of a source's last numbers are sent again after a start: those that the store answers by `again`
 
 
 class Script:
@@ -63,6 +63,8 @@ def delete(length):
     return {"delete": length}
 
 
+ROOMY = [*S[:6], "--cell", "512", *S[8:]]  # for sources with many numbers: a window of 16 weighs 184
+
 LONG = "Durable rich text. " * 1_000
 WIDE = {f"attribute{letter}": None for letter in "abcdefghijklmno"}  # 15 removals of ten bytes each: an entry of 236 bytes of 237
 FIVE = {f"attribute{letter}": None for letter in "abcde"}
@@ -97,7 +99,7 @@ SCRIPTS = [
                     since("d", 1),  # TooOld
                     edit("d", 4, 2, retain(1), insert("e")),  # again
                     edit("d", 6, 4),  # Gap
-                    undo("d", 3),  # OldNumber
+                    undo("d", 3),  # again
                     create("e", insert("\U0001f600")),
                     create("f"),  # TooManyDocuments
                     undo("e", 2),
@@ -154,7 +156,7 @@ SCRIPTS = [
     ),
     Script(
         "a journal that is full again and again",
-        S,
+        ROOMY,
         [],
         [
             ("a", [create("d", insert("z")), create("e", insert("w")), subscribe("d", 1), *TURNS]),
@@ -164,14 +166,14 @@ SCRIPTS = [
     ),
     Script(
         "milestones two revisions apart",
-        [*S[:2], "--slot", "4096", *S[4:]],
+        [*ROOMY[:2], "--slot", "4096", *ROOMY[4:]],
         ["--every", "2"],
         [("a", [create("d", insert("z")), create("e", insert("w")), subscribe("d", 1), *TURNS]), ("b", [since("d", 12), fetch("d", 13)])],
         {"d": (13, [insert("z")]), "e": (8, [insert("wy")])},
     ),
     Script(
         "a milestone after each revision",
-        S,
+        ROOMY,
         ["--every", "1"],
         [
             (

@@ -4,6 +4,8 @@ import { Refusal } from "./errors.js";
 import { firstUnused } from "./numbers.js";
 import { Pauses } from "./pauses.js";
 
+const MOST_COMMANDS = 16; // that are on their way: a server answers so many of a source's last numbers as taken before
+
 /**
  * @typedef {import("./errors.js").RichdError} RichdError
  * @typedef {import("./session.js").Reply} Reply
@@ -15,13 +17,15 @@ import { Pauses } from "./pauses.js";
  * @property {boolean} [isSent]  in the session that there is now
  * @property {number} [sendings]
  * @property {number} [number]
+ * @property {boolean} [counts]  its number was the next one
+ * @property {boolean} [isBehind]  since it was sent, one before it wasn't taken: then it is answered Gap, or NoDocument, and is sent again
  * @property {RichdError} [trouble]  what it was refused by, and is sent again for all the same
  */
 
 /**
- * One command of a document is on its way at a time, since only a source's last number may be sent again after a cut. What is asked
- * behind a command that waits does so too, so that a read sees what was commanded before it. What isn't answered when the session
- * ends is sent again in the next one, a command with its number.
+ * At most 16 commands of a document are on their way. What is asked behind a command that waits does so too, so that a read sees what
+ * was commanded before it. What isn't answered when the session ends is sent again in the next one, a command with its number, in the
+ * order in which it was asked.
  */
 export class Line {
   #doc;
@@ -56,7 +60,9 @@ export class Line {
    * @param {Item} item
    */
   remove(item) {
-    if (!item.sendings) this.#items = this.#items.filter((other) => other !== item);
+    if (item.isSent || item.sendings) return;
+    if (item.number !== undefined) this.#free(item, item.number);
+    this.#items = this.#items.filter((other) => other !== item);
   }
 
   /**
@@ -81,26 +87,49 @@ export class Line {
 
   /** @returns {void} */
   #pump() {
-    let command;
+    let commands = 0; // that are on their way
     for (const item of [...this.#items]) {
       if (this.#session === null || this.#pause !== undefined || this.#isLearning) return;
-      if (item.isCommand && command !== undefined) return;
-      if (item.isCommand) command = item;
-      if (item.isSent) continue;
-      if (item.isCommand && !this.#hasNumber(item)) return void this.#learn();
-      this.#send(item);
+      if (!this.#items.includes(item)) continue; // it was refused as it was sent
+      if (item.isCommand && commands === MOST_COMMANDS) return;
+      if (item.isSent && item.isBehind) return; // its answer comes first
+      if (!item.isSent && item.isCommand && !this.#hasNumber(item)) {
+        if (commands === 0) this.#learn();
+        return;
+      }
+      if (item.isCommand) commands += 1;
+      if (!item.isSent) this.#send(item);
     }
   }
 
   /** @param {Item} item */
   #hasNumber(item) {
-    item.number ??= item.message.do === "create" ? 1 : this.#number;
+    if (item.number !== undefined) return true;
+    item.number = item.message.do === "create" ? 1 : this.#number;
+    item.counts = item.number !== undefined && item.number === this.#number;
+    if (item.counts) this.#number += 1;
     return item.number !== undefined;
+  }
+
+  /**
+   * The number of a command that isn't taken goes to the next one, and those of the commands behind it to those behind that.
+   * @param {Item} item
+   * @param {number | undefined} next  the number of the next command
+   */
+  #free(item, next) {
+    if (!item.counts) return;
+    this.#number = next;
+    for (const other of this.#items.slice(this.#items.indexOf(item) + 1)) {
+      if (!other.counts) continue;
+      other.isBehind = other.isSent;
+      other.number = undefined;
+    }
   }
 
   /** @param {Item} item */
   #send(item) {
     item.isSent = true;
+    item.isBehind = false;
     item.sendings = (item.sendings ?? 0) + 1;
     const message = item.isCommand ? { ...item.message, n: item.number } : item.message;
     this.#session.send(message, (error, reply) => this.#settle(item, error, reply));
@@ -113,13 +142,18 @@ export class Line {
     } else if (error?.code === Refusal.NoMemory || error?.code === Refusal.StoreFailed) {
       item.isSent = false;
       item.trouble = error;
+      for (const other of this.#items.slice(this.#items.indexOf(item) + 1)) other.isBehind ||= item.isCommand && other.isCommand && other.isSent;
       this.#rest();
+    } else if (item.isBehind && (error?.code === Refusal.Gap || error?.code === Refusal.NoDocument)) {
+      Object.assign(item, { isSent: false, sendings: 0 });
+      this.#pump();
     } else if (item.isCommand && this.#isMisnumbered(item, error, reply)) {
-      this.#number = undefined;
+      this.#free(item, undefined);
       Object.assign(item, { isSent: false, sendings: 0, number: undefined });
       this.#pump();
     } else {
       this.#pauses.reset();
+      if (item.isCommand && error) this.#free(item, item.number);
       if (item.isCommand && !error) this.#count(item, reply);
       this.#items.splice(this.#items.indexOf(item), 1);
       item.settle(error, reply);
@@ -141,7 +175,9 @@ export class Line {
 
   /** @param {Item} item @param {Reply} reply */
   #count(item, reply) {
-    if (item.message.do !== "create" || reply.ok === "taken") this.#number = item.number + 1;
+    if (item.message.do !== "create") return;
+    if (reply.ok === "taken") this.#number ??= 2;
+    else if (item.counts && item.sendings === 1) this.#free(item, undefined); // it was taken long ago, and others behind it perhaps
   }
 
   #rest() {

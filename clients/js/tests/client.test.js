@@ -60,19 +60,71 @@ test("create, edit, fetch, since and a refusal", async (t) => {
   assert.deepEqual(await client.edit("d", [], 2), { rev: 3 });
 });
 
-test("one command of a document is on its way at a time, and a read waits for what was commanded before it", async (t) => {
+const SIXTEEN = Array.from({ length: 16 }, (_, index) => index + 1);
+
+test("16 commands of a document are on their way, and a read waits for what was commanded before it", async (t) => {
   const held = [];
   const { client, lines } = await scriptedPair(t, (message, session) => {
-    held.push(() => session.reply(message.do === "fetch" ? contents(message, 2) : taken(message, message.n)));
+    held.push(() => session.reply(message.do === "fetch" ? contents(message, 17) : taken(message, message.n)));
   });
-  const calls = [client.edit("a", [], 1), client.edit("a", [], 1), client.fetch("a"), client.edit("b", [], 1)];
-  await until(() => lines.length === 2);
-  assert.deepEqual(lines.map(({ doc, n }) => [doc, n]), [["a", 1], ["b", 1]]);
+  const calls = [...SIXTEEN, 17].map(() => client.edit("a", [], 1));
+  calls.push(client.fetch("a"), client.edit("b", [], 1));
+  await until(() => lines.length === 17);
+  assert.deepEqual(lines.map(({ doc, n }) => [doc, n]), [...SIXTEEN.map((n) => ["a", n]), ["b", 1]]);
+  held.shift()();
+  await until(() => lines.length === 19);
+  assert.deepEqual(lines.slice(17).map(({ do: kind, n }) => [kind, n]), [["edit", 17], ["fetch", undefined]]);
   for (const answer of held.splice(0)) answer();
-  await until(() => lines.length === 4);
-  assert.deepEqual(lines.slice(2).map(({ do: kind, n }) => [kind, n]), [["edit", 2], ["fetch", undefined]]);
-  for (const answer of held.splice(0)) answer();
-  assert.deepEqual((await Promise.all(calls)).map(({ rev }) => rev), [1, 2, 2, 1]);
+  assert.deepEqual((await Promise.all(calls)).map(({ rev }) => rev), [...SIXTEEN, 17, 17, 1]);
+});
+
+test("where a command is refused those behind it get its number and the next ones", async (t) => {
+  const { client, server } = await pair(t, {}, {});
+  await client.create("d", [{ insert: "ab" }]);
+  const edits = [["x", 1], ["y", 99], ["z", 1], ["w", 1], ["v", 99], ["u", 1]];
+  const calls = edits.map(([insert, base]) => client.edit("d", [{ insert }], base));
+  const results = await Promise.allSettled(calls);
+  assert.deepEqual(results.map(({ value, reason }) => value?.rev ?? reason.name), [2, "Future", 3, 4, "Future", 5]);
+  assert.deepEqual(await client.edit("d", [], 5), { rev: 6 });
+  assert.equal(server.documents.newest("d"), 6);
+});
+
+test("a creation that is refused, and the edits behind it", async (t) => {
+  const { client } = await pair(t, { refuse: ({ do: kind, doc }) => (kind === "create" && doc === "e" ? { code: 20, error: "TooManyDocuments" } : undefined) }, {});
+  const calls = [client.create("e", []), client.edit("e", [], 1), client.edit("e", [], 1)];
+  const results = await Promise.allSettled(calls);
+  assert.deepEqual(results.map(({ reason }) => reason.name), ["TooManyDocuments", "NoDocument", "NoDocument"]);
+  assert.deepEqual(await Promise.all([client.create("d", []), client.edit("d", [], 1)]), [{ rev: 1 }, { rev: 2 }]);
+});
+
+test("all commands that have no reply are sent again after a cut, and behind one that found no memory", async (t) => {
+  for (const trouble of ["cut", "lost", 22]) {
+    let edits = 0;
+    const spoil = (message, session) => {
+      if (message.do !== "edit") return false;
+      edits += 1;
+      if (edits === 3 && trouble === "cut") session.cut();
+      if (edits === 3 && trouble === 22) session.reply({ code: 22, error: "NoMemory" });
+      if (edits === 6 && trouble === "lost") session.cut();
+      return (edits >= 3 && trouble === "lost" && edits <= 6) || (edits === 3 && trouble !== "lost");
+    };
+    const { client, server } = await pair(t, { spoil }, {});
+    await client.create("d", [{ insert: "ab" }]);
+    const calls = ["1", "2", "3", "4", "5", "6"].map((insert) => client.edit("d", [{ insert }], 1));
+    assert.deepEqual((await Promise.all(calls)).map(({ rev }) => rev), [2, 3, 4, 5, 6, 7], `${trouble}`);
+    assert.deepEqual((await client.fetch("d")).ops, [{ insert: "123456ab" }]);
+    assert.equal(server.documents.newest("d"), 7);
+  }
+});
+
+test("a command that found no memory and wasn't taken is sent before those behind it", async (t) => {
+  let refusals = 1;
+  const refuse = ({ do: kind, n }) => (kind === "edit" && n === 3 && refusals-- > 0 ? { code: 22, error: "NoMemory" } : undefined);
+  const { client } = await pair(t, { refuse }, {});
+  await client.create("d", [{ insert: "ab" }]);
+  const calls = ["1", "2", "3", "4"].map((insert) => client.edit("d", [{ insert }], 1));
+  assert.deepEqual((await Promise.all(calls)).map(({ rev }) => rev), [2, 3, 4, 5]);
+  assert.deepEqual((await client.fetch("d")).ops, [{ insert: "1234ab" }]);
 });
 
 test("a source that was used before finds its next number", async (t) => {
@@ -184,31 +236,31 @@ test("the news end with the client, or by a signal", async (t) => {
 test("a call ends by its time or its signal, and what was sent keeps its number", async (t) => {
   const held = [];
   const { client, lines } = await scriptedPair(t, (message, session) => held.push(() => session.reply(taken(message, message.n))));
-  await assert.rejects(client.edit("d", [], 1, { timeout: 20 }), { name: "Timeout", code: 0 });
-  await assert.rejects(client.edit("d", [], 1, { timeout: 20 }), { name: "Timeout" }); // it was never sent
+  const sent = SIXTEEN.map(() => assert.rejects(client.edit("d", [], 1, { timeout: 20 }), { name: "Timeout", code: 0 }));
+  await Promise.all([...sent, assert.rejects(client.edit("d", [], 1, { timeout: 20 }), { name: "Timeout" })]); // the last was never sent
   const aborting = new AbortController();
   const aborted = client.edit("d", [], 1, { signal: aborting.signal });
   aborting.abort(new Error("enough"));
   await assert.rejects(aborted, { message: "enough" });
   const next = client.edit("d", [], 1);
   held.shift()();
-  await until(() => held.length > 0);
-  held.shift()();
-  assert.deepEqual(await next, { rev: 2 });
-  assert.deepEqual(lines.map(({ n }) => n), [1, 2]);
+  await until(() => lines.length === 17);
+  for (const answer of held.splice(0)) answer();
+  assert.deepEqual(await next, { rev: 17 });
+  assert.deepEqual(lines.map(({ n }) => n), [...SIXTEEN, 17]);
 });
 
 test("close waits for what was sent, and refuses the rest", async (t) => {
-  let answer;
-  const { client } = await scriptedPair(t, (message, session) => (answer = () => session.reply(taken(message, 1))));
-  const [sent, waiting] = [client.edit("d", [], 1), client.edit("d", [], 1)];
-  const refused = assert.rejects(waiting, { name: "Closed", code: 0 });
-  await until(() => answer !== undefined);
+  const held = [];
+  const { client } = await scriptedPair(t, (message, session) => held.push(() => session.reply(taken(message, message.n))));
+  const sent = SIXTEEN.map(() => client.edit("d", [], 1));
+  const refused = assert.rejects(client.edit("d", [], 1), { name: "Closed", code: 0 });
+  await until(() => held.length === 16);
   const closing = client.close();
   await refused;
   await assert.rejects(client.fetch("d"), { name: "Closed" });
-  answer();
-  assert.deepEqual(await sent, { rev: 1 });
+  for (const answer of held) answer();
+  assert.deepEqual((await Promise.all(sent)).map(({ rev }) => rev), SIXTEEN);
   await closing;
 });
 

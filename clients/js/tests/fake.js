@@ -41,6 +41,9 @@ export async function scripted(onLine) {
 
 const refusal = (code, error) => ({ code, error });
 
+/** Whether a number is one of a source's last 16. */
+const inWindow = (revs, n) => n <= revs.length && n + 16 > revs.length;
+
 /** Documents by the rule of docs/ACCEPTANCE.md, in memory and without limits. */
 export class Documents {
   #docs = new Map();
@@ -84,24 +87,24 @@ export class Documents {
   }
 
   #create(doc, { doc: name, n, ops }, source) {
-    const last = doc?.sources.get(source);
-    if (last?.n === n) return { doc: name, n, ok: "again", rev: last.rev };
+    const revs = doc?.sources.get(source) ?? []; // by number, from 1 on
+    if (inWindow(revs, n)) return { doc: name, n, ok: "again", rev: revs[n - 1] };
     if (doc !== undefined) return refusal(7, "Exists");
     if (n > 1) return refusal(9, "Gap");
-    this.#docs.set(name, { deltas: [ops], sources: new Map([[source, { n, rev: 1 }]]), floor: 0 });
+    this.#docs.set(name, { deltas: [ops], sources: new Map([[source, [1]]]), floor: 0 });
     return { doc: name, n, ok: "taken", rev: 1 };
   }
 
   #edit(doc, { doc: name, n, base, ops }, source) {
-    const last = doc.sources.get(source) ?? { n: 0, rev: 0 };
-    if (last.n === n) return { doc: name, n, ok: "again", rev: last.rev };
-    if (n < last.n) return refusal(10, "OldNumber");
-    if (n > last.n + 1) return refusal(9, "Gap");
+    const revs = doc.sources.get(source) ?? [];
+    if (inWindow(revs, n)) return { doc: name, n, ok: "again", rev: revs[n - 1] };
+    if (n < revs.length) return refusal(10, "OldNumber");
+    if (n > revs.length + 1) return refusal(9, "Gap");
     if (base > doc.deltas.length) return refusal(12, "Future");
     if (base < doc.floor) return refusal(13, "TooOld");
     const late = doc.deltas.slice(base).reduce((delta, done) => new Delta(done).transform(delta, true), new Delta(ops));
     const rev = doc.deltas.push(late.ops);
-    doc.sources.set(source, { n, rev });
+    doc.sources.set(source, [...revs, rev]);
     return { doc: name, n, ok: "taken", rev };
   }
 }

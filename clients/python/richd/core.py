@@ -1,8 +1,9 @@
 """What a client of richd sends and what it makes of what comes, with no input or output of its own.
 
 `Core` is given the bytes that come, and hands out those that are to be sent. `client.py` puts threads around it, `aio.py` a task of
-asyncio. Any number of requests may be on their way; of one document one command at a time, since its number makes sure that it is
-taken once. What has no answer when the connection is cut is sent again on the next one, a command with the number that it had.
+asyncio. Any number of requests may be on their way; of one document at most 16 commands, since a server answers so many of a source's
+last numbers as taken before. What has no answer when the connection is cut is sent again on the next one, a command with the number
+that it had, and the commands of a document in the order of their numbers.
 
 A request is given a function that is called with its answer: `done(value, None)`, or `done(None, error)`.
 """
@@ -21,6 +22,7 @@ Done = Callable[[Any, Optional[Exception]], None]
 Trace = Callable[[str, str], None]
 
 FIRST_PAUSE, LONGEST_PAUSE = 0.1, 5.0  # seconds
+MOST_COMMANDS = 16  # of one document that are on their way
 
 
 def new_source() -> str:
@@ -68,16 +70,26 @@ class Command(Request):
     def __init__(self, message: Message, done: Done, waits: bool):
         super().__init__(message, done)
         self.waits = waits
+        self.is_behind = False  # since it was sent, one before it wasn't taken: then it is answered Gap, or NoDocument, and is sent again
 
 
 class Commands:
-    """The commands of one document: the one that is on its way, and those that wait for it."""
+    """The commands of one document: those that are on their way, in the order of their numbers, and those that wait for them."""
 
     def __init__(self, number: int, were_given: bool):
-        self.number = number  # of the command that is on its way, or else of the next one
-        self.were_given = were_given  # by the owner: then the first command may be one that was sent in an earlier life
-        self.current: Optional[Command] = None
+        self.next = number  # of the command that is sent next for the first time
+        self.were_given = were_given  # by the owner: then the first commands may be some that were sent in an earlier life
+        self.current: List[Command] = []
         self.waiting: Deque[Command] = deque()
+
+    @property
+    def number(self) -> int:
+        """That of the first command on its way, or else of the next one."""
+        return self.current[0].message["n"] if self.current else self.next
+
+    def behind(self, command: Command) -> List[Command]:
+        """Those that are on their way after a command."""
+        return self.current[self.current.index(command) + 1 :]
 
 
 class Follower:
@@ -153,7 +165,7 @@ class Core:
                 self._send(Request(messages.unsubscribe(doc), _nobody))
 
     def numbers(self) -> Dict[str, int]:
-        """For each document the number of its next command. With a command on its way it is the number of that."""
+        """For each document the number of its next command. With commands on their way it is the number of the first of them."""
         return {doc: commands.number for doc, commands in self._commands.items()}
 
     # The life of a connection
@@ -176,8 +188,8 @@ class Core:
         self.failure = error
         waiting = [*self._requests, *self._postponed]
         for commands in self._commands.values():
-            waiting += [command for command in [commands.current, *commands.waiting] if command is not None]
-            commands.current, commands.waiting = None, deque()
+            waiting += [*commands.current, *commands.waiting]
+            commands.current, commands.waiting = [], deque()
         followers = [follower for others in self._followers.values() for follower in others]
         self._requests, self._postponed, self._followers = deque(), [], {}
         for request in dict.fromkeys(waiting):
@@ -226,23 +238,41 @@ class Core:
         commands = self._commands.setdefault(command.message["doc"], Commands(1, False))
         if self.failure is not None:
             command.done(None, self.failure)
-        elif commands.current is None:
-            self._begin(commands, command)
         else:
             commands.waiting.append(command)
-            if commands.current in self._postponed:
-                self._resume(commands.current)
+            for kept in list(commands.current):
+                self._resume(kept)
+            self._go_on(commands)
 
-    def _begin(self, commands: Commands, command: Command) -> None:
-        commands.current = command
-        command.message["n"] = commands.number
-        self._ask(command)
+    def _go_on(self, commands: Commands) -> None:
+        """Sends commands again that were answered Gap, each behind those before it, and then those that wait, as many as may be."""
+        for command in commands.current:
+            if command in self._postponed:
+                if not command.is_behind:
+                    return  # it is sent again later, and what is behind it then
+                self._resume(command)
+            elif command.is_behind:
+                return  # its answer comes first
+        while commands.waiting and len(commands.current) < MOST_COMMANDS:
+            command = commands.waiting.popleft()
+            command.message["n"] = commands.next
+            commands.next += 1
+            commands.current.append(command)
+            self._ask(command)
 
     def _resume(self, request: Request) -> None:
         """Sends a postponed request again."""
         if request in self._postponed:
             self._postponed.remove(request)
+            if isinstance(request, Command):
+                request.is_behind = False
             self._ask(request)
+
+    def _resume_later(self, request: Request) -> None:
+        """The same, and what has waited for it."""
+        self._resume(request)
+        if isinstance(request, Command):
+            self._go_on(self._commands[request.message["doc"]])
 
     def _subscribe(self, doc: str) -> None:
         rev = min(follower.rev for follower in self._followers[doc])
@@ -280,17 +310,27 @@ class Core:
         self.greeted = True
         requests = [*self._requests, *self._postponed]
         self._requests, self._postponed = deque(), []
+        in_order = {doc: iter(commands.current) for doc, commands in self._commands.items()}
         for request in requests:
-            if request.message["do"] not in ("subscribe", "unsubscribe"):
+            if isinstance(request, Command):
+                command = next(in_order[request.message["doc"]])
+                command.is_behind = False
+                self._send(command)
+            elif request.message["do"] not in ("subscribe", "unsubscribe"):
                 self._send(request)
+        for commands in self._commands.values():
+            self._go_on(commands)
         for doc in list(self._followers):
             self._subscribe(doc)
 
     def _reply(self, request: Request, reply: Message) -> None:
         error = Refused(reply["code"], reply["error"]) if "code" in reply else None
         if error is not None and error.code == messages.NO_MEMORY:
+            if isinstance(request, Command):
+                request.is_behind = False
+                self._leave_behind(self._commands[request.message["doc"]].behind(request))
             self._postponed.append(request)
-            self.later(request.pauses.next(), lambda: self._resume(request))
+            self.later(request.pauses.next(), lambda: self._resume_later(request))
         elif isinstance(request, Command):
             self._settle(request, reply, error)
         elif error is not None:
@@ -299,17 +339,24 @@ class Core:
             request.done(request.answer(reply), None)
 
     def _settle(self, command: Command, reply: Message, error: Optional[Refused]) -> None:
-        """A command was answered: the next one of its document may follow."""
+        """A command was answered: a next one of its document may follow. The number of one that is refused goes to that behind it."""
         doc = command.message["doc"]
         commands = self._commands[doc]
         if error is not None and error.code == messages.STORE_FAILED:
             self._keep(commands, command, error)
             return
-        commands.current = None
-        if error is None:
-            commands.number += 1
-        if commands.waiting:
-            self._begin(commands, commands.waiting.popleft())
+        if error is not None and error.code in (messages.GAP, messages.NO_DOCUMENT) and command.is_behind:
+            self._postponed.append(command)
+            self._go_on(commands)
+            return
+        others = commands.behind(command)
+        commands.current.remove(command)
+        if error is not None:
+            for other in others:
+                other.message["n"] -= 1
+            commands.next -= 1
+            self._leave_behind(others)
+        self._go_on(commands)
         if error is not None:
             command.done(None, error)
         elif reply["ok"] == "again" and command.sent == 1 and not commands.were_given:
@@ -317,11 +364,19 @@ class Core:
             command.done(None, Unexpected(text))
         else:
             command.done(Taken(reply["rev"], reply["ok"] == "again"), None)
-        commands.were_given = False
+        if error is not None or reply["ok"] == "taken":
+            commands.were_given = False
+
+    def _leave_behind(self, others: List[Command]) -> None:
+        """A command wasn't taken: these were sent after it."""
+        for other in others:
+            other.is_behind = other.is_behind or other not in self._postponed
 
     def _keep(self, commands: Commands, command: Command, error: Refused) -> None:
         """The store failed, so a command may have been taken or not. It is kept, and sent again on the next connection, or when the
-        next command of its document is asked for: what number that one has is known only then."""
+        next command of its document is asked for."""
+        command.is_behind = False
+        self._leave_behind(commands.behind(command))
         self._postponed.append(command)
         told = [one for one in [command, *commands.waiting] if not one.waits]
         commands.waiting = deque(one for one in commands.waiting if one.waits)

@@ -11,6 +11,7 @@ Message = Dict[str, Any]
 
 NO_DOCUMENT = 6
 EXISTS = 7
+GAP = 9
 TOO_OLD = 13
 STORE_FAILED = 21
 NO_MEMORY = 22

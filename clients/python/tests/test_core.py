@@ -160,43 +160,134 @@ class Requests(CoreTest):
 
 
 class Numbers(CoreTest):
-    def test_commands_of_a_document_go_one_by_one_and_those_of_others_beside(self):
+    def test_commands_of_a_document_are_sent_ahead_and_those_of_others_beside(self):
         answers = [Answer() for _ in range(4)]
         self.core.create("d", [{"insert": "x"}], answers[0])
         self.core.edit("d", [{"insert": "x"}], 1, answers[1])
         self.core.create("e", [], answers[2])
         self.core.undo("d", answers[3])
         create = {"do": "create", "doc": "d", "n": 1, "ops": [{"insert": "x"}]}
-        self.sends(create, {"do": "create", "doc": "e", "n": 1, "ops": []})
-        self.comes(self.taken(1, 1), self.taken(1, 1, doc="e"))
-        self.sends(self.edit(2))
-        self.comes(self.taken(2, 5))
-        self.sends({"do": "undo", "doc": "d", "n": 3})
+        undo = {"do": "undo", "doc": "d", "n": 3}
+        self.sends(create, self.edit(2), {"do": "create", "doc": "e", "n": 1, "ops": []}, undo)
+        self.assertEqual(self.core.numbers(), {"d": 1, "e": 1})
+        self.comes(self.taken(1, 1), self.taken(2, 5), self.taken(1, 1, doc="e"))
+        self.assertEqual(self.core.numbers(), {"d": 3, "e": 2})
         self.comes(self.taken(3, 6))
         self.assertEqual([answer.only for answer in answers], [Taken(1), Taken(5), Taken(1), Taken(6)])
         self.assertEqual(self.core.numbers(), {"d": 4, "e": 2})
 
+    def test_sixteen_commands_of_a_document_are_on_their_way(self):
+        answers = [Answer() for _ in range(18)]
+        for answer in answers:
+            self.core.edit("d", [{"insert": "x"}], 1, answer)
+        self.sends(*[self.edit(n) for n in range(1, 17)])
+        self.comes(self.taken(1, 2))
+        self.sends(self.edit(17))
+        self.comes(self.taken(2, 3))
+        self.sends(self.edit(18))
+        self.comes(*[self.taken(n, n + 1) for n in range(3, 19)])
+        self.assertEqual([answer.only for answer in answers], [Taken(n + 2) for n in range(18)])
+
+    def test_all_that_are_on_their_way_at_a_cut_are_sent_again_in_order(self):
+        answers = [Answer() for _ in range(3)]
+        for answer in answers:
+            self.core.edit("d", [{"insert": "x"}], 1, answer)
+        self.sends(*[self.edit(n) for n in (1, 2, 3)])
+        self.core.cut()
+        self.greet()
+        self.sends(*[self.edit(n) for n in (1, 2, 3)])
+        self.comes(self.taken(1, 2, how="again"), self.taken(2, 3, how="again"), self.taken(3, 4))
+        self.assertEqual([answer.only for answer in answers], [Taken(2, again=True), Taken(3, again=True), Taken(4)])
+
     def test_a_refused_command_leaves_its_number_to_the_next(self):
         one, two = Answer(), Answer()
         self.core.edit("d", [{"insert": "x"}], 9, one)
-        self.core.edit("d", [{"insert": "x"}], 1, two)
         self.sends(self.edit(1, base=9))
         self.comes(self.refusal(12, "Future"))
         self.assertEqual(one.only.name, "Future")
+        self.core.edit("d", [{"insert": "x"}], 1, two)
         self.sends(self.edit(1))
+
+    def test_those_behind_a_refused_command_are_sent_again_with_other_numbers(self):
+        answers = [Answer() for _ in range(4)]
+        self.core.edit("d", [{"insert": "x"}], 1, answers[0])
+        self.core.edit("d", [{"insert": "x"}], 9, answers[1])
+        self.core.edit("d", [{"insert": "y"}], 1, answers[2])
+        self.core.edit("d", [{"insert": "z"}], 1, answers[3])
+        self.sends(self.edit(1), self.edit(2, base=9), self.edit(3, text="y"), self.edit(4, text="z"))
+        self.comes(self.taken(1, 2), self.refusal(12, "Future"))
+        self.assertEqual(answers[1].only.name, "Future")
+        self.sends()  # the two behind it are on their way still
+        self.comes(self.refusal(9, "Gap"))
+        self.sends(self.edit(2, text="y"))
+        late = Answer()
+        self.core.edit("d", [{"insert": "a"}], 1, late)
+        self.sends()  # so that it doesn't pass the one before it
+        self.comes(self.refusal(9, "Gap"))
+        self.sends(self.edit(3, text="z"), self.edit(4, text="a"))
+        self.comes(self.taken(2, 3), self.taken(3, 4), self.taken(4, 5))
+        self.assertEqual([answer.only for answer in [answers[0], *answers[2:], late]], [Taken(2), Taken(3), Taken(4), Taken(5)])
+        self.assertEqual(self.core.numbers(), {"d": 5})
+
+    def test_an_edit_behind_a_creation_that_is_refused_is_tried_once_more(self):
+        one, two = Answer(), Answer()
+        self.core.create("d", [{"insert": "x"}], one)
+        self.core.edit("d", [{"insert": "x"}], 1, two)
+        self.sends({"do": "create", "doc": "d", "n": 1, "ops": [{"insert": "x"}]}, self.edit(2))
+        self.comes(self.refusal(20, "TooManyDocuments"), self.refusal(6, "NoDocument"))
+        self.sends(self.edit(1))
+        self.comes(self.refusal(6, "NoDocument"))
+        self.assertEqual((one.only.code, two.only.code), (20, 6))
+
+    def test_a_gap_that_no_refusal_explains_is_told(self):
+        self.begin(d=5)
+        answer = Answer()
+        self.core.edit("d", [{"insert": "x"}], 1, answer)
+        self.sends(self.edit(5))
+        self.comes(self.refusal(9, "Gap"))
+        self.assertEqual(answer.only.code, 9)
+
+    def test_without_memory_those_behind_wait_for_it(self):
+        answers = [Answer() for _ in range(3)]
+        for answer in answers:
+            self.core.edit("d", [{"insert": "x"}], 1, answer)
+        self.sends(*[self.edit(n) for n in (1, 2, 3)])
+        # The first one wasn't taken.
+        self.comes(self.refusal(22, "NoMemory"), self.refusal(9, "Gap"))
+        self.sends()
+        ((_, resume),) = self.later
+        resume()
+        self.sends(self.edit(1), self.edit(2))
+        self.comes(self.refusal(9, "Gap"))
+        self.sends(self.edit(3))
+        self.comes(self.taken(1, 2), self.taken(2, 3), self.taken(3, 4))
+        self.assertEqual([answer.only for answer in answers], [Taken(2), Taken(3), Taken(4)])
+
+    def test_without_memory_for_the_reply_alone_those_behind_are_taken(self):
+        one, two = Answer(), Answer()
+        self.core.edit("d", [{"insert": "x"}], 1, one)
+        self.core.edit("d", [{"insert": "x"}], 1, two)
+        self.sends(self.edit(1), self.edit(2))
+        self.comes(self.refusal(22, "NoMemory"), self.taken(2, 3))
+        self.assertEqual((one.given, two.only), ([], Taken(3)))
+        ((_, resume),) = self.later
+        resume()
+        self.sends(self.edit(1))
+        self.comes(self.taken(1, 2, how="again"))
+        self.assertEqual(one.only, Taken(2, again=True))
+        self.assertEqual(self.core.numbers(), {"d": 3})
 
     def test_what_is_unanswered_at_a_cut_is_sent_again_with_its_number(self):
         one, two, read = Answer(), Answer(), Answer()
         self.core.edit("d", [{"insert": "x"}], 1, one)
         self.core.fetch("d", None, read)
         self.core.edit("d", [{"insert": "x"}], 1, two)
-        self.sends(self.edit(1), {"do": "fetch", "doc": "d"})
+        self.sends(self.edit(1), {"do": "fetch", "doc": "d"}, self.edit(2))
         self.core.cut()
         self.greet()
-        self.sends(self.edit(1), {"do": "fetch", "doc": "d"})
+        self.sends(self.edit(1), {"do": "fetch", "doc": "d"}, self.edit(2))
         self.comes(self.taken(1, 7, how="again"))
         self.assertEqual(one.only, Taken(7, again=True))
-        self.sends(self.edit(2))
 
     def test_part_of_a_line_that_came_before_a_cut_is_dropped(self):
         answer = Answer()
@@ -214,13 +305,17 @@ class Numbers(CoreTest):
         self.comes(self.taken(1, 1, how="again"))
         self.assertIsInstance(answer.only, Unexpected)
 
-    def test_a_client_with_numbers_may_send_its_last_command_again(self):
+    def test_a_client_with_numbers_may_send_its_last_commands_again(self):
         self.begin(d=5)
-        answer = Answer()
-        self.core.edit("d", [{"insert": "x"}], 1, answer)
-        self.sends(self.edit(5))
-        self.comes(self.taken(5, 8, how="again"))
-        self.assertEqual(answer.only, Taken(8, again=True))
+        answers = [Answer() for _ in range(4)]
+        for answer in answers:
+            self.core.edit("d", [{"insert": "x"}], 1, answer)
+        self.sends(*[self.edit(n) for n in (5, 6, 7, 8)])
+        self.comes(self.taken(5, 8, how="again"), self.taken(6, 9, how="again"), self.taken(7, 10))
+        self.assertEqual([answer.only for answer in answers[:3]], [Taken(8, again=True), Taken(9, again=True), Taken(10)])
+        # Behind one that was taken now none was taken before.
+        self.comes(self.taken(8, 11, how="again"))
+        self.assertIsInstance(answers[3].only, Unexpected)
 
     def test_without_memory_it_is_sent_again_and_the_pause_doubles(self):
         answer = Answer()
@@ -238,24 +333,33 @@ class Numbers(CoreTest):
         self.comes(self.taken(1, 2))
         self.assertEqual(answer.only, Taken(2))
 
-    def test_where_the_store_failed_the_command_is_kept(self):
+    def test_where_the_store_failed_the_commands_are_kept(self):
         one, two, three = Answer(), Answer(), Answer()
         self.core.edit("d", [{"insert": "x"}], 1, one)
         self.core.edit("d", [{"insert": "y"}], 1, two)
-        self.sends(self.edit(1))
-        self.comes(self.refusal(21, "StoreFailed"))
-        self.assertEqual([one.only.code, two.only.code], [21, 21])  # the second was never sent
+        self.sends(self.edit(1), self.edit(2, text="y"))
+        self.comes(self.refusal(21, "StoreFailed"), self.refusal(21, "StoreFailed"))
+        self.assertEqual([one.only.code, two.only.code], [21, 21])
         self.sends()
-        # The server is started anew. It had taken the edit.
+        # The server is started anew. It had taken the first edit.
         self.core.cut()
         self.greet()
-        self.sends(self.edit(1))
+        self.sends(self.edit(1), self.edit(2, text="y"))
         self.core.edit("d", [{"insert": "z"}], 1, three)
-        self.comes(self.taken(1, 2, how="again"))
-        self.sends(self.edit(2, text="z"))
-        self.comes(self.taken(2, 3))
-        self.assertEqual(three.only, Taken(3))
-        self.assertEqual(len(one.given), 1)
+        self.sends(self.edit(3, text="z"))
+        self.comes(self.taken(1, 2, how="again"), self.taken(2, 3), self.taken(3, 4))
+        self.assertEqual(three.only, Taken(4))
+        self.assertEqual([len(one.given), len(two.given)], [1, 1])
+
+    def test_where_the_store_failed_the_next_command_sends_those_that_are_kept_again(self):
+        one, two = Answer(), Answer()
+        self.core.edit("d", [{"insert": "x"}], 1, one)
+        self.sends(self.edit(1))
+        self.comes(self.refusal(21, "StoreFailed"))
+        self.core.edit("d", [{"insert": "y"}], 1, two)
+        self.sends(self.edit(1), self.edit(2, text="y"))
+        self.comes(self.refusal(21, "StoreFailed"), self.refusal(21, "StoreFailed"))
+        self.assertEqual([one.only.code, two.only.code], [21, 21])
 
 
 class Followers(CoreTest):

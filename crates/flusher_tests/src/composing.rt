@@ -156,12 +156,13 @@ fn retired_before<J: Site, R: Wait + Abort + AllocGlobal>(
     flusher.end(rt).close()
 }
 
-/// A cell with the document "z" at revision 2, the text "x", and the source "a" whose second command made it.
-const CELL: [u8; 57] = [
-    0xa5, 52, 0, 0, 0, // its gate and length
-    0, 0, 0, 0, 1, 0, b'z', 2, 0, 0, 0, 0, 0, 0, 0, // document 0, its name, revision 2
+/// A cell with the document "z" at revision 2, the text "x", and the source "a" whose two commands made it.
+const CELL: [u8; 67] = [
+    0xa5, 62, 0, 0, 0, // its gate and length
+    0, 0, 0, 0, 1, 0, b'z', 2, 0, 0, 0, 0, 0, 0, 0, 1, // document 0, its name, revision 2
     1, 0, 0, 0, 1, 1, 0, 0, 0, b'x', 0, 0, 0, 0, // one insert, without attributes
-    1, 0, 0, 0, 1, 0, b'a', 2, 0, 0, 0, 0, 0, 0, 0, 2, 0, 0, 0, 0, 0, 0, 0, // one source
+    1, 0, 0, 0, 1, 0, b'a', 2, 0, 0, 0, 0, 0, 0, 0, // one source, its last number
+    2, 1, 0, 0, 0, 0, 0, 0, 0, 2, 0, 0, 0, 0, 0, 0, 0, // both numbers, and their revisions
 ];
 
 /// Segment 1, with the batch in which "a" creates "z" with "x".

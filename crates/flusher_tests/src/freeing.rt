@@ -67,7 +67,7 @@ fn newest(rt: &(impl Abort + AllocGlobal), state: &State) -> u64 {
     assert!(rt; state.documents().len() == 1);
     let document = &state.documents()[0];
     let source = Name::source(rt.alloc(), "a").expect(rt, "a source");
-    assert!(rt; document.last(&source).number == document.revision());
+    assert!(rt; document.window(&source).number() == document.revision());
     assert!(rt; document.document().len16() == 1);
     document.revision()
 }

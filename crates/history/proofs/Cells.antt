@@ -1,18 +1,19 @@
 -- A running store with other cells, with fewer entries, and with nothing.
 use Rattle.std.proofs.Common.{◌≡◌, ℕ, zero, suc, ◌+◌, ◌≤◌, ◌<◌, true, List, [], ◌∷◌, ◌++◌, length, Option, Some, None, length-append, refl, sym, ap, subst, ◌∙◌, ⊎_elim, arith, cond}
-use Rattle.std.specs.Prelude.{◌==◌, nat_lt, min, replicate, All, max}
+use Rattle.std.specs.Prelude.{◌-◌, ◌==◌, nat_lt, min, map, is_some, slice_get, replicate, All, max}
 use Rattle.std.proofs.lemmas.Bool.{and_parts, eqb-true, cond_both, cases_eq, eq-eqb}
-use Rattle.std.proofs.lemmas.List.{append_assoc, length-replicate}
+use Rattle.std.proofs.lemmas.List.{append_assoc, length-map, length-replicate}
 use Rattle.std.proofs.lemmas.List.Elements.{All-nil, All-cons, All-head, All-tail}
 use Rattle.revision.specs.Command.{Taken}
-use Rattle.revision.specs.State.{Limits, DocumentRecord, continues, record_after, all_continue, record_after_all}
+use Rattle.revision.specs.State.{Limits, DocumentRecord, newest_revision, continues, record_after, all_continue, record_after_all}
 use Rattle.revision.proofs.CallerLemmas.{empty_is_state}
 use Rattle.history.specs.Entries.{of_document, greatest}
-use Rattle.history.specs.Cell.{Cell, Pair, no_cells, cells_at, with_pair, lowest, freed, IsPut, OfBoth}
-use Rattle.history.specs.Shown.{RecordShows}
-use Rattle.history.specs.Running.{IsCellOf}
-use Rattle.history.specs.Law.{ChangesCells, Frees, Puts, IsCovered, CoveredByGreatest, Retires, Begins}
-use Rattle.history.proofs.Showing.{record-more, record-all, next-revision}
+use Rattle.history.specs.Cell.{Cell, CellKeeps, record_of_cell, OfOpen, Pair, no_cells, cells_at, with_pair, lowest, freed, IsPut, OfBoth}
+use Rattle.history.specs.Shown.{no_order, base_at, PlacesShow}
+use Rattle.history.specs.Found.{started}
+use Rattle.history.specs.Running.{IsCellOf, IsCellAt}
+use Rattle.history.specs.Law.{ChangesCells, Frees, Puts, IsCovered, CoveredByGreatest, Retires, Begins, BeginsWith}
+use Rattle.history.proofs.Showing.{shows-itself, next-revision, newest-after, newest-all}
 use Rattle.history.proofs.Counting.{of_document-append, continue-split}
 
 -- the cells of a document, and those of the others
@@ -48,10 +49,11 @@ changes_cells order cells entries state number pair runs lt of covers = record {
   held = runs.held;
   is_state = runs.is_state;
   pairs = length-with_pair number pair cells ∙ runs.pairs;
+  start = runs.start;
   is_order = runs.is_order;
   shows = runs.shows;
-  cells_are = at-each (λ n p. OfBoth (IsCellOf (of_document n order)) p) number pair cells lt of runs.cells_are;
-  covered = at-each (λ n p. length (of_document n runs.retired) ≤ lowest p) number pair cells lt (omega (arith, runs.covered number, covers)) runs.covered;
+  cells_are = at-each (λ n p. OfBoth (IsCellAt order n) p) number pair cells lt of runs.cells_are;
+  covered = at-each (λ n p. newest_revision (base_at order n) + length (of_document n runs.retired) ≤ lowest p) number pair cells lt (omega (arith, runs.covered number, covers)) runs.covered;
 }
 
 freed-of : (P : Cell → Type 0) (pair : Pair) → OfBoth P pair → OfBoth P (freed pair)
@@ -70,7 +72,7 @@ freed-lowest (Some first, Some second) =
 pub frees : Frees
 frees order cells entries state number runs lt =
     changes_cells order cells entries state number (freed (cells_at cells number)) runs lt
-    (freed-of (IsCellOf (of_document number order)) (cells_at cells number) (runs.cells_are number)) (freed-lowest (cells_at cells number))
+    (freed-of (IsCellAt order number) (cells_at cells number) (runs.cells_are number)) (freed-lowest (cells_at cells number))
 
 put-lowest-first : (cell : Cell) (second : Option Cell) → lowest (None, second) ≤ cell.revision → lowest (None, second) ≤ lowest (Some cell, second)
 put-lowest-first cell None le = omega arith
@@ -99,7 +101,7 @@ put-of P cell before after put here both =
 
 pub puts : Puts
 puts order cells entries state number cell pair runs lt of put =
-    let both = put-of (IsCellOf (of_document number order)) cell (cells_at cells number) pair put of (runs.cells_are number) in
+    let both = put-of (IsCellAt order number) cell (cells_at cells number) pair put of (runs.cells_are number) in
     changes_cells order cells entries state number pair runs lt both.0 both.1
 
 -- the commands of a document that are covered are no more than the revision that covers them
@@ -115,16 +117,16 @@ covered-of cells number (first ∷ others) all =
     (subst (λ n. first.revision ≤ lowest (cells_at cells n)) (eqb-true first.document number e) here) later)
     (λ e. later)
 
-covered-count : (limits : Limits) (before : List Taken) (found : Option DocumentRecord) (others : List Taken) (low : ℕ) → RecordShows before found
-    → all_continue limits found others ≡ true → All (λ (t : Taken). t.revision ≤ low) others → length before ≤ low → length (before ++ others) ≤ low
-covered-count limits before found [] low shows h all le = omega (arith, le, length-append before [])
-covered-count limits before found (first ∷ others) low shows h all le =
+covered-count : (limits : Limits) (found : Option DocumentRecord) (others : List Taken) (low : ℕ) → all_continue limits found others ≡ true
+    → All (λ (t : Taken). t.revision ≤ low) others → newest_revision found ≤ low → newest_revision found + length others ≤ low
+covered-count limits found [] low h all le = omega (arith, le)
+covered-count limits found (first ∷ others) low h all le =
     let parts = and_parts (continues limits found first) (all_continue limits (record_after limits.keep found first) others) h in
-    let number : first.revision ≡ length before + 1 = next-revision limits before found first shows parts.0 in
+    let number : first.revision ≡ newest_revision found + 1 = next-revision limits found first parts.0 in
+    let more = newest-after limits found first parts.0 in
     let here : first.revision ≤ low = All-head (λ (t : Taken). t.revision ≤ low) first others all in
-    subst (λ (l : List Taken). length l ≤ low) (append_assoc before (first ∷ []) others)
-    (covered-count limits (before ++ first ∷ []) (record_after limits.keep found first) others low (record-more limits before found first shows parts.0) parts.1
-    (All-tail (λ (t : Taken). t.revision ≤ low) first others all) (omega (arith, number, here, length-append before (first ∷ []))))
+    let later = covered-count limits (record_after limits.keep found first) others low parts.1 (All-tail (λ (t : Taken). t.revision ≤ low) first others all) (omega (arith, number, more, here)) in
+    omega (arith, more, later)
 
 pub retires : Retires
 retires order cells oldest others state runs all = record {
@@ -132,19 +134,23 @@ retires order cells oldest others state runs all = record {
   held = runs.held ∙ sym (append_assoc runs.retired oldest others);
   is_state = runs.is_state;
   pairs = runs.pairs;
+  start = runs.start;
   is_order = runs.is_order;
   shows = runs.shows;
   cells_are = runs.cells_are;
   covered = λ number.
+      let base = base_at order number in
       let first : List Taken = of_document number runs.retired in
       let gone : List Taken = of_document number oldest in
-      let parts : of_document number order ≡ first ++ (gone ++ of_document number others) =
+      let parts : of_document number order.taken ≡ first ++ (gone ++ of_document number others) =
       ap (of_document number) runs.held ∙ (of_document-append number runs.retired (oldest ++ others) ∙ ap (λ l. first ++ l) (of_document-append number oldest others)) in
-      let split = continue-split state.limits None first (gone ++ of_document number others) (subst (λ l. all_continue state.limits None l ≡ true) parts (runs.is_order number)) in
-      let goes_on = continue-split state.limits (record_after_all state.limits.keep None first) gone (of_document number others) split.1 in
-      subst (λ (l : List Taken). length l ≤ lowest (cells_at cells number)) (sym (of_document-append number runs.retired oldest))
-      (covered-count state.limits first (record_after_all state.limits.keep None first) gone (lowest (cells_at cells number))
-      (record-all state.limits [] None first refl split.0) goes_on.0 (covered-of cells number oldest all) (runs.covered number));
+      let split = continue-split state.limits base first (gone ++ of_document number others) (subst (λ l. all_continue state.limits base l ≡ true) parts (runs.is_order number)) in
+      let goes_on = continue-split state.limits (record_after_all state.limits.keep base first) gone (of_document number others) split.1 in
+      let before = newest-all state.limits base first split.0 in
+      let count = covered-count state.limits (record_after_all state.limits.keep base first) gone (lowest (cells_at cells number)) goes_on.0
+      (covered-of cells number oldest all) (omega (arith, before, runs.covered number)) in
+      subst (λ (l : List Taken). newest_revision base + length l ≤ lowest (cells_at cells number)) (sym (of_document-append number runs.retired oldest))
+      (omega (arith, before, count, length-append first gone));
 }
 
 -- by the greatest revision of each document
@@ -186,8 +192,54 @@ begins limits is = record {
   held = refl;
   is_state = empty_is_state limits is;
   pairs = length-replicate limits.docs no_cells;
+  start = λ number. tt;
   is_order = λ number. refl;
-  shows = λ number. refl;
-  cells_are = λ number. subst (OfBoth (IsCellOf [])) (sym (none-open limits.docs number)) (tt, tt);
+  shows = λ number. tt;
+  cells_are = λ number. subst (OfBoth (IsCellAt no_order number)) (sym (none-open limits.docs number)) (tt, tt);
   covered = λ number. omega arith;
+}
+
+-- documents that a store begins with: each one's first cell holds it
+cells-first : (start : List Cell) (count number : ℕ) → cells_at (map (λ (c : Cell). (Some c, None)) start ++ replicate count no_cells) number
+    ≡ cond (is_some (slice_get start number)) (slice_get start number, None) no_cells
+cells-first [] count number = none-open count number
+cells-first (first ∷ others) count zero = refl
+cells-first (first ∷ others) count (suc number) = cells-first others count number
+
+shown-first : (start : List Cell) (number : ℕ) → PlacesShow (started (slice_get start number)) (slice_get (map record_of_cell start) number)
+shown-first [] number = tt
+shown-first (first ∷ others) zero = shows-itself (record_of_cell first)
+shown-first (first ∷ others) (suc number) = shown-first others number
+
+kept-first : (limits : Limits) (start : List Cell) → All (CellKeeps limits) start → (number : ℕ) → OfOpen (CellKeeps limits) (slice_get start number)
+kept-first limits [] all number = tt
+kept-first limits (first ∷ others) all zero = All-head (CellKeeps limits) first others all
+kept-first limits (first ∷ others) all (suc number) = kept-first limits others (All-tail (CellKeeps limits) first others all) number
+
+own-cell : (base : Option Cell) → OfBoth (IsCellOf (started base) []) (cond (is_some base) (base, None) no_cells)
+own-cell None = (tt, tt)
+own-cell (Some cell) = (record { count = 0; within = omega arith; shows = shows-itself (record_of_cell cell) }, tt)
+
+own-covered : (base : Option Cell) → newest_revision (started base) + 0 ≤ lowest (cond (is_some base) (base, None) no_cells)
+own-covered None = omega arith
+own-covered (Some cell) = omega arith
+
+pub begins_with : BeginsWith
+begins_with limits start is keeps = record {
+  retired = [];
+  held = refl;
+  is_state = is;
+  pairs = omega (
+    arith,
+    length-append {A = Pair} (map (λ (c : Cell). (Some c, None)) start) (replicate (limits.docs - length start) no_cells),
+    length-map {B = Pair} start (λ (c : Cell). (Some c, None)),
+    length-replicate (limits.docs - length start) no_cells,
+    length-map start record_of_cell,
+    is.count,
+  );
+  start = kept-first limits start keeps;
+  is_order = λ number. refl;
+  shows = shown-first start;
+  cells_are = λ number. subst (OfBoth (IsCellOf (started (slice_get start number)) [])) (sym (cells-first start (limits.docs - length start) number)) (own-cell (slice_get start number));
+  covered = λ number. subst (λ p. newest_revision (started (slice_get start number)) + 0 ≤ lowest p) (sym (cells-first start (limits.docs - length start) number)) (own-covered (slice_get start number));
 }

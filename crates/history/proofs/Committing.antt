@@ -9,11 +9,11 @@ use Rattle.revision.specs.State.{Limits, DocumentRecord, State, find, continues_
 use Rattle.revision.specs.Invariants.{IsState}
 use Rattle.revision.proofs.CallerLemmas.{growing_keeps, agreeing_continue}
 use Rattle.history.specs.Entries.{of_document}
-use Rattle.history.specs.Cell.{Cell, record_of_cell, cells_at, OfOpen, OfBoth}
-use Rattle.history.specs.Shown.{Shows, RecordShows}
+use Rattle.history.specs.Cell.{Cell, CellKeeps, record_of_cell, cells_at, OfOpen, OfBoth}
+use Rattle.history.specs.Shown.{base_at, whole_at, whole_of, PlacesShow}
 use Rattle.history.specs.Running.{IsCellOf}
 use Rattle.history.specs.Law.{GrowsByDocuments, Commits}
-use Rattle.history.proofs.Showing.{record-all, records-agree}
+use Rattle.history.proofs.Showing.{places-itself, record-all, records-agree, whole-append}
 use Rattle.history.proofs.Counting.{after-append, of_document-append, continue-join}
 
 -- a document set, and the others
@@ -98,41 +98,47 @@ fold-is-state state (first ∷ others) is h =
     fold-is-state (grown state first) others (growing_keeps state first is parts.0) parts.1
 
 -- a cell of a document stays one as the document goes on
-pub cell-longer : (commands others : List Taken) (cell : Cell) → IsCellOf commands cell → IsCellOf (commands ++ others) cell
-cell-longer commands others cell of = record {
-  reached = omega (arith, of.reached, length-append commands others);
-  shows = subst (λ l. Shows l (record_of_cell cell)) (sym (take-append-le cell.revision commands others of.reached)) of.shows;
+pub cell-longer : (base : Option DocumentRecord) (commands others : List Taken) (cell : Cell) → IsCellOf base commands cell → IsCellOf base (commands ++ others) cell
+cell-longer base commands others cell of = record {
+  count = of.count;
+  within = omega (arith, of.within, length-append commands others);
+  shows = subst (λ l. PlacesShow (whole_of base l) (Some (record_of_cell cell))) (sym (take-append-le of.count commands others of.within)) of.shows;
 }
 
-open-longer : (commands others : List Taken) (cell : Option Cell) → OfOpen (IsCellOf commands) cell → OfOpen (IsCellOf (commands ++ others)) cell
-open-longer commands others None of = tt
-open-longer commands others (Some cell) of = cell-longer commands others cell of
+open-longer : (base : Option DocumentRecord) (commands others : List Taken) (cell : Option Cell) → OfOpen (IsCellOf base commands) cell
+    → OfOpen (IsCellOf base (commands ++ others)) cell
+open-longer base commands others None of = tt
+open-longer base commands others (Some cell) of = cell-longer base commands others cell of
 
 pub commits : Commits
 commits order cells entries state batch runs h =
     let same = limits-fold state batch in
-    let parts : (number : ℕ) → of_document number (order ++ batch) ≡ of_document number order ++ of_document number batch = λ number. of_document-append number order batch in
+    let parts : (number : ℕ) → of_document number (order.taken ++ batch) ≡ of_document number order.taken ++ of_document number batch =
+    λ number. of_document-append number order.taken batch in
     let grows_there = grows_by_documents state batch h in
-    let goes_on : (number : ℕ) → all_continue state.limits None (of_document number order ++ of_document number batch) ≡ true = λ number.
-    let shown = record-all state.limits [] None (of_document number order) refl (runs.is_order number) in
-    let agree = records-agree (of_document number order) (slice_get state.documents number) (record_after_all state.limits.keep None (of_document number order)) (runs.shows number) shown in
-    continue-join state.limits None (of_document number order) (of_document number batch) (runs.is_order number)
-    (sym (agreeing_continue state.limits (slice_get state.documents number) (record_after_all state.limits.keep None (of_document number order)) (of_document number batch) agree).0
+    let goes_on : (number : ℕ) → all_continue state.limits (base_at order number) (of_document number order.taken ++ of_document number batch) ≡ true = λ number.
+    let base = base_at order number in
+    let shown = record-all state.limits base base (of_document number order.taken) (places-itself base) (runs.is_order number) in
+    let agree = records-agree (whole_at order number) (slice_get state.documents number) (record_after_all state.limits.keep base (of_document number order.taken)) (runs.shows number) shown in
+    continue-join state.limits base (of_document number order.taken) (of_document number batch) (runs.is_order number)
+    (sym (agreeing_continue state.limits (slice_get state.documents number) (record_after_all state.limits.keep base (of_document number order.taken)) (of_document number batch) agree).0
     ∙ (grows_there number).0) in
     record {
       retired = runs.retired;
       held = ap (λ l. l ++ batch) runs.held ∙ append_assoc runs.retired entries batch;
       is_state = fold-is-state state batch runs.is_state h;
       pairs = runs.pairs ∙ ap (λ (l : Limits). l.docs) (sym same);
-      is_order = λ number. subst (λ l. all_continue l None (of_document number (order ++ batch)) ≡ true) (sym same)
-          (subst (λ l. all_continue state.limits None l ≡ true) (sym (parts number)) (goes_on number));
-      shows = λ number. subst (λ l. RecordShows l (slice_get (fold state batch).documents number)) (sym (parts number))
-          (subst (RecordShows (of_document number order ++ of_document number batch)) (sym (grows_there number).1)
-          (record-all state.limits (of_document number order) (slice_get state.documents number) (of_document number batch) (runs.shows number) (grows_there number).0));
-      cells_are = λ number. subst (λ l. OfBoth (IsCellOf l) (cells_at cells number)) (sym (parts number))
+      start = λ number. subst (λ l. OfOpen (CellKeeps l) (slice_get order.start number)) (sym same) (runs.start number);
+      is_order = λ number. subst (λ l. all_continue l (base_at order number) (of_document number (order.taken ++ batch)) ≡ true) (sym same)
+          (subst (λ l. all_continue state.limits (base_at order number) l ≡ true) (sym (parts number)) (goes_on number));
+      shows = λ number. subst (λ w. PlacesShow w (slice_get (fold state batch).documents number))
+          (sym (whole-append (base_at order number) (of_document number order.taken) (of_document number batch)) ∙ ap (whole_of (base_at order number)) (sym (parts number)))
+          (subst (PlacesShow (whole_of (whole_at order number) (of_document number batch))) (sym (grows_there number).1)
+          (record-all state.limits (whole_at order number) (slice_get state.documents number) (of_document number batch) (runs.shows number) (grows_there number).0));
+      cells_are = λ number. subst (λ l. OfBoth (IsCellOf (base_at order number) l) (cells_at cells number)) (sym (parts number))
           ((
-            open-longer (of_document number order) (of_document number batch) (cells_at cells number).0 (runs.cells_are number).0,
-            open-longer (of_document number order) (of_document number batch) (cells_at cells number).1 (runs.cells_are number).1,
+            open-longer (base_at order number) (of_document number order.taken) (of_document number batch) (cells_at cells number).0 (runs.cells_are number).0,
+            open-longer (base_at order number) (of_document number order.taken) (of_document number batch) (cells_at cells number).1 (runs.cells_are number).1,
           ));
       covered = runs.covered;
     }

@@ -1,12 +1,11 @@
 -- The commands of a document, in two parts, and by their revisions.
-use Rattle.std.proofs.Common.{◌≡◌, ℕ, zero, suc, ◌+◌, ◌-◌, ◌≤◌, ◌<◌, Bool, true, false, cond, List, [], ◌∷◌, ◌++◌, length, drop, Option, length-append, refl, sym, ap, ◌∙◌, ⊎_elim, arith}
+use Rattle.std.proofs.Common.{◌≡◌, ℕ, zero, suc, ◌+◌, ◌-◌, ◌≤◌, ◌<◌, Bool, true, false, cond, List, [], ◌∷◌, ◌++◌, length, drop, Option, refl, sym, ap, ◌∙◌, ⊎_elim, arith}
 use Rattle.std.specs.Prelude.{◌==◌, nat_lt}
 use Rattle.std.proofs.lemmas.Bool.{and_parts, and_from, lt-ltb, le-ltb, cases_lt}
 use Rattle.revision.specs.Command.{Taken}
-use Rattle.revision.specs.State.{Limits, DocumentRecord, continues, record_after, all_continue, record_after_all}
+use Rattle.revision.specs.State.{Limits, DocumentRecord, newest_revision, continues, record_after, all_continue, record_after_all}
 use Rattle.history.specs.Entries.{of_document, above}
-use Rattle.history.specs.Shown.{RecordShows}
-use Rattle.history.proofs.Showing.{record-more, next-revision}
+use Rattle.history.proofs.Showing.{next-revision, newest-after}
 
 -- commands after others
 pub after-append : (keep : ℕ) (found : Option DocumentRecord) (first others : List Taken)
@@ -40,40 +39,38 @@ of_document-append number (taken ∷ more) others =
     ∙ cond-append (taken.document == number) taken (of_document number more) (of_document number others)
 
 -- no revision below is passed over, and below it all are
-pub above-none : (limits : Limits) (before : List Taken) (found : Option DocumentRecord) (others : List Taken) (revision : ℕ) → RecordShows before found
-    → all_continue limits found others ≡ true → revision ≤ length before → above revision others ≡ others
-above-none limits before found [] revision shows h below = refl
-above-none limits before found (first ∷ others) revision shows h below =
+pub above-none : (limits : Limits) (found : Option DocumentRecord) (others : List Taken) (revision : ℕ) → all_continue limits found others ≡ true
+    → revision ≤ newest_revision found → above revision others ≡ others
+above-none limits found [] revision h below = refl
+above-none limits found (first ∷ others) revision h below =
     let parts = and_parts (continues limits found first) (all_continue limits (record_after limits.keep found first) others) h in
-    let number : first.revision ≡ length before + 1 = next-revision limits before found first shows parts.0 in
+    let number : first.revision ≡ newest_revision found + 1 = next-revision limits found first parts.0 in
     let kept : nat_lt revision first.revision ≡ true = lt-ltb revision first.revision (omega (arith, number, below)) in
-    let later = above-none limits (before ++ first ∷ []) (record_after limits.keep found first) others revision
-    (record-more limits before found first shows parts.0) parts.1 (omega (arith, below, length-append before (first ∷ []))) in
+    let later = above-none limits (record_after limits.keep found first) others revision parts.1 (omega (arith, below, newest-after limits found first parts.0)) in
     ap (λ b. cond b (first ∷ above revision others) (above revision others)) kept ∙ ap (λ l. first ∷ l) later
 
-pub above-drop : (limits : Limits) (before : List Taken) (found : Option DocumentRecord) (others : List Taken) (revision : ℕ) → RecordShows before found
-    → all_continue limits found others ≡ true → length before ≤ revision → above revision others ≡ drop (revision - length before) others
-above-drop limits before found [] revision shows h over = sym (nothing (revision - length before))
+pub above-drop : (limits : Limits) (found : Option DocumentRecord) (others : List Taken) (revision : ℕ) → all_continue limits found others ≡ true
+    → newest_revision found ≤ revision → above revision others ≡ drop (revision - newest_revision found) others
+above-drop limits found [] revision h over = sym (nothing (revision - newest_revision found))
   where
     nothing : (n : ℕ) → ◌≡◌ {A = List Taken} (drop n []) []
     nothing zero = refl
     nothing (suc n) = refl
-above-drop limits before found (first ∷ others) revision shows h over =
+above-drop limits found (first ∷ others) revision h over =
     let parts = and_parts (continues limits found first) (all_continue limits (record_after limits.keep found first) others) h in
-    let number : first.revision ≡ length before + 1 = next-revision limits before found first shows parts.0 in
-    let next = record-more limits before found first shows parts.0 in
-    let longer : length (before ++ first ∷ []) ≡ length before + 1 = length-append before (first ∷ []) in
+    let number : first.revision ≡ newest_revision found + 1 = next-revision limits found first parts.0 in
+    let more : newest_revision (record_after limits.keep found first) ≡ newest_revision found + 1 = newest-after limits found first parts.0 in
     ⊎_elim
-    (λ (under : revision < length before + 1).
+    (λ (under : revision < newest_revision found + 1).
     let kept : nat_lt revision first.revision ≡ true = lt-ltb revision first.revision (omega (arith, number, under)) in
-    let none : revision - length before ≡ 0 = omega (arith, under, over) in
+    let none : revision - newest_revision found ≡ 0 = omega (arith, under, over) in
     ap (λ b. cond b (first ∷ above revision others) (above revision others)) kept
-    ∙ (ap (λ l. first ∷ l) (above-none limits (before ++ first ∷ []) (record_after limits.keep found first) others revision next parts.1 (omega (arith, under, longer)))
+    ∙ (ap (λ l. first ∷ l) (above-none limits (record_after limits.keep found first) others revision parts.1 (omega (arith, under, more)))
     ∙ sym (ap (λ n. drop n (first ∷ others)) none)))
-    (λ (past : length before + 1 ≤ revision).
+    (λ (past : newest_revision found + 1 ≤ revision).
     let passed : nat_lt revision first.revision ≡ false = le-ltb revision first.revision (omega (arith, number, past)) in
-    let count : suc (revision - length (before ++ first ∷ [])) ≡ revision - length before = omega (arith, longer, past) in
+    let count : suc (revision - newest_revision (record_after limits.keep found first)) ≡ revision - newest_revision found = omega (arith, more, past) in
     ap (λ b. cond b (first ∷ above revision others) (above revision others)) passed
-    ∙ (above-drop limits (before ++ first ∷ []) (record_after limits.keep found first) others revision next parts.1 (omega (arith, past, longer))
+    ∙ (above-drop limits (record_after limits.keep found first) others revision parts.1 (omega (arith, past, more))
     ∙ ap (λ n. drop n (first ∷ others)) count))
-    (cases_lt revision (length before + 1))
+    (cases_lt revision (newest_revision found + 1))

@@ -1,70 +1,154 @@
--- Cells of a document that shows its commands.
-use Rattle.std.proofs.Common.{◌≡◌, ℕ, zero, suc, ◌-◌, ◌≤◌, List, [], ◌∷◌, take, drop, map, refl, sym, ap, subst, ◌∙◌, arith}
-use Rattle.std.proofs.lemmas.List.{length-take}
-use Rattle.attributes.specs.Map.{empty}
-use Rattle.compose.specs.Many.{applied}
+-- Cells of a document that shows a history.
+use Rattle.std.proofs.Common.{◌≡◌, ℕ, zero, suc, ◌+◌, ◌-◌, ◌≤◌, ◌<◌, true, List, [], ◌∷◌, length, take, drop, Option, Some, None, refl, sym, ap, subst, ◌∙◌, ⊎_elim, arith}
+use Rattle.std.specs.Prelude.{slice_get}
+use Rattle.std.proofs.lemmas.Bool.{and_parts, cases_lt}
 use Rattle.revision.specs.Command.{Taken}
-use Rattle.revision.specs.Past.{Past, Change, deltas_of, sources_after, from_floor}
-use Rattle.revision.specs.State.{DocumentRecord, revision_of, change_of}
+use Rattle.revision.specs.Past.{Past, Change, newest, from_floor}
+use Rattle.revision.specs.Floors.{longer}
+use Rattle.revision.specs.State.{Limits, DocumentRecord, revision_of, newest_revision, change_of, continues, record_after, all_continue}
+use Rattle.revision.proofs.CallerLemmas.{from_longer}
 use Rattle.history.specs.Entries.{of_document}
-use Rattle.history.specs.Cell.{cell_of}
-use Rattle.history.specs.Shown.{past_of, name_of, Shows, RecordShows}
-use Rattle.history.specs.Running.{IsCellOf}
+use Rattle.history.specs.Cell.{Cell, Pair, cell_of, record_of_cell}
+use Rattle.history.specs.Found.{started}
+use Rattle.history.specs.Shown.{whole_after, whole_of, Order, base_at, whole_at, Shows, PlacesShow}
+use Rattle.history.specs.Running.{IsCellOf, IsCellAt, Runs}
 use Rattle.history.specs.Law.{HeldIsCell, CellsStay}
-use Rattle.history.proofs.Showing.{revision-shown, from-shown}
+use Rattle.history.proofs.Showing.{newest-longer, newest-shown, newest-after, record-more, places-itself, from-shown, revision-shown}
 use Rattle.history.proofs.Counting.{of_document-append}
 use Rattle.history.proofs.Committing.{cell-longer}
 
-changes-first : (n : ℕ) (commands : List Taken) → take n (map change_of (take n commands)) ≡ take n (map change_of commands)
-changes-first zero commands = refl
-changes-first (suc n) [] = refl
-changes-first (suc n) (first ∷ others) = ap (λ l. change_of first ∷ l) (changes-first n others)
+none-left : (n : ℕ) (changes : List Change) → length changes ≤ n → drop n changes ≡ []
+none-left zero [] le = refl
+none-left zero (first ∷ others) le = absurd (omega (arith, le))
+none-left (suc n) [] le = refl
+none-left (suc n) (first ∷ others) le = none-left n others (omega (arith, le))
 
-deltas-first : (n : ℕ) (commands : List Taken) → take n (deltas_of (past_of (take n commands))) ≡ take n (deltas_of (past_of commands))
-deltas-first zero commands = refl
-deltas-first (suc n) [] = refl
-deltas-first (suc n) (first ∷ others) = ap (λ l. first.delta ∷ l) (deltas-first n others)
+some_same : (a b : DocumentRecord) → ◌≡◌ {A = Option DocumentRecord} (Some a) (Some b) → a ≡ b
+some_same a b is = cc
 
-changes-left : (n : ℕ) (commands : List Taken) → ◌≡◌ {A = List Change} (drop n (map change_of (take n commands))) []
-changes-left zero commands = refl
-changes-left (suc n) [] = refl
-changes-left (suc n) (first ∷ others) = changes-left n others
+-- a past at a revision, without the changes after it
+abbrev cut_at : Past → ℕ → Past
+cut_at past revision = record (from_floor past revision) { changes = [] }
 
-name-first : (n : ℕ) (commands : List Taken) → 1 ≤ n → name_of (take n commands) ≡ name_of commands
-name-first zero commands some = absurd (omega (arith, some))
-name-first (suc n) [] some = refl
-name-first (suc n) (first ∷ others) some = refl
+cut-newest : (past : Past) (revision : ℕ) → newest past ≤ revision → cut_at past revision ≡ from_floor past revision
+cut-newest past revision all = ap (λ l. record (from_floor past revision) { changes = l }) (sym (none-left (revision - past.floor) past.changes (omega (arith, all))))
 
--- the past of the first commands from their last revision on, and of them all, without what comes after it
-whole-first : (n : ℕ) (commands : List Taken) → (record (from_floor (past_of commands) n) { changes = [] }) ≡ from_floor (past_of (take n commands)) n
-whole-first n commands =
-    let here : n ≡ n - 0 = omega arith in
-    let deltas : take (n - 0) (deltas_of (past_of commands)) ≡ take (n - 0) (deltas_of (past_of (take n commands))) =
-    subst (λ m. take m (deltas_of (past_of commands)) ≡ take m (deltas_of (past_of (take n commands)))) here (sym (deltas-first n commands)) in
-    let changes : take (n - 0) (map change_of commands) ≡ take (n - 0) (map change_of (take n commands)) =
-    subst (λ m. take m (map change_of commands) ≡ take m (map change_of (take n commands))) here (sym (changes-first n commands)) in
-    let left : ◌≡◌ {A = List Change} [] (drop (n - 0) (map change_of (take n commands))) =
-    subst (λ m. ◌≡◌ {A = List Change} [] (drop m (map change_of (take n commands)))) here (sym (changes-left n commands)) in
-    λ i. record { floor = n; content = record { units = applied [] (deltas i) }; sources = sources_after 0 empty (changes i); changes = left i }
+-- further commands leave what stood at a revision before
+further : (before whole : DocumentRecord) (others : List Taken) (revision : ℕ) → whole_of (Some before) others ≡ Some whole
+    → before.past.floor ≤ revision → revision ≤ newest before.past
+    → (cut_at whole.past revision ≡ cut_at before.past revision) × (whole.name ≡ before.name) × (whole.past.floor ≡ before.past.floor)
+further before whole [] revision is above within =
+    let same : whole ≡ before = sym (some_same before whole is) in
+    (ap (λ (d : DocumentRecord). cut_at d.past revision) same, ap (λ (d : DocumentRecord). d.name) same, ap (λ (d : DocumentRecord). d.past.floor) same)
+further before whole (first ∷ others) revision is above within =
+    let next : DocumentRecord = record before { past = longer before.past (change_of first) } in
+    let later = further next whole others revision is above (omega (arith, within, newest-longer before.past (change_of first))) in
+    (later.0 ∙ ap (λ (p : Past). record p { changes = [] }) (sym (from_longer before.past revision (change_of first) above within)), later.1, later.2)
 
-pub held-is-cell : (commands : List Taken) (found : DocumentRecord) (revision : ℕ) → Shows commands found → found.past.floor ≤ revision → 1 ≤ revision
-    → revision ≤ revision_of found → IsCellOf commands (cell_of found revision)
-held-is-cell commands found revision shows held some there =
-    let number = revision-shown commands found shows in
-    let from = from-shown commands found revision shows held in
+-- what the first commands make, up to a revision
+record Cut (base : Option DocumentRecord) (commands : List Taken) (whole : DocumentRecord) (revision : ℕ) : Type 0 where
+  count : ℕ
+  within : count ≤ length commands
+  first : DocumentRecord
+  is : whole_of base (take count commands) ≡ Some first
+  name : whole.name ≡ first.name
+  floor : first.past.floor ≤ revision
+  reached : newest first.past ≡ revision
+  same : cut_at whole.past revision ≡ cut_at first.past revision
+
+cut : (limits : Limits) (base found : Option DocumentRecord) (commands : List Taken) (whole : DocumentRecord) (revision : ℕ) → PlacesShow base found
+    → all_continue limits found commands ≡ true → whole_of base commands ≡ Some whole → newest_revision base ≤ revision → 1 ≤ revision
+    → revision ≤ newest whole.past → Cut base commands whole revision
+cut limits None found [] whole revision shows h is above some within = absurd (cc)
+cut limits (Some before) found [] whole revision shows h is above some within =
+    let same : whole ≡ before = sym (some_same before whole is) in
+    let long : newest whole.past ≡ newest before.past = ap (λ (d : DocumentRecord). newest d.past) same in
     record {
-      reached = omega (arith, there, number);
-      shows = record {
-        name = name-first revision commands some ∙ shows.name;
-        floor = omega (arith, there, number, length-take revision commands);
-        past = ap (λ (p : Past). record p { changes = [] }) from ∙ whole-first revision commands;
-      };
+      count = 0;
+      within = omega arith;
+      first = before;
+      is = refl;
+      name = ap (λ (d : DocumentRecord). d.name) same;
+      floor = omega (arith, above);
+      reached = omega (arith, above, within, long);
+      same = ap (λ (d : DocumentRecord). cut_at d.past revision) same;
+    }
+cut limits base found (taken ∷ others) whole revision shows h is above some within =
+    ⊎_elim (λ (under : revision < newest_revision base + 1). here base is above under)
+    (λ (over : newest_revision base + 1 ≤ revision).
+    there (cut limits (whole_after base taken) (record_after limits.keep found taken) others whole revision next parts.1 is (omega (arith, long, over)) some within))
+    (cases_lt revision (newest_revision base + 1))
+  where
+    parts : (continues limits found taken ≡ true) × (all_continue limits (record_after limits.keep found taken) others ≡ true)
+    parts = and_parts (continues limits found taken) (all_continue limits (record_after limits.keep found taken) others) h
+
+    next : PlacesShow (whole_after base taken) (record_after limits.keep found taken)
+    next = record-more limits base found taken shows parts.0
+
+    long : newest_revision (whole_after base taken) ≡ newest_revision base + 1
+    long = omega (arith, newest-shown (whole_after base taken) (record_after limits.keep found taken) next, newest-after limits found taken parts.0, newest-shown base found shows)
+
+    here : (b : Option DocumentRecord) → whole_of b (taken ∷ others) ≡ Some whole → newest_revision b ≤ revision → revision < newest_revision b + 1 → Cut b (taken ∷ others) whole revision
+    here None is above under = absurd (omega (arith, under, some))
+    here (Some before) is above under =
+        let later = further before whole (taken ∷ others) revision is (omega (arith, above)) (omega (arith, under)) in
+        record {
+          count = 0;
+          within = omega arith;
+          first = before;
+          is = refl;
+          name = later.1;
+          floor = omega (arith, above);
+          reached = omega (arith, above, under);
+          same = later.0;
+        }
+
+    there : Cut (whole_after base taken) others whole revision → Cut base (taken ∷ others) whole revision
+    there later = record {
+      count = suc later.count;
+      within = omega (arith, later.within);
+      first = later.first;
+      is = later.is;
+      name = later.name;
+      floor = later.floor;
+      reached = later.reached;
+      same = later.same;
     }
 
+-- what a document began with reaches no further than the floor of the whole one
+base-below : (start : Option Cell) (commands : List Taken) (whole : DocumentRecord) → whole_of (started start) commands ≡ Some whole
+    → newest_revision (started start) ≤ whole.past.floor
+base-below None commands whole is = omega arith
+base-below (Some cell) commands whole is =
+    let later = further (record_of_cell cell) whole commands cell.revision is (omega arith) (omega arith) in
+    omega (arith, later.2)
+
+held-is-cell : (limits : Limits) (start : Option Cell) (commands : List Taken) (whole found : DocumentRecord) (revision : ℕ)
+    → all_continue limits (started start) commands ≡ true → whole_of (started start) commands ≡ Some whole → Shows whole found
+    → found.past.floor ≤ revision → 1 ≤ revision → revision ≤ revision_of found → IsCellOf (started start) commands (cell_of found revision)
+held-is-cell limits start commands whole found revision h is shows held some there =
+    let number = revision-shown whole found shows in
+    let part = cut limits (started start) (started start) commands whole revision (places-itself (started start)) h is
+    (omega (arith, base-below start commands whole is, shows.above, held)) some (omega (arith, there, number)) in
+    let shown : Shows part.first (record_of_cell (cell_of found revision)) = record {
+      name = shows.name ∙ part.name;
+      above = part.floor;
+      floor = omega (arith, part.reached);
+      past = ap (λ (p : Past). record p { changes = [] }) (from-shown whole found revision shows held)
+          ∙ (part.same ∙ cut-newest part.first.past revision (omega (arith, part.reached)));
+    } in
+    record { count = part.count; within = part.within; shows = subst (λ w. PlacesShow w (Some (record_of_cell (cell_of found revision)))) (sym part.is) shown }
+
 pub held_is_cell : HeldIsCell
-held_is_cell order state number found revision shows here held some there =
-    held-is-cell (of_document number order) found revision (subst (RecordShows (of_document number order)) here (shows number)) held some there
+held_is_cell order cells entries state number found revision runs here held some there =
+    by_whole (whole_at order number) refl (subst (PlacesShow (whole_at order number)) here (runs.shows number))
+  where
+    by_whole : (whole : Option DocumentRecord) → whole_at order number ≡ whole → PlacesShow whole (Some found) → IsCellAt order number (cell_of found revision)
+    by_whole None is shows = absurd shows
+    by_whole (Some whole) is shows =
+        held-is-cell state.limits (slice_get order.start number) (of_document number order.taken) whole found revision (runs.is_order number) is shows held some there
 
 pub cells_stay : CellsStay
 cells_stay order batch number cell of =
-    subst (λ l. IsCellOf l cell) (sym (of_document-append number order batch)) (cell-longer (of_document number order) (of_document number batch) cell of)
+    subst (λ l. IsCellOf (base_at order number) l cell) (sym (of_document-append number order.taken batch))
+    (cell-longer (base_at order number) (of_document number order.taken) (of_document number batch) cell of)

@@ -6,6 +6,7 @@ pub mod Recovering
 pub mod Committing
 pub mod Cells
 pub mod HeldCells
+pub mod Reached
 pub mod ReadingOn
 pub mod ReadingAll
 pub mod CallerLemmas

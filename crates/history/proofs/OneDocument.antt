@@ -2,21 +2,21 @@
 use Rattle.std.proofs.Common.{◌≡◌, ℕ, zero, suc, ◌+◌, ◌-◌, ◌≤◌, true, List, [], ◌∷◌, ◌++◌, length, take, drop, Option, Some, None, refl, sym, ap, subst, ◌∙◌, arith}
 use Rattle.std.specs.Prelude.{min, nat_lt}
 use Rattle.std.proofs.lemmas.Bool.{and_from, cond_both, le-leb, lt-ltb}
-use Rattle.std.proofs.lemmas.List.{take-append-drop}
+use Rattle.std.proofs.lemmas.List.{take-append-drop, length-take-le}
 use Rattle.compose.specs.Many.{applied}
 use Rattle.revision.specs.Command.{Taken}
 use Rattle.revision.specs.Sources.{Sources, count_of}
 use Rattle.revision.specs.Past.{Content, newest, sources_after}
-use Rattle.revision.specs.State.{Limits, DocumentRecord, State, revision_of, content_of, sources_of, weight_of, are_sources, all_continue, record_after_all}
+use Rattle.revision.specs.State.{Limits, DocumentRecord, State, revision_of, newest_revision, content_of, sources_of, weight_of, are_sources, all_continue, record_after_all}
 use Rattle.revision.specs.Agree.{PlacesAgree}
 use Rattle.revision.specs.Invariants.{IsLimits, IsPast, IsRecord}
 use Rattle.revision.proofs.CallerLemmas.{agreeing_continue, continuing_keeps, empty_is_state, adopting_keeps}
 use Rattle.history.specs.Entries.{above}
 use Rattle.history.specs.Cell.{Cell, record_of_cell, Pair, Newer, Older, Pick, of_two, picked, lowest, OfOpen, OfBoth, CellKeeps}
-use Rattle.history.specs.Shown.{RecordShows}
+use Rattle.history.specs.Shown.{whole_of, PlacesShow}
 use Rattle.history.specs.Found.{started, unread, StandsFor}
 use Rattle.history.specs.Running.{IsCellOf}
-use Rattle.history.proofs.Showing.{record-all, records-agree}
+use Rattle.history.proofs.Showing.{places-itself, record-all, records-agree, whole-append, newest-shown, newest-all, newest-whole}
 use Rattle.history.proofs.Counting.{continue-split, above-drop}
 
 drop-past : {A : Type 0} (xs ys : List A) (n : ℕ) → length xs ≤ n → drop n (xs ++ ys) ≡ drop (n - length xs) ys
@@ -55,8 +55,8 @@ agreeing-keeps limits (Some found) cell past agree =
       last = omega (arith, past.last, here);
       count = subst (λ s. count_of s ≤ limits.sources) sources kept.count;
       sources = subst (λ r. are_sources r cell.sources.entries ≡ true) here (subst (λ (s : Sources). are_sources (revision_of found) s.entries ≡ true) sources kept.sources);
-      weight = subst (λ u. weight_of u (count_of cell.sources) ≤ limits.weight) units
-          (subst (λ s. weight_of (content_of found).units (count_of s) ≤ limits.weight) sources kept.weight);
+      weight = subst (λ u. weight_of limits u cell.sources ≤ limits.weight) units
+          (subst (λ s. weight_of limits (content_of found).units s ≤ limits.weight) sources kept.weight);
     }
 
 -- a cell that keeps the limits begins a past that keeps them
@@ -102,46 +102,59 @@ picked-of P pick (Some first, Some second) both = two-of P pick first second bot
 abbrev result : Limits → Option Cell → List Taken → Option DocumentRecord
 result limits cell entries = record_after_all limits.keep (started cell) (unread cell entries)
 
-module _ (limits : Limits) (is : IsLimits limits) (retired entries : List Taken) (h : all_continue limits None (retired ++ entries) ≡ true) where
-  abbrev pub OneStands : Option Cell → Type 0
-  OneStands cell = StandsFor limits cell entries (result limits cell entries) × RecordShows (retired ++ entries) (result limits cell entries)
+none-retired : (list : List Taken) → length list ≡ 0 → list ≡ []
+none-retired [] is = refl
+none-retired (first ∷ others) is = absurd (omega (arith, is))
 
-  from-cell : (cell : Cell) → IsCellOf (retired ++ entries) cell → length retired ≤ cell.revision → OneStands (Some cell)
+-- without a cell nothing was retired, and the document began with nothing
+none-stands : (limits : Limits) (base : Option DocumentRecord) (retired entries : List Taken) → IsRecord limits base
+    → all_continue limits base (retired ++ entries) ≡ true → newest_revision base + length retired ≡ 0
+    → StandsFor limits None entries (result limits None entries) × PlacesShow (whole_of base (retired ++ entries)) (result limits None entries)
+none-stands limits None retired entries past h covers =
+    let all : retired ++ entries ≡ entries = ap (λ l. l ++ entries) (none-retired retired (omega (arith, covers))) in
+    let goes_on : all_continue limits None entries ≡ true = subst (λ l. all_continue limits None l ≡ true) all h in (
+      record { cell_keeps = tt; continue = goes_on; is = refl },
+      subst (λ l. PlacesShow (whole_of None l) (record_after_all limits.keep None entries)) (sym all) (record-all limits None None entries tt goes_on),
+    )
+none-stands limits (Some found) retired entries past h covers = absurd (omega (arith, past.first, covers))
+
+module _ (limits : Limits) (is : IsLimits limits) (base : Option DocumentRecord) (past : IsRecord limits base) (retired entries : List Taken)
+    (h : all_continue limits base (retired ++ entries) ≡ true) where
+  abbrev pub OneStands : Option Cell → Type 0
+  OneStands cell = StandsFor limits cell entries (result limits cell entries) × PlacesShow (whole_of base (retired ++ entries)) (result limits cell entries)
+
+  from-cell : (cell : Cell) → IsCellOf base (retired ++ entries) cell → newest_revision base + length retired ≤ cell.revision → OneStands (Some cell)
   from-cell cell of covers =
       let all : List Taken = retired ++ entries in
-      let first : List Taken = take cell.revision all in
-      let others : List Taken = drop cell.revision all in
-      let parts : first ++ others ≡ all = take-append-drop cell.revision all in
-      let split = continue-split limits None first others (subst (λ l. all_continue limits None l ≡ true) (sym parts) h) in
-      let begun = continue-split limits None retired entries h in
-      let shown : RecordShows first (record_after_all limits.keep None first) = record-all limits [] None first refl split.0 in
-      let agree : PlacesAgree (record_after_all limits.keep None first) (Some (record_of_cell cell)) =
-      records-agree first (record_after_all limits.keep None first) (Some (record_of_cell cell)) shown of.shows in
-      let same = (agreeing_continue limits (record_after_all limits.keep None first) (Some (record_of_cell cell)) others agree).0 in
+      let first : List Taken = take of.count all in
+      let others : List Taken = drop of.count all in
+      let parts : first ++ others ≡ all = take-append-drop of.count all in
+      let split = continue-split limits base first others (subst (λ l. all_continue limits base l ≡ true) (sym parts) h) in
+      let begun = continue-split limits base retired entries h in
+      let shown : PlacesShow (whole_of base first) (record_after_all limits.keep base first) = record-all limits base base first (places-itself base) split.0 in
+      let agree : PlacesAgree (record_after_all limits.keep base first) (Some (record_of_cell cell)) =
+      records-agree (whole_of base first) (record_after_all limits.keep base first) (Some (record_of_cell cell)) shown of.shows in
+      let same = (agreeing_continue limits (record_after_all limits.keep base first) (Some (record_of_cell cell)) others agree).0 in
       let goes_on : all_continue limits (Some (record_of_cell cell)) others ≡ true = sym same ∙ split.1 in
+      let here : cell.revision + 0 ≡ newest_revision base + length first =
+      newest-shown (whole_of base first) (Some (record_of_cell cell)) of.shows ∙ newest-whole limits base first split.0 in
+      let long : length first ≡ of.count = length-take-le of.count all of.within in
+      let before : newest_revision (record_after_all limits.keep base retired) ≡ newest_revision base + length retired = newest-all limits base retired begun.0 in
       let read : others ≡ above cell.revision entries =
-      drop-past retired entries cell.revision covers
-      ∙ sym (above-drop limits retired (record_after_all limits.keep None retired) entries cell.revision (record-all limits [] None retired refl begun.0) begun.1 covers) in
-      let shows : RecordShows all (record_after_all limits.keep (Some (record_of_cell cell)) others) =
-      subst (λ l. RecordShows l (record_after_all limits.keep (Some (record_of_cell cell)) others)) parts
-      (record-all limits first (Some (record_of_cell cell)) others of.shows goes_on) in (
+      drop-past retired entries of.count (omega (arith, covers, here, long))
+      ∙ (ap (λ n. drop n entries) (omega (arith, here, long, before))
+      ∙ sym (above-drop limits (record_after_all limits.keep base retired) entries cell.revision begun.1 (omega (arith, covers, before)))) in
+      let shows : PlacesShow (whole_of base all) (record_after_all limits.keep (Some (record_of_cell cell)) others) =
+      subst (λ w. PlacesShow w (record_after_all limits.keep (Some (record_of_cell cell)) others)) (sym (whole-append base first others) ∙ ap (whole_of base) parts)
+      (record-all limits (whole_of base first) (Some (record_of_cell cell)) others of.shows goes_on) in (
         record {
-          cell_keeps = agreeing-keeps limits (record_after_all limits.keep None first) cell (continuing_keeps limits None first is tt split.0) agree;
+          cell_keeps = agreeing-keeps limits (record_after_all limits.keep base first) cell (continuing_keeps limits base first is past split.0) agree;
           continue = subst (λ l. all_continue limits (Some (record_of_cell cell)) l ≡ true) read goes_on;
           is = refl;
         },
-        subst (λ l. RecordShows all (record_after_all limits.keep (Some (record_of_cell cell)) l)) read shows,
+        subst (λ l. PlacesShow (whole_of base all) (record_after_all limits.keep (Some (record_of_cell cell)) l)) read shows,
       )
 
-  none-retired : (list : List Taken) → length list ≡ 0 → list ≡ []
-  none-retired [] is = refl
-  none-retired (first ∷ others) is = absurd (omega (arith, is))
-
-  pub one-stands : (cell : Option Cell) → OfOpen (IsCellOf (retired ++ entries)) cell → Covers (length retired) cell → OneStands cell
-  one-stands None of covers =
-      let all : retired ++ entries ≡ entries = ap (λ l. l ++ entries) (none-retired retired covers) in
-      let goes_on : all_continue limits None entries ≡ true = subst (λ l. all_continue limits None l ≡ true) all h in (
-        record { cell_keeps = tt; continue = goes_on; is = refl },
-        subst (λ l. RecordShows l (record_after_all limits.keep None entries)) (sym all) (record-all limits [] None entries refl goes_on),
-      )
+  pub one-stands : (cell : Option Cell) → OfOpen (IsCellOf base (retired ++ entries)) cell → Covers (newest_revision base + length retired) cell → OneStands cell
+  one-stands None of covers = none-stands limits base retired entries past h covers
   one-stands (Some cell) of covers = from-cell cell of covers

@@ -158,7 +158,7 @@ module _ (cells : List Pair) (entries : List Taken) (pick : Pick) (state : State
 adopts-keeps : (state : State) (cell : Cell) → adopts state cell.name cell.content cell.revision cell.sources ≡ true → CellKeeps state.limits cell
 adopts-keeps state cell h =
     let light = and_parts (nat_lt (length state.documents) state.limits.docs && is_none (find cell.name 0 state.documents) && nat_le 1 cell.revision && nat_le cell.revision last_of_all
-    && nat_le (count_of cell.sources) state.limits.sources && are_sources cell.revision cell.sources.entries) (nat_le (weight_of cell.content.units (count_of cell.sources)) state.limits.weight) h in
+    && nat_le (count_of cell.sources) state.limits.sources && are_sources cell.revision cell.sources.entries) (nat_le (weight_of state.limits cell.content.units cell.sources) state.limits.weight) h in
     let sources = and_parts (nat_lt (length state.documents) state.limits.docs && is_none (find cell.name 0 state.documents) && nat_le 1 cell.revision && nat_le cell.revision last_of_all
     && nat_le (count_of cell.sources) state.limits.sources) _ light.0 in
     let count = and_parts (nat_lt (length state.documents) state.limits.docs && is_none (find cell.name 0 state.documents) && nat_le 1 cell.revision && nat_le cell.revision last_of_all) _ sources.0 in

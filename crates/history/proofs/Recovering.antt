@@ -1,16 +1,16 @@
 -- What the parts of a running store stand for.
-use Rattle.std.proofs.Common.{◌≡◌, ℕ, zero, suc, ◌≤◌, true, List, [], ◌∷◌, ◌++◌, length, Option, Some, None, refl, sym, ap, subst, ◌∙◌, arith}
+use Rattle.std.proofs.Common.{◌≡◌, ℕ, zero, suc, ◌+◌, ◌≤◌, true, List, [], ◌∷◌, ◌++◌, length, Option, Some, None, refl, sym, ap, subst, ◌∙◌, arith}
 use Rattle.std.specs.Prelude.{slice_get}
 use Rattle.revision.specs.Command.{Taken}
-use Rattle.revision.specs.State.{Limits, DocumentRecord, State, all_continue, record_after_all}
+use Rattle.revision.specs.State.{Limits, DocumentRecord, State, newest_revision, all_continue, record_after_all}
 use Rattle.revision.specs.Agree.{PlacesAgree}
 use Rattle.revision.specs.Invariants.{IsLimits, IsPast, IsRecord, NamesDiffer}
 use Rattle.revision.proofs.CallerLemmas.{continuing_keeps}
 use Rattle.history.specs.Entries.{of_document}
-use Rattle.history.specs.Cell.{Cell, Pair, cells_at, Pick, picked, OfOpen}
-use Rattle.history.specs.Shown.{RecordShows}
+use Rattle.history.specs.Cell.{Cell, CellKeeps, Pair, cells_at, Pick, picked, OfOpen}
+use Rattle.history.specs.Shown.{Order, base_at, whole_at, whole_of, PlacesShow}
 use Rattle.history.specs.Found.{started, unread, StandsFor, StandFor}
-use Rattle.history.specs.Running.{IsCellOf, Runs}
+use Rattle.history.specs.Running.{IsCellOf, IsCellAt, Runs}
 use Rattle.history.specs.Law.{StandIsState, ShowingAgree, Recovers, Reopens}
 use Rattle.history.proofs.Showing.{records-agree}
 use Rattle.history.proofs.Counting.{of_document-append}
@@ -19,7 +19,7 @@ use Rattle.history.proofs.OneDocument.{started-kept, picked-covers, picked-of, o
 pub showing_agree : ShowingAgree
 showing_agree order s t limits first second = record {
   limits = limits;
-  documents = λ number. records-agree (of_document number order) (slice_get s.documents number) (slice_get t.documents number) (first number) (second number);
+  documents = λ number. records-agree (whole_at order number) (slice_get s.documents number) (slice_get t.documents number) (first number) (second number);
 }
 
 found-kept : (limits : Limits) (cell : Option Cell) (entries : List Taken) (found : Option DocumentRecord) → IsLimits limits → StandsFor limits cell entries found
@@ -39,31 +39,32 @@ stand_is_state limits cells entries pick state is stand = record {
 }
 
 -- each document that is found
-module _ (order : List Taken) (cells : List Pair) (entries : List Taken) (state : State) (pick : Pick) (runs : Runs order cells entries state) where
+module _ (order : Order) (cells : List Pair) (entries : List Taken) (state : State) (pick : Pick) (runs : Runs order cells entries state) where
   abbrev pub found_at : ℕ → Option DocumentRecord
   found_at number =
       let cell = picked pick (cells_at cells number) in
       record_after_all state.limits.keep (started cell) (unread cell (of_document number entries))
 
-  in-parts : (number : ℕ) → of_document number order ≡ of_document number runs.retired ++ of_document number entries
+  in-parts : (number : ℕ) → of_document number order.taken ≡ of_document number runs.retired ++ of_document number entries
   in-parts number = ap (of_document number) runs.held ∙ of_document-append number runs.retired entries
 
   found-stands : (number : ℕ) → StandsFor state.limits (picked pick (cells_at cells number)) (of_document number entries) (found_at number)
-      × RecordShows (of_document number order) (found_at number)
+      × PlacesShow (whole_at order number) (found_at number)
   found-stands number =
       let parts = in-parts number in
       let cell = picked pick (cells_at cells number) in
-      let of : OfOpen (IsCellOf (of_document number order)) cell =
-      picked-of (IsCellOf (of_document number order)) pick (cells_at cells number) (runs.cells_are number) in
-      let stands = one-stands state.limits runs.is_state.limits (of_document number runs.retired) (of_document number entries)
-      (subst (λ l. all_continue state.limits None l ≡ true) parts (runs.is_order number)) cell
-      (subst (λ l. OfOpen (IsCellOf l) cell) parts of)
-      (picked-covers (length (of_document number runs.retired)) pick (cells_at cells number) (runs.covered number)) in
-      (stands.0, subst (λ l. RecordShows l (found_at number)) (sym parts) stands.1)
+      let base = base_at order number in
+      let of : OfOpen (IsCellAt order number) cell = picked-of (IsCellAt order number) pick (cells_at cells number) (runs.cells_are number) in
+      let stands = one-stands state.limits runs.is_state.limits base (started-kept state.limits (slice_get order.start number) runs.is_state.limits (runs.start number))
+      (of_document number runs.retired) (of_document number entries)
+      (subst (λ l. all_continue state.limits base l ≡ true) parts (runs.is_order number)) cell
+      (subst (λ l. OfOpen (IsCellOf base l) cell) parts of)
+      (picked-covers (newest_revision base + length (of_document number runs.retired)) pick (cells_at cells number) (runs.covered number)) in
+      (stands.0, subst (λ l. PlacesShow (whole_of base l) (found_at number)) (sym parts) stands.1)
 
   found-agree : (number : ℕ) → PlacesAgree (found_at number) (slice_get state.documents number)
   found-agree number =
-      records-agree (of_document number order) (found_at number) (slice_get state.documents number) (found-stands number).1 (runs.shows number)
+      records-agree (whole_at order number) (found_at number) (slice_get state.documents number) (found-stands number).1 (runs.shows number)
 
 -- documents that agree with those of a list make a list
 abbrev DocumentList : (ℕ → Option DocumentRecord) → List DocumentRecord → Type 0
@@ -123,8 +124,9 @@ reopens order cells entries state pick found runs stand =
       held = runs.held;
       is_state = stand_is_state state.limits cells entries pick found runs.is_state.limits stand;
       pairs = runs.pairs ∙ ap (λ (l : Limits). l.docs) (sym same);
-      is_order = λ number. subst (λ l. all_continue l None (of_document number order) ≡ true) (sym same) (runs.is_order number);
-      shows = λ number. subst (RecordShows (of_document number order)) (sym (stand.each number).is) (found-stands order cells entries state pick runs number).1;
+      start = λ number. subst (λ l. OfOpen (CellKeeps l) (slice_get order.start number)) (sym same) (runs.start number);
+      is_order = λ number. subst (λ l. all_continue l (base_at order number) (of_document number order.taken) ≡ true) (sym same) (runs.is_order number);
+      shows = λ number. subst (PlacesShow (whole_at order number)) (sym (stand.each number).is) (found-stands order cells entries state pick runs number).1;
       cells_are = runs.cells_are;
       covered = runs.covered;
     }

@@ -83,4 +83,4 @@ pub record CellKeeps (limits : Limits) (cell : Cell) : Type 0 where
   pub last : cell.revision ≤ last_of_all
   pub count : count_of cell.sources ≤ limits.sources
   pub sources : are_sources cell.revision cell.sources.entries ≡ true
-  pub weight : weight_of cell.content.units (count_of cell.sources) ≤ limits.weight
+  pub weight : weight_of limits cell.content.units cell.sources ≤ limits.weight

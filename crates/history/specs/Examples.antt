@@ -7,7 +7,7 @@ use Rattle.attributes.specs.Attributes.{changed_by}
 use Rattle.delta.specs.Element.{Element, letters}
 use Rattle.delta.specs.Operation.{insert_text, retain}
 use Rattle.revision.specs.Command.{Taken}
-use Rattle.revision.specs.Sources.{with_last}
+use Rattle.revision.specs.Sources.{with_taken}
 use Rattle.revision.specs.State.{Limits, DocumentRecord, units_of, all_continue, record_after_all}
 use Rattle.history.specs.Entries.{of_document}
 use Rattle.history.specs.Cell.{Cell, Newer, Older, picked, freed}
@@ -15,7 +15,7 @@ use Rattle.history.specs.Found.{started, unread}
 
 -- a store that holds two revisions below the newest one
 abbrev small : Limits
-small = record { docs = 2; sources = 4; weight = 1000; width = 237; keep = 2 }
+small = record { docs = 2; sources = 4; weight = 1000; width = 237; keep = 2; retry = 8 }
 
 abbrev text : List ℕ → List Element
 text us = letters us empty
@@ -47,10 +47,10 @@ of_d = refl
 
 -- cells of it at revisions 1 and 2, and one at 2 that has lost its sources
 abbrev at_1 : Cell
-at_1 = record { name = 100 ∷ []; revision = 1; content = record { units = text (codes "z") }; sources = with_last ann 1 1 empty }
+at_1 = record { name = 100 ∷ []; revision = 1; content = record { units = text (codes "z") }; sources = with_taken ann 1 1 empty }
 
 abbrev at_2 : Cell
-at_2 = record { name = 100 ∷ []; revision = 2; content = record { units = text (codes "zx") }; sources = with_last ann 2 2 empty }
+at_2 = record { name = 100 ∷ []; revision = 2; content = record { units = text (codes "zx") }; sources = with_taken ann 2 2 (with_taken ann 1 1 empty) }
 
 abbrev without_sources : Cell
 without_sources = record { name = 100 ∷ []; revision = 2; content = record { units = text (codes "zx") }; sources = empty }

@@ -1,31 +1,62 @@
--- What a document shows of the commands that were taken of it.
-use Rattle.std.specs.Prelude.{ℕ, ◌≡◌, ◌≤◌, Option, Some, None, List, [], ◌∷◌, length, map, slice_get}
-use Rattle.attributes.specs.Map.{empty}
+-- A store's history, and what a document shows of it.
+use Rattle.std.specs.Prelude.{ℕ, ◌≡◌, ◌≤◌, Option, Some, None, List, [], ◌∷◌, ◌++◌, slice_get}
 use Rattle.revision.specs.Command.{Taken}
-use Rattle.revision.specs.Past.{Past, from_floor}
+use Rattle.revision.specs.Past.{Past, empty_past, newest, from_floor}
+use Rattle.revision.specs.Floors.{longer}
 use Rattle.revision.specs.State.{DocumentRecord, State, change_of}
 use Rattle.history.specs.Entries.{of_document}
+use Rattle.history.specs.Cell.{Cell}
+use Rattle.history.specs.Found.{started}
 
--- the past that the commands make of nothing, of which nothing is let go
-abbrev pub past_of : List Taken → Past
-past_of commands = record { floor = 0; content = record { units = [] }; sources = empty; changes = map change_of commands }
+-- what a command makes of a document that may be there, where nothing is let go
+abbrev pub whole_by_name : Option DocumentRecord → Taken → Option (List ℕ) → Option DocumentRecord
+whole_by_name None taken None = None
+whole_by_name None taken (Some name) = Some (record { name = name; past = longer empty_past (change_of taken) })
+whole_by_name (Some found) taken name = Some (record found { past = longer found.past (change_of taken) })
 
--- the name that the first of them gives
-abbrev pub name_of : List Taken → Option (List ℕ)
-name_of [] = None
-name_of (first ∷ others) = first.name
+abbrev pub whole_after : Option DocumentRecord → Taken → Option DocumentRecord
+whole_after found taken = whole_by_name found taken taken.name
 
--- A document shows the commands: it has the name that the first gave, and their past from its floor on.
-pub record Shows (commands : List Taken) (found : DocumentRecord) : Type 0 where
-  pub name : name_of commands ≡ Some found.name
-  pub floor : found.past.floor ≤ length commands
-  pub past : found.past ≡ from_floor (past_of commands) found.past.floor
+-- and what commands in order make of it
+abbrev pub whole_of : Option DocumentRecord → List Taken → Option DocumentRecord
+whole_of found [] = found
+whole_of found (first ∷ others) = whole_of (whole_after found first) others
 
--- of a document that may be there: it isn't where there are no commands
-abbrev pub RecordShows : List Taken → Option DocumentRecord → Type 0
-RecordShows commands None = commands ≡ []
-RecordShows commands (Some found) = Shows commands found
+-- A document shows one with all its past: it has its name, and is that from its own floor on.
+pub record Shows (whole found : DocumentRecord) : Type 0 where
+  pub name : found.name ≡ whole.name
+  pub above : whole.past.floor ≤ found.past.floor
+  pub floor : found.past.floor ≤ newest whole.past
+  pub past : found.past ≡ from_floor whole.past found.past.floor
 
--- a state shows the commands of one order: each document shows those of its number
-abbrev pub StateShows : List Taken → State → Type 0
-StateShows order state = (number : ℕ) → RecordShows (of_document number order) (slice_get state.documents number)
+-- of documents that may be there
+abbrev pub PlacesShow : Option DocumentRecord → Option DocumentRecord → Type 0
+PlacesShow None None = Unit {0}
+PlacesShow None (Some found) = ⊥
+PlacesShow (Some whole) None = ⊥
+PlacesShow (Some whole) (Some found) = Shows whole found
+
+-- A store's history: the documents that it began with, each at a revision, in order of their numbers, and the commands that were taken
+-- since, in order. A store that was formatted began with none.
+pub record Order : Type 0 where
+  pub start : List Cell
+  pub taken : List Taken
+
+-- the history of a store that was just formatted
+abbrev pub no_order : Order
+no_order = record { start = []; taken = [] }
+
+-- the history with commands more
+abbrev pub with_commands : Order → List Taken → Order
+with_commands order batch = record order { taken = order.taken ++ batch }
+
+-- what the document of a number began with, and what it is since with all its past
+abbrev pub base_at : Order → ℕ → Option DocumentRecord
+base_at order number = started (slice_get order.start number)
+
+abbrev pub whole_at : Order → ℕ → Option DocumentRecord
+whole_at order number = whole_of (base_at order number) (of_document number order.taken)
+
+-- a state shows a history: each document shows what the history makes of it
+abbrev pub StateShows : Order → State → Type 0
+StateShows order state = (number : ℕ) → PlacesShow (whole_at order number) (slice_get state.documents number)

@@ -7,13 +7,13 @@
 //! leave. What comes of all documents so is the state that the parts stand for, by a pick of the newer or the older cell
 //! (specs/Found.antt).
 //!
-//! A document shows the commands that were taken of it where it has their name and their past, from its floor on; how far back
-//! that is may differ (specs/Shown.antt). A store runs while all its parts are of one order of commands: the entries are its end,
-//! what went before them is covered by the open cells, each cell is its document at a revision, and the state in memory shows it
-//! all (specs/Running.antt).
+//! A store's history is what it began with, documents each at a revision, and the commands since in order. A document shows what its
+//! history makes of it where it has that name and that past, from its floor on; how far back that is may differ (specs/Shown.antt). A
+//! store runs while all its parts are of one history: the entries are its end, what went before them is covered by the open cells,
+//! each cell is its document at a revision, and the state in memory shows it all (specs/Running.antt).
 //!
 //! `laws` promises of these: the parts stand for one state at most; a running store's parts stand by either pick for a state that
-//! agrees with the one in memory, and runs on over the same order; and a store runs on as a batch is committed, a cell is closed or
+//! agrees with the one in memory, and runs on over the same history; and a store runs on as a batch is committed, a cell is closed or
 //! put, and the oldest entries are retired. The crate stands on the rule of acceptance, `revision`.
 //!
 //! A caller, with its contract, which `revision_tests` proves:
@@ -26,13 +26,14 @@
 //! ghost use Rattle.history.specs.Cell.{Pair};
 //! ghost use Rattle.history.specs.declared.pick.Pick as pick;
 //! ghost use Rattle.history.specs.Found.{StandFor};
+//! ghost use Rattle.history.specs.Shown.{Order};
 //! ghost use Rattle.history.specs.Running.{Runs};
 //!
 //! use history::laws;
 //!
 //! /// Whichever cells the documents of a running store are read from, what is found agrees.
 //! pub fn either_cell()
-//!     ensures { (order : List Taken) (cells : List Pair) (entries : List Taken)
+//!     ensures { (order : Order) (cells : List Pair) (entries : List Taken)
 //!         (state one other : spec.State) (a b : pick.Pick)
 //!         → Runs order cells entries state → StandFor state.limits cells entries a one
 //!         → StandFor state.limits cells entries b other → Agree one other }

@@ -114,7 +114,7 @@ fn drawn_damages_are_refused_or_opened(rt: HostRuntime) {
             match opened_as(&rt, &bytes, pick) {
                 "a state" => states = states.saturating_add(1),
                 "Damaged" => damaged = damaged.saturating_add(1),
-                "NotFormatted" => closed = closed.saturating_add(1),
+                "NotFormatted" | "OldFormat" => closed = closed.saturating_add(1),
                 other => panic!(&rt; "damage {number}, {pick:?}: {other}"),
             }
         }

@@ -30,14 +30,22 @@ const EDITED: [u8; 55] = [
 ];
 
 /// A cell's body: what the first batch makes.
-const BODY: [u8; 52] = [
+const BODY: [u8; 54] = [
     0, 0, 0, 0, // document 0
     1, 0, b'd', // its name
-    1, 0, 0, 0, 0, 0, 0, 0, // revision 1
+    1, 0, 0, 0, 0, 0, 0, 0, 1, // revision 1, and that there is a document
     1, 0, 0, 0, 1, 1, 0, 0, 0, b'z', 0, 0, 0, 0, // an insert of z, no attributes
     1, 0, 0, 0, 1, 0, b'a', // one source, a
     1, 0, 0, 0, 0, 0, 0, 0, // its last number
-    1, 0, 0, 0, 0, 0, 0, 0, // the revision of that
+    1, 1, 0, 0, 0, 0, 0, 0, 0, // one number in its window, and the revision of that
+];
+
+/// One of a document at revision 3, whose source made revisions 1 and 3 by its numbers 1 and 2.
+const BODY_OF_TWO: [u8; 62] = [
+    0, 0, 0, 0, 1, 0, b'd', 3, 0, 0, 0, 0, 0, 0, 0, 1, // document 0, d, revision 3
+    1, 0, 0, 0, 1, 1, 0, 0, 0, b'z', 0, 0, 0, 0, // an insert of z, no attributes
+    1, 0, 0, 0, 1, 0, b'a', 2, 0, 0, 0, 0, 0, 0, 0, // one source, a, and its last number
+    2, 1, 0, 0, 0, 0, 0, 0, 0, 3, 0, 0, 0, 0, 0, 0, 0, // two numbers in its window, and their revisions
 ];
 
 /// An open gate with the number of a segment, and with the length of a record or of a cell's body.
@@ -45,9 +53,11 @@ const FIRST: &[u8] = &[0xa5, 1, 0, 0, 0, 0, 0, 0, 0];
 
 const OF_45: &[u8] = &[0xa5, 45, 0, 0, 0];
 
-const OF_52: &[u8] = &[0xa5, 52, 0, 0, 0];
+const OF_54: &[u8] = &[0xa5, 54, 0, 0, 0];
 
 const OF_55: &[u8] = &[0xa5, 55, 0, 0, 0];
+
+const OF_62: &[u8] = &[0xa5, 62, 0, 0, 0];
 
 /// What is written over a device one after the other: a place, and the bytes there.
 type Changes = &'static [(usize, &'static [u8])];
@@ -61,7 +71,7 @@ const WHOLE: usize = 1_600;
 const Z: &str = r#"d 1 {"ops":[{"insert":"z"}]} 1 1"#;
 
 /// What damages a device, or doesn't. Each part that is damaged stands once in a row as it should be.
-const ROWS: [Row; 25] = [
+const ROWS: [Row; 37] = [
     (WHOLE, &[], ""),
     (
         WHOLE,
@@ -77,15 +87,19 @@ const ROWS: [Row; 25] = [
             (1_147, OF_55),
             (1_152, &EDITED),
         ],
-        r#"d 2 {"ops":[{"insert":"zx"}]} 2 2"#,
+        r#"d 2 {"ops":[{"insert":"zx"}]} 2 1 2"#,
     ),
-    (WHOLE, &[(64, OF_52), (69, &BODY)], Z),
+    (WHOLE, &[(64, OF_54), (69, &BODY)], Z),
     // The shape: slots of 255 bytes, no revisions kept, another letter; and a device that is cut.
     (WHOLE, &[(13, &[255, 0, 0, 0])], "Damaged"),
     (WHOLE, &[(29, &[0, 0, 0, 0])], "Damaged"),
     (WHOLE, &[(8, b"X")], "Damaged"),
     (1_599, &[], "Damaged"),
     (63, &[], "NotFormatted"),
+    // The letters of the first format, whatever else is wrong.
+    (WHOLE, &[(8, b"1")], "OldFormat"),
+    (64, &[(8, b"1"), (29, &[0, 0, 0, 0])], "OldFormat"),
+    (63, &[(8, b"1")], "NotFormatted"),
     // Segments: the number 0, one number twice, and the last number, which is one.
     (
         WHOLE,
@@ -128,20 +142,47 @@ const ROWS: [Row; 25] = [
     ),
     // Cells: of document 1 where that of document 0 lies, at revision 2^53, at the last one, which is one, and "e" as document 1 with no
     // document 0.
-    (WHOLE, &[(64, OF_52), (69, &BODY), (69, &[1])], "Damaged"),
+    (WHOLE, &[(64, OF_54), (69, &BODY), (69, &[1])], "Damaged"),
     (
         WHOLE,
-        &[(64, OF_52), (69, &BODY), (76, &[0, 0, 0, 0, 0, 0, 0x20, 0])],
+        &[(64, OF_54), (69, &BODY), (76, &[0, 0, 0, 0, 0, 0, 0x20, 0])],
         "Damaged",
     ),
     (
         WHOLE,
-        &[(64, OF_52), (69, &BODY), (76, &SPENT)],
+        &[(64, OF_54), (69, &BODY), (76, &SPENT)],
         r#"d 9007199254740991 {"ops":[{"insert":"z"}]} 1 1"#,
     ),
     (
         WHOLE,
-        &[(576, OF_52), (581, &BODY), (581, &[1]), (587, b"e")],
+        &[(576, OF_54), (581, &BODY), (581, &[1]), (587, b"e")],
+        "Damaged",
+    ),
+    // No document, and windows: of no number, of more than there are up to the last one, with a revision above the cell's, with none.
+    (WHOLE, &[(64, OF_54), (69, &BODY), (84, &[0])], "Damaged"),
+    (WHOLE, &[(64, OF_54), (69, &BODY), (114, &[0])], "Damaged"),
+    (WHOLE, &[(64, OF_54), (69, &BODY), (114, &[2])], "Damaged"),
+    (WHOLE, &[(64, OF_54), (69, &BODY), (115, &[2])], "Damaged"),
+    (WHOLE, &[(64, OF_54), (69, &BODY), (115, &[0])], "Damaged"),
+    // A window of two numbers, and with revisions that don't ascend, with another count, with a lower last number.
+    (
+        WHOLE,
+        &[(64, OF_62), (69, &BODY_OF_TWO)],
+        r#"d 3 {"ops":[{"insert":"z"}]} 2 1 3"#,
+    ),
+    (
+        WHOLE,
+        &[(64, OF_62), (69, &BODY_OF_TWO), (115, &[3])],
+        "Damaged",
+    ),
+    (
+        WHOLE,
+        &[(64, OF_62), (69, &BODY_OF_TWO), (114, &[1])],
+        "Damaged",
+    ),
+    (
+        WHOLE,
+        &[(64, OF_62), (69, &BODY_OF_TWO), (106, &[1])],
         "Damaged",
     ),
     // Gates that aren't open, before what would be damage.
@@ -227,7 +268,7 @@ const AT_THE_LAST_REVISION: [Asked; 1] = [(
 const ASKED: [(Changes, &[Asked]); 2] = [
     (&[(1_088, &LAST)], &IN_THE_LAST_SEGMENT),
     (
-        &[(64, OF_52), (69, &BODY), (76, &SPENT)],
+        &[(64, OF_54), (69, &BODY), (76, &SPENT)],
         &AT_THE_LAST_REVISION,
     ),
 ];

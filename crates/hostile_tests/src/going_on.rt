@@ -15,14 +15,18 @@ pub const PICKS: [Pick; 2] = [Pick::Newer, Pick::Older];
 /// What differs, and by which pick.
 pub type Differs = (Pick, &'static str);
 
-// A document as its name, its revision and its operations, and the last number of the source "a" with its revision.
+// A document as its name, its revision and its operations, and the window of the source "a": its last number, and the revisions.
 fn line_of(alloc: Global, record: &DocState) -> Result<String, Refusal> {
     let name = record.name().as_str();
     let revision = record.revision();
     let text = write_delta(alloc, &record.document().as_delta(alloc)?)?;
-    let last = record.last(&Name::source(alloc, "a")?);
-    let (number, made) = (last.number, last.revision);
-    Ok(format!(in alloc; "{name} {revision} {text} {number} {made}")?)
+    let window = record.window(&Name::source(alloc, "a")?);
+    let number = window.number();
+    let mut line = format!(in alloc; "{name} {revision} {text} {number}")?;
+    for made in window.revisions() {
+        line.push_str(format!(in alloc; " {made}")?.as_str())?;
+    }
+    Ok(line)
 }
 
 // All documents of a state.

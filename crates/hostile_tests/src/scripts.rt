@@ -34,8 +34,8 @@ pub struct Script {
     /// the end there is a turn more.
     pub every: Option<u32>,
     pub steps: &'static [Step],
-    /// The document before the first command and after each: its name, revision and operations, and the last number of its source with
-    /// the revision of that.
+    /// The document before the first command and after each: its name, revision and operations, and its source's window: the last number,
+    /// and the revisions.
     pub documents: &'static [&'static str],
     /// How many calls of the device the steps make, as docs/FORMATS.md orders them.
     pub calls: u64,
@@ -68,8 +68,8 @@ pub const THIRD_BATCH: Script = Script {
     documents: &[
         "",
         r#"d 1 {"ops":[{"insert":"z"}]} 1 1"#,
-        r#"d 2 {"ops":[{"insert":"zx"}]} 2 2"#,
-        r#"d 3 {"ops":[{"insert":"x"}]} 3 3"#,
+        r#"d 2 {"ops":[{"insert":"zx"}]} 2 1 2"#,
+        r#"d 3 {"ops":[{"insert":"x"}]} 3 1 2 3"#,
     ],
     calls: 16,
     gates: &[(64, false), (1_088, true), (1_344, false)],
@@ -94,10 +94,10 @@ pub const MILESTONES: Script = Script {
     documents: &[
         "",
         r#"d 1 {"ops":[{"insert":"z"}]} 1 1"#,
-        r#"d 2 {"ops":[{"insert":"zx"}]} 2 2"#,
-        r#"d 3 {"ops":[{"insert":"x"}]} 3 3"#,
-        r#"d 4 {"ops":[{"insert":"x"}]} 4 4"#,
-        r#"d 5 {"ops":[{"insert":"qx"}]} 5 5"#,
+        r#"d 2 {"ops":[{"insert":"zx"}]} 2 1 2"#,
+        r#"d 3 {"ops":[{"insert":"x"}]} 3 1 2 3"#,
+        r#"d 4 {"ops":[{"insert":"x"}]} 4 1 2 3 4"#,
+        r#"d 5 {"ops":[{"insert":"qx"}]} 5 1 2 3 4 5"#,
     ],
     calls: 44,
     gates: &[(64, true), (320, true), (1_088, false), (1_344, true)],
@@ -114,7 +114,7 @@ pub const RICH_TEXT: Script = Script {
     documents: &[
         "",
         r#"d 1 {"ops":[{"insert":"Hi"}]} 1 1"#,
-        r#"d 2 {"ops":[{"insert":"Hi"},{"attributes":{"bold":true},"insert":"!"}]} 2 2"#,
+        r#"d 2 {"ops":[{"insert":"Hi"},{"attributes":{"bold":true},"insert":"!"}]} 2 1 2"#,
     ],
     calls: 16,
     gates: &[(1_088, true), (1_344, false)],
@@ -129,8 +129,8 @@ pub const FULL_JOURNAL: Script = Script {
     documents: &[
         "",
         r#"d 1 {"ops":[{"insert":"z"}]} 1 1"#,
-        r#"d 2 {"ops":[{"insert":"z"}]} 2 2"#,
-        r#"d 3 {"ops":[{"insert":"z"}]} 3 3"#,
+        r#"d 2 {"ops":[{"insert":"z"}]} 2 1 2"#,
+        r#"d 3 {"ops":[{"insert":"z"}]} 3 1 2 3"#,
     ],
     calls: 36,
     gates: &[(64, true), (1_088, true), (1_344, false)],

@@ -10,37 +10,43 @@ use Rattle.attributes.specs.Map.{empty, get}
 use Rattle.attributes.specs.Table.{is_name}
 use Rattle.attributes.proofs.CallerLemmas.{get-insert}
 use Rattle.revision.specs.Command.{Taken}
-use Rattle.revision.specs.declared.sources.LastTaken.{LastTaken}
-use Rattle.revision.specs.Sources.{Sources, last_of, with_last}
+use Rattle.revision.specs.Window.{Window, nothing_taken, taken_as}
+use Rattle.revision.specs.Sources.{Sources, window_of, with_taken}
 use Rattle.revision.specs.Past.{Change, Past, empty_past, newest, sources_at, with_change}
 use Rattle.revision.specs.State.{Limits, DocumentRecord, State, revision_of, units_of, sources_of, find, last_of_all, has_place, keeps, begins, follows, continues_by_name, change_of, record_by_name, has_room, grows, set_document, grown}
 use Rattle.revision.proofs.CallerLemmas.{change_makes}
-use Rattle.world.specs.Law.{last_found}
+use Rattle.world.specs.Law.{window_found}
 
--- what comes of a command as a source's last one
-abbrev pub noted : Taken → LastTaken
-noted taken = record { number = taken.number; revision = taken.revision }
+-- a window with a command
+abbrev pub noted : Taken → Window → Window
+noted taken window = taken_as taken.number taken.revision window
 
 bytes_turned : (a b : List ℕ) → bytes_eq a b ≡ bytes_eq b a
 bytes_turned a b = same_from_decides (bytes_eq a b) (bytes_eq b a) (bytes_eq-Decides a b)
     ((λ e. sym ((bytes_eq-Decides b a).0 e)), (λ e. (bytes_eq-Decides b a).1 (sym e)))
 
--- a source has what was noted of it last, and what it had of others
-last_of-with_last : (source by : List ℕ) (number revision : ℕ) (sources : Sources)
-    → last_of source (with_last by number revision sources) ≡ cond (bytes_eq by source) (record { number = number; revision = revision }) (last_of source sources)
-last_of-with_last source by number revision sources =
-    ap (λ o. unwrap_or o (record { number = 0; revision = 0 })) (get-insert sources by (record { number = number; revision = revision }) source)
+-- a source's window has what was noted of it, and others are as they were
+window_of-with_taken : (source by : List ℕ) (number revision : ℕ) (sources : Sources)
+    → window_of source (with_taken by number revision sources) ≡ cond (bytes_eq by source) (taken_as number revision (window_of source sources)) (window_of source sources)
+window_of-with_taken source by number revision sources =
+    ap (λ o. unwrap_or o nothing_taken) (get-insert sources by (taken_as number revision (window_of by sources)) source)
     ∙ (by_test (is_name source by)
-    ∙ ap (λ b. cond b (record { number = number; revision = revision }) (last_of source sources)) (is_eq-slice_cmp source by ∙ bytes_turned source by))
+    ∙ (ap (λ b. cond b (taken_as number revision (window_of by sources)) (window_of source sources)) (is_eq-slice_cmp source by ∙ bytes_turned source by)
+    ∙ own (bytes_eq by source) refl))
   where
-    by_test : (b : Bool) → unwrap_or (cond b (Some (record { number = number; revision = revision })) (get sources source)) (record { number = 0; revision = 0 })
-        ≡ cond b (record { number = number; revision = revision }) (last_of source sources)
+    by_test : (b : Bool) → unwrap_or (cond b (Some (taken_as number revision (window_of by sources))) (get sources source)) nothing_taken
+        ≡ cond b (taken_as number revision (window_of by sources)) (window_of source sources)
     by_test true = refl
     by_test false = refl
 
+    own : (b : Bool) → bytes_eq by source ≡ b → cond b (taken_as number revision (window_of by sources)) (window_of source sources)
+        ≡ cond b (taken_as number revision (window_of source sources)) (window_of source sources)
+    own true same = ap (λ s. taken_as number revision (window_of s sources)) ((bytes_eq-Decides by source).0 same)
+    own false other = refl
+
 -- the sources of a document with one change more
 sources-more : (keep : ℕ) (past : Past) (change : Change) → sources_at (with_change keep past change) (newest (with_change keep past change))
-    ≡ with_last change.source change.number (newest past + 1) (sources_at past (newest past))
+    ≡ with_taken change.source change.number (newest past + 1) (sources_at past (newest past))
 sources-more keep past change = ap (sources_at (with_change keep past change)) (change_makes keep past change).0 ∙ (change_makes keep past change).2
 
 set_further : (number : ℕ) (document : Option DocumentRecord) (first : DocumentRecord) (others : List DocumentRecord)
@@ -119,17 +125,17 @@ abbrev pub Leaves : Taken → List ℕ → Option (ℕ × DocumentRecord) → Op
 Leaves taken source before after = (after ≡ before)
     ⊎ ((found : DocumentRecord) × (after ≡ Some (taken.document, found))
     × ((number : ℕ) (old : DocumentRecord) → before ≡ Some (number, old) → number ≡ taken.document)
-    × (last_of source (sources_of found) ≡ cond (bytes_eq taken.source source) (noted taken) (last_found source before))
-    × (bytes_eq taken.source source ≡ true → taken.number ≡ (last_found source before).number + 1))
+    × (window_of source (sources_of found) ≡ cond (bytes_eq taken.source source) (noted taken (window_found source before)) (window_found source before))
+    × (bytes_eq taken.source source ≡ true → taken.number ≡ (window_found source before).number + 1))
 
 -- the parts of the test of a change, as far as numbers go
 followed : (limits : Limits) (found : DocumentRecord) (taken : Taken) → follows limits found taken ≡ true
-    → (taken.revision ≡ revision_of found + 1) × (taken.number ≡ (last_of taken.source (sources_of found)).number + 1)
+    → (taken.revision ≡ revision_of found + 1) × (taken.number ≡ (window_of taken.source (sources_of found)).number + 1)
 followed limits found taken h =
     let fifth = and_parts _ (keeps limits (units_of found) (sources_of found) taken) h in
     let fourth = and_parts _ (has_place limits taken.source (sources_of found)) fifth.0 in
     let third = and_parts _ (nat_le taken.number last_of_all) fourth.0 in
-    let second = and_parts _ (taken.number == (last_of taken.source (sources_of found)).number + 1) third.0 in
+    let second = and_parts _ (taken.number == (window_of taken.source (sources_of found)).number + 1) third.0 in
     let first = and_parts (taken.revision == revision_of found + 1) _ second.0 in
     (eqb-true _ _ first.0, eqb-true _ _ second.1)
 
@@ -140,14 +146,14 @@ begun limits taken h =
     let numbers = and_parts (taken.revision == 1) (taken.number == 1) both.0 in
     (eqb-true _ _ numbers.0, eqb-true _ _ numbers.1)
 
--- What a source has last after a change of a past, whose revision is the next one.
-pub last-changed : (keep : ℕ) (past : Past) (taken : Taken) (source : List ℕ) → taken.revision ≡ newest past + 1
-    → last_of source (sources_at (with_change keep past (change_of taken)) (newest (with_change keep past (change_of taken))))
-    ≡ cond (bytes_eq taken.source source) (noted taken) (last_of source (sources_at past (newest past)))
-last-changed keep past taken source next =
-    ap (last_of source) (sources-more keep past (change_of taken))
-    ∙ last_of-with_last source taken.source taken.number (newest past + 1) (sources_at past (newest past))
-    ∙ ap (λ r. cond (bytes_eq taken.source source) (record { number = taken.number; revision = r }) (last_of source (sources_at past (newest past)))) (sym next)
+-- A source's window after a change of a past, whose revision is the next one.
+pub window-changed : (keep : ℕ) (past : Past) (taken : Taken) (source : List ℕ) → taken.revision ≡ newest past + 1
+    → window_of source (sources_at (with_change keep past (change_of taken)) (newest (with_change keep past (change_of taken))))
+    ≡ cond (bytes_eq taken.source source) (noted taken (window_of source (sources_at past (newest past)))) (window_of source (sources_at past (newest past)))
+window-changed keep past taken source next =
+    ap (window_of source) (sources-more keep past (change_of taken))
+    ∙ window_of-with_taken source taken.source taken.number (newest past + 1) (sources_at past (newest past))
+    ∙ ap (λ r. cond (bytes_eq taken.source source) (taken_as taken.number r (window_of source (sources_at past (newest past)))) (window_of source (sources_at past (newest past)))) (sym next)
 
 module _ (state : State) (taken : Taken) (name source : List ℕ) where
   -- a change of a document that is there
@@ -165,14 +171,14 @@ module _ (state : State) (taken : Taken) (name source : List ℕ) where
       by_place (inr same) = inl same
       by_place (inl here) =
           let numbers = followed state.limits found taken next in
-          let before : last_of source (sources_of found) ≡ last_found source (find name 0 state.documents) = ap (last_found source) (sym here.0) in
+          let before : window_of source (sources_of found) ≡ window_found source (find name 0 state.documents) = ap (window_found source) (sym here.0) in
           inr (
             after,
             here.1,
             λ number old is. (some_pair_parts number taken.document old found (sym is ∙ here.0)).0,
-            last-changed state.limits.keep found.past taken source numbers.0 ∙ ap (cond (bytes_eq taken.source source) (noted taken)) before,
-            λ same. numbers.1 ∙ ap (λ (s : List ℕ). (last_of s (sources_of found)).number + 1) ((bytes_eq-Decides taken.source source).0 same)
-                ∙ ap (λ (l : LastTaken). l.number + 1) before,
+            window-changed state.limits.keep found.past taken source numbers.0 ∙ ap (λ w. cond (bytes_eq taken.source source) (noted taken w) w) before,
+            λ same. numbers.1 ∙ ap (λ (s : List ℕ). (window_of s (sources_of found)).number + 1) ((bytes_eq-Decides taken.source source).0 same)
+                ∙ ap (λ (w : Window). w.number + 1) before,
           )
 
   -- a creation
@@ -193,13 +199,13 @@ module _ (state : State) (taken : Taken) (name source : List ℕ) where
       by_place (inr same) = inl same
       by_place (inl here) =
           let numbers = begun state.limits taken begins in
-          let before : last_found source None ≡ last_found source (find name 0 state.documents) = ap (last_found source) (sym here.0) in
+          let before : window_found source None ≡ window_found source (find name 0 state.documents) = ap (window_found source) (sym here.0) in
           inr (
             after,
             here.1,
             λ number old is. let none : None ≡ Some (number, old) = sym here.0 ∙ is in absurd (cc),
-            last-changed state.limits.keep empty_past taken source numbers.0 ∙ ap (cond (bytes_eq taken.source source) (noted taken)) before,
-            λ same. numbers.1 ∙ ap (λ (l : LastTaken). l.number + 1) before,
+            window-changed state.limits.keep empty_past taken source numbers.0 ∙ ap (λ w. cond (bytes_eq taken.source source) (noted taken w) w) before,
+            λ same. numbers.1 ∙ ap (λ (w : Window). w.number + 1) before,
           )
 
   -- A command that continues a state leaves so what is found by each name.

@@ -1,5 +1,5 @@
 -- A command that the rule of acceptance takes stands from then on as its revision, and one that it answers as a retry stands already.
-use Rattle.std.proofs.Common.{◌≡◌, ◌≤◌, ℕ, zero, suc, ◌+◌, Bool, true, false, cond, ◌&&◌, List, [], ◌∷◌, ◌++◌, length, Option, Some, None, Ok, refl, sym, ap, ◌∙◌, subst, arith}
+use Rattle.std.proofs.Common.{◌≡◌, ◌≤◌, ℕ, zero, suc, ◌+◌, Bool, true, false, cond, ◌&&◌, List, [], ◌∷◌, ◌++◌, length, Option, Some, None, Ok, refl, sym, ap, ◌∙◌, subst, arith, inl, inr}
 use Rattle.std.specs.Prelude.{◌==◌, nat_lt, nat_le, bytes_eq, slice_get}
 use Rattle.std.proofs.lemmas.Bool.{and_parts, eqb-true}
 use Rattle.std.proofs.lemmas.Bool.Decides.{nat_tests}
@@ -13,13 +13,14 @@ use Rattle.delta.specs.Operation.{Operation}
 use Rattle.refusal.specs.declared.Refusal.{Refusal}
 use Rattle.refusal.specs.declared.Refusal.TheVariants.{PastEnd, CutsPair, TooHeavy, TooWide, RevisionsSpent, TooManySources, Future, TooOld, NothingToUndo, OldNumber, Gap, TooManyDocuments}
 use Rattle.revision.specs.Command.{Action, Create, Edit, Undo, Command, Taken, width_of}
-use Rattle.revision.specs.declared.sources.LastTaken.{LastTaken}
+use Rattle.revision.specs.Window.{Window, nothing_taken, taken_as, revision_in, last_revision}
 use Rattle.revision.specs.Late.{late}
 use Rattle.revision.specs.Parting.{parts_pair}
 use Rattle.revision.specs.Past.{Past, empty_past, newest, sources_at, with_change, undo_of, deltas_of, deltas_above}
-use Rattle.revision.specs.Sources.{Sources, last_of}
+use Rattle.revision.specs.Sources.{Sources, window_of}
+use Rattle.revision.proofs.CallerLemmas.{none_outside}
 use Rattle.revision.specs.State.{Limits, DocumentRecord, State, revision_of, units_of, sources_of, find, last_of_all, has_place, reaches_past, weight_after, change_of, record_by_name, set_document, grown, all_grow, fold}
-use Rattle.revision.specs.Acceptance.{Answer, Takes, Repeats, Refuses, Reply, TakenAt, AgainAt, Refused, take_on, creation, create_new, next_revision, change, edit, undo, by_number, answer, answer_to}
+use Rattle.revision.specs.Acceptance.{Answer, Takes, Repeats, Refuses, Reply, TakenAt, AgainAt, Refused, take_on, creation, create_new, next_revision, change, edit, undo, by_retry, by_number, answer, answer_to}
 use Rattle.world.specs.World.{Entry, entry_of, takens}
 use Rattle.hub.specs.Placed.{PlacedBy}
 use Rattle.session.specs.declared.reply.Reply.{Reply as Told}
@@ -29,8 +30,8 @@ use Rattle.session.specs.Reply.{rev_of}
 use Rattle.hub_desk.specs.Laws.{PlacedStands}
 use Rattle.hub_desk.specs.Standing.{Reaches, StandsIn}
 use Rattle.hub_desk.proofs.Batches.{grow_behind}
-use Rattle.hub_desk.proofs.Finding.{noted, last-changed}
-use Rattle.hub_desk.proofs.StandsOn.{StandsWhere, stands_later}
+use Rattle.hub_desk.proofs.Finding.{noted, window-changed}
+use Rattle.hub_desk.proofs.StandsOn.{StandsWhere, reaches-new, stands_later}
 
 -- what takes, or repeats, isn't refused first
 past-takes : (b : Bool) (refusal : Refusal) (next : Answer) (taken : Taken) → cond b (Refuses refusal) next ≡ Takes taken → (b ≡ false) × (next ≡ Takes taken)
@@ -42,22 +43,21 @@ past-repeats true refusal next revision is = absurd (cc (is))
 past-repeats false refusal next revision is = is
 
 -- what takes isn't a retry
-anew-takes : (b : Bool) (revision : ℕ) (next : Answer) (taken : Taken) → cond b (Repeats revision) next ≡ Takes taken → next ≡ Takes taken
-anew-takes true revision next taken is = absurd (cc (is))
-anew-takes false revision next taken is = is
+anew-takes : (found : Option ℕ) (next : Answer) (taken : Taken) → by_retry found next ≡ Takes taken → next ≡ Takes taken
+anew-takes None next taken is = is
+anew-takes (Some revision) next taken is = absurd (cc (is))
 
--- a retry has the revision of the source's last command
-again-repeats : (b : Bool) (last : ℕ) (next : Answer) (revision : ℕ) → (next ≡ Repeats revision → ⊥) → cond b (Repeats last) next ≡ Repeats revision
-    → (b ≡ true) × (last ≡ revision)
-again-repeats true last next revision never is = (refl, cc (is))
-again-repeats false last next revision never is = absurd (never is)
+-- a retry has the revision that its number made
+again-repeats : (found : Option ℕ) (next : Answer) (revision : ℕ) → (next ≡ Repeats revision → ⊥) → by_retry found next ≡ Repeats revision → found ≡ Some revision
+again-repeats None next revision never is = absurd (never is)
+again-repeats (Some made) next revision never is = cc (is)
 
 module _ (limits : Limits) (units : List Element) (sources : Sources) (new : Taken) where
   on-takes : (taken : Taken) → take_on limits units sources new ≡ Takes taken → taken ≡ new
   on-takes taken is =
       let first = past-takes (reaches_past new.delta units) PastEnd _ taken is in
       let second = past-takes (parts_pair new.delta units) CutsPair _ taken first.1 in
-      let third = past-takes (nat_lt limits.weight (weight_after units sources new)) TooHeavy _ taken second.1 in
+      let third = past-takes (nat_lt limits.weight (weight_after limits units sources new)) TooHeavy _ taken second.1 in
       let fourth = past-takes (nat_lt limits.width (width_of new)) TooWide _ taken third.1 in
       let same : Takes new ≡ Takes taken = fourth.1 in
       cc (same)
@@ -66,7 +66,7 @@ module _ (limits : Limits) (units : List Element) (sources : Sources) (new : Tak
   on-repeats revision is =
       let first = past-repeats (reaches_past new.delta units) PastEnd _ revision is in
       let second = past-repeats (parts_pair new.delta units) CutsPair _ revision first in
-      let third = past-repeats (nat_lt limits.weight (weight_after units sources new)) TooHeavy _ revision second in
+      let third = past-repeats (nat_lt limits.weight (weight_after limits units sources new)) TooHeavy _ revision second in
       let fourth : Takes new ≡ Repeats revision = past-repeats (nat_lt limits.width (width_of new)) TooWide _ revision third in
       cc (fourth)
 
@@ -98,35 +98,35 @@ module _ (state : State) (number : ℕ) (found : DocumentRecord) (command : Comm
 
   undo-takes : (taken : Taken) → undo state number found command ≡ Takes taken → (delta : List Operation) × (taken ≡ next_revision number found command delta)
   undo-takes taken is =
-      let last = last_of command.source (sources_of found) in
-      let first = past-takes (last.number == 0) NothingToUndo _ taken is in
-      let second = past-takes (nat_le last.revision found.past.floor) TooOld _ taken first.1 in
-      let delta = undo_of found.past.floor found.past.content.units (deltas_of found.past) last.revision in
+      let window = window_of command.source (sources_of found) in
+      let first = past-takes (window.number == 0) NothingToUndo _ taken is in
+      let second = past-takes (nat_le (last_revision window) found.past.floor) TooOld _ taken first.1 in
+      let delta = undo_of found.past.floor found.past.content.units (deltas_of found.past) (last_revision window) in
       (delta, change-takes delta taken second.1)
 
   undo-repeats : (revision : ℕ) → undo state number found command ≡ Repeats revision → ⊥
   undo-repeats revision is =
-      let last = last_of command.source (sources_of found) in
-      let first = past-repeats (last.number == 0) NothingToUndo _ revision is in
-      let second = past-repeats (nat_le last.revision found.past.floor) TooOld _ revision first in
-      change-repeats (undo_of found.past.floor found.past.content.units (deltas_of found.past) last.revision) revision second
+      let window = window_of command.source (sources_of found) in
+      let first = past-repeats (window.number == 0) NothingToUndo _ revision is in
+      let second = past-repeats (nat_le (last_revision window) found.past.floor) TooOld _ revision first in
+      change-repeats (undo_of found.past.floor found.past.content.units (deltas_of found.past) (last_revision window)) revision second
 
-number-takes : (last : LastTaken) (number : ℕ) (next : Answer) (taken : Taken) → by_number last number next ≡ Takes taken → next ≡ Takes taken
-number-takes last number next taken is =
-    let first = anew-takes (nat_lt 0 last.number && (number == last.number)) last.revision _ taken is in
-    let second = past-takes (nat_lt number last.number) OldNumber _ taken first in
-    (past-takes (nat_lt (last.number + 1) number) Gap next taken second.1).1
+number-takes : (window : Window) (number : ℕ) (next : Answer) (taken : Taken) → by_number window number next ≡ Takes taken
+    → (number ≡ window.number + 1) × (next ≡ Takes taken)
+number-takes window number next taken is =
+    let first = anew-takes (revision_in number window) _ taken is in
+    let second = past-takes (nat_le number window.number) OldNumber _ taken first in
+    let third = past-takes (nat_lt (window.number + 1) number) Gap next taken second.1 in
+    (next_of window.number number second.0 third.0, third.1)
+  where
+    next_of : (n number : ℕ) → nat_le number n ≡ false → nat_lt (n + 1) number ≡ false → number ≡ n + 1
+    next_of n number old gap = grind (arith, nat_tests)
 
-is_last : (last number : ℕ) → (nat_lt 0 last && (number == last)) ≡ true → number ≡ last
-is_last last number is = eqb-true number last (and_parts (nat_lt 0 last) (number == last) is).1
-
-number-repeats : (last : LastTaken) (number : ℕ) (next : Answer) (revision : ℕ) → (next ≡ Repeats revision → ⊥) → by_number last number next ≡ Repeats revision
-    → Reaches number revision last
-number-repeats last number next revision never is =
-    let both = again-repeats (nat_lt 0 last.number && (number == last.number)) last.revision _ revision
-    (λ later. never (past-repeats (nat_lt (last.number + 1) number) Gap next revision (past-repeats (nat_lt number last.number) OldNumber _ revision later))) is in
-    let same = is_last last.number number both.0 in
-    record { least = omega (arith, same); made = λ there. both.1 }
+number-repeats : (window : Window) (number : ℕ) (next : Answer) (revision : ℕ) → (next ≡ Repeats revision → ⊥) → by_number window number next ≡ Repeats revision
+    → Reaches number revision window
+number-repeats window number next revision never is =
+    inl (again-repeats (revision_in number window) _ revision
+    (λ later. never (past-repeats (nat_lt (window.number + 1) number) Gap next revision (past-repeats (nat_le number window.number) OldNumber _ revision later))) is)
 
 bytes_same : (a : List ℕ) → bytes_eq a a ≡ true
 bytes_same a = (bytes_eq-Decides a a).1 refl
@@ -195,40 +195,51 @@ none-behind [] = refl
 none-behind (first ∷ others) = none-behind others
 
 module _ (state : State) (command : Command) where
-  -- where the command's source has it last in the document of its name
-  stands-last : (taken : Taken) (at : ℕ) (after : DocumentRecord) → find command.name 0 (grown state taken).documents ≡ Some (at, after)
-      → last_of command.source (sources_of after) ≡ noted taken → command.number ≤ taken.number → StandsIn (grown state taken) command taken.revision
-  stands-last taken at after is last le =
-      subst (StandsWhere command taken.revision) (sym is)
-      (subst (Reaches command.number taken.revision) (sym last) (record { least = le; made = λ same. refl }))
+  -- where the command's source has it in its window in the document of its name
+  stands-there : (taken : Taken) (at : ℕ) (after : DocumentRecord) (before : Window) → find command.name 0 (grown state taken).documents ≡ Some (at, after)
+      → window_of command.source (sources_of after) ≡ noted taken before → Reaches command.number taken.revision (noted taken before)
+      → StandsIn (grown state taken) command taken.revision
+  stands-there taken at after before is window reaches =
+      subst (StandsWhere command taken.revision) (sym is) (subst (Reaches command.number taken.revision) (sym window) reaches)
 
-  last-is : (past : Past) (taken : Taken) → taken.source ≡ command.source → taken.revision ≡ newest past + 1
-      → last_of command.source (sources_at (with_change state.limits.keep past (change_of taken)) (newest (with_change state.limits.keep past (change_of taken)))) ≡ noted taken
-  last-is past taken source next =
-      last-changed state.limits.keep past taken command.source next
-      ∙ ap (λ b. cond b (noted taken) (last_of command.source (sources_at past (newest past))))
+  window-is : (past : Past) (taken : Taken) → taken.source ≡ command.source → taken.revision ≡ newest past + 1
+      → window_of command.source (sources_at (with_change state.limits.keep past (change_of taken)) (newest (with_change state.limits.keep past (change_of taken))))
+      ≡ noted taken (window_of command.source (sources_at past (newest past)))
+  window-is past taken source next =
+      window-changed state.limits.keep past taken command.source next
+      ∙ ap (λ b. cond b (noted taken (window_of command.source (sources_at past (newest past)))) (window_of command.source (sources_at past (newest past))))
       (ap (λ (s : List ℕ). bytes_eq s command.source) source ∙ bytes_same command.source)
 
   -- a change of a document that is there
   stands-changed : (number : ℕ) (found : DocumentRecord) (delta : List Operation) → find command.name 0 state.documents ≡ Some (number, found)
+      → command.number ≡ (window_of command.source (sources_of found)).number + 1
       → StandsIn (grown state (next_revision number found command delta)) command (revision_of found + 1)
-  stands-changed number found delta is =
+  stands-changed number found delta is next =
       let taken = next_revision number found command delta in
       let there = found-at command.name state.documents number found is in
       let after = record found { past = with_change state.limits.keep found.past (change_of taken) } in
-      stands-last taken number after
+      stands-there taken number after (window_of command.source (sources_of found))
       (ap (λ (d : Option DocumentRecord). find command.name 0 (set_document number (record_by_name state.limits.keep d taken None) state.documents)) there.0 ∙ there.1 after refl)
-      (last-is found.past taken refl refl) (omega arith)
+      (window-is found.past taken refl refl) (reaches-new command.number (revision_of found + 1) (window_of command.source (sources_of found)) next)
 
   -- a creation
   stands-created : (delta : List Operation) → find command.name 0 state.documents ≡ None → command.number ≤ 1 → StandsIn (grown state (creation state command delta)) command 1
   stands-created delta none le =
       let taken = creation state command delta in
       let after : DocumentRecord = record { name = command.name; past = with_change state.limits.keep empty_past (change_of taken) } in
-      stands-last taken (0 + length state.documents) after
+      stands-there taken (0 + length state.documents) after nothing_taken
       (ap (λ (d : Option DocumentRecord). find command.name 0 (set_document (length state.documents) (record_by_name state.limits.keep d taken (Some command.name)) state.documents))
       (none-behind state.documents) ∙ created-at command.name 0 state.documents after none refl)
-      (last-is empty_past taken refl refl) le
+      (window-is empty_past taken refl refl) (first-reaches command.number le)
+    where
+      -- the number is the first one, or below the window
+      first-reaches : (number : ℕ) → number ≤ 1 → Reaches number 1 (taken_as 1 1 nothing_taken)
+      first-reaches zero le = inr (none_outside (taken_as 1 1 nothing_taken) 0 (λ inside. absurd (omega (arith, inside.above, latest_long))), omega arith)
+        where
+          latest_long : length (taken_as 1 1 nothing_taken).revisions ≡ 1
+          latest_long = refl
+      first-reaches (suc zero) le = reaches-new 1 1 nothing_taken refl
+      first-reaches (suc (suc number)) le = absurd (omega (arith, le))
 
   created-takes : (delta : List Operation) (taken : Taken) → create_new state command delta ≡ Takes taken → (command.number ≤ 1) × (taken ≡ creation state command delta)
   created-takes delta taken is =
@@ -245,9 +256,10 @@ module _ (state : State) (command : Command) where
       (past-repeats (nat_le state.limits.docs (length state.documents)) TooManyDocuments _ revision (past-repeats (nat_lt 1 command.number) Gap _ revision is))
 
   changed-by : (found : ℕ × DocumentRecord) (taken : Taken) → find command.name 0 state.documents ≡ Some found
+      → command.number ≡ (window_of command.source (sources_of found.1)).number + 1
       → (delta : List Operation) × (taken ≡ next_revision found.0 found.1 command delta) → StandsIn (grown state taken) command taken.revision
-  changed-by found taken is (delta, same) =
-      subst (λ (t : Taken). StandsIn (grown state t) command t.revision) (sym same) (stands-changed found.0 found.1 delta is)
+  changed-by found taken is next (delta, same) =
+      subst (λ (t : Taken). StandsIn (grown state t) command t.revision) (sym same) (stands-changed found.0 found.1 delta is next)
 
   taken-to : (action : Action) (there : Option (ℕ × DocumentRecord)) (taken : Taken) → find command.name 0 state.documents ≡ there
       → answer_to state command action there ≡ Takes taken → StandsIn (grown state taken) command taken.revision
@@ -255,16 +267,15 @@ module _ (state : State) (command : Command) where
       let made = created-takes delta taken is in
       subst (λ (t : Taken). StandsIn (grown state t) command t.revision) (sym made.1) (stands-created delta none made.0)
   taken-to (Create delta) (Some found) taken some is =
-      let last = last_of command.source (sources_of found.1) in
-      absurd (cc (anew-takes (nat_lt 0 last.number && (command.number == last.number)) last.revision _ taken is))
+      absurd (cc (anew-takes (revision_in command.number (window_of command.source (sources_of found.1))) _ taken is))
   taken-to (Edit base delta) None taken none is = absurd (cc (is))
   taken-to (Edit base delta) (Some found) taken some is =
-      changed-by found taken some
-      (edit-takes state found.0 found.1 command base delta taken (number-takes (last_of command.source (sources_of found.1)) command.number _ taken is))
+      let number = number-takes (window_of command.source (sources_of found.1)) command.number _ taken is in
+      changed-by found taken some number.0 (edit-takes state found.0 found.1 command base delta taken number.1)
   taken-to Undo None taken none is = absurd (cc (is))
   taken-to Undo (Some found) taken some is =
-      changed-by found taken some
-      (undo-takes state found.0 found.1 command taken (number-takes (last_of command.source (sources_of found.1)) command.number _ taken is))
+      let number = number-takes (window_of command.source (sources_of found.1)) command.number _ taken is in
+      changed-by found taken some number.0 (undo-takes state found.0 found.1 command taken number.1)
 
   stands_taken : (taken : Taken) → answer state command ≡ Takes taken → StandsIn (grown state taken) command taken.revision
   stands_taken taken is = taken-to command.action (find command.name 0 state.documents) taken refl is
@@ -273,16 +284,13 @@ module _ (state : State) (command : Command) where
       → StandsWhere command revision there
   again-to (Create delta) None revision is = absurd (created-repeats delta revision is)
   again-to (Create delta) (Some found) revision is =
-      let last = last_of command.source (sources_of found.1) in
-      let both = again-repeats (nat_lt 0 last.number && (command.number == last.number)) last.revision _ revision (λ never. cc (never)) is in
-      let same = is_last last.number command.number both.0 in
-      record { least = omega (arith, same); made = λ there. both.1 }
+      inl (again-repeats (revision_in command.number (window_of command.source (sources_of found.1))) _ revision (λ never. cc (never)) is)
   again-to (Edit base delta) None revision is = absurd (cc (is))
   again-to (Edit base delta) (Some found) revision is =
-      number-repeats (last_of command.source (sources_of found.1)) command.number _ revision (edit-repeats state found.0 found.1 command base delta revision) is
+      number-repeats (window_of command.source (sources_of found.1)) command.number _ revision (edit-repeats state found.0 found.1 command base delta revision) is
   again-to Undo None revision is = absurd (cc (is))
   again-to Undo (Some found) revision is =
-      number-repeats (last_of command.source (sources_of found.1)) command.number _ revision (undo-repeats state found.0 found.1 command revision) is
+      number-repeats (window_of command.source (sources_of found.1)) command.number _ revision (undo-repeats state found.0 found.1 command revision) is
 
   stands_again : (revision : ℕ) → answer state command ≡ Repeats revision → StandsIn state command revision
   stands_again revision is = again-to command.action (find command.name 0 state.documents) revision is

@@ -1,15 +1,16 @@
 -- What follows where a command stands in a state: each law is promised by a function of `laws`.
-use Rattle.std.specs.Prelude.{◌≡◌, ◌⊎◌, ◌≤◌, ◌<◌, ℕ, true, List, Some, Ok, Any}
+use Rattle.std.specs.Prelude.{◌≡◌, ◌⊎◌, ◌≤◌, ◌<◌, ℕ, true, List, Some, None, Ok, Any}
 use mathlib.Core.List.{IsPrefix}
 use Rattle.refusal.specs.declared.Refusal.{Refusal}
 use Rattle.refusal.specs.declared.Refusal.TheVariants.{Exists, OldNumber}
+use Rattle.revision.specs.Window.{revision_in}
 use Rattle.revision.specs.Command.{Action, Create, Edit, Undo, Command, Taken}
 use Rattle.revision.specs.State.{State, DocumentRecord, find, all_grow, fold}
 use Rattle.revision.specs.Acceptance.{Repeats, Refuses, answer}
 use Rattle.revision.specs.Agree.{Agree}
 use Rattle.recovery.specs.Found.{commands_of}
 use Rattle.world.specs.Board.{Ticket}
-use Rattle.world.specs.Law.{last_held}
+use Rattle.world.specs.Law.{window_held}
 use Rattle.hub.specs.Placed.{StandsFirst}
 use Rattle.session.specs.declared.reply.Reply.{Reply}
 use Rattle.session.specs.Alone.{answered}
@@ -19,17 +20,18 @@ use Rattle.session.specs.Reply.{rev_of}
 use Rattle.hub_desk.specs.AtHub.{Desk, PassesAtHub}
 use Rattle.hub_desk.specs.Standing.{StandsIn, AllStand}
 
--- why a command is refused whose number is below its source's last one: its document exists, or the number is old
+-- why a command is refused whose number is below its source's window: its document exists, or the number is old
 abbrev pub refusal_of_old : Action → Refusal
 refusal_of_old (Create delta) = Exists
 refusal_of_old (Edit base delta) = OldNumber
 refusal_of_old Undo = OldNumber
 
--- Sent again it isn't taken: it is a retry with that revision where its number is its source's last one, and refused where it is lower.
+-- Sent again it isn't taken: it is a retry with that revision where its number is in its source's window, and refused where it is lower.
 abbrev pub IsNotTakenAgain : Type 0
 IsNotTakenAgain = (state : State) (command : Command) (revision : ℕ) → 1 ≤ command.number → StandsIn state command revision
-    → (((last_held state command).number ≡ command.number) × (answer state command ≡ Repeats revision))
-    ⊎ ((command.number < (last_held state command).number) × (answer state command ≡ Refuses (refusal_of_old command.action)))
+    → ((revision_in command.number (window_held state command) ≡ Some revision) × (answer state command ≡ Repeats revision))
+    ⊎ ((revision_in command.number (window_held state command) ≡ None) × (command.number < (window_held state command).number)
+    × (answer state command ≡ Refuses (refusal_of_old command.action)))
 
 -- Further commands that continue the state leave it there,
 abbrev pub StandsLater : Type 0
@@ -41,18 +43,18 @@ abbrev pub StandsAlike : Type 0
 StandsAlike = (there state : State) (command : Command) (revision : ℕ) → Agree there state → StandsIn state command revision
     → StandsIn there command revision
 
--- What was taken is of this command: of its source, with its number, in the document that has its name in the state; and where no later one
--- of its source was taken there, it made this revision.
+-- What was taken is of this command: of its source, with its number, in the document that has its name in the state; and where its number is
+-- in the source's window there as this revision, it made this revision.
 pub record IsTakenOf (state : State) (command : Command) (revision : ℕ) (taken : Taken) : Type 0 where
   pub source : taken.source ≡ command.source
   pub number : taken.number ≡ command.number
   pub document : (found : DocumentRecord) × (find command.name 0 state.documents ≡ Some (taken.document, found))
-  pub made : (last_held state command).number ≡ command.number → taken.revision ≡ revision
+  pub made : revision_in command.number (window_held state command) ≡ Some revision → taken.revision ≡ revision
 
 -- Where it stands after commands, and the state before them hadn't its number, it is one of them.
 abbrev pub WasTakenAmong : Type 0
 WasTakenAmong = (state : State) (commands : List Taken) (command : Command) (revision : ℕ) → all_grow state commands ≡ true
-    → (last_held state command).number < command.number → StandsIn (fold state commands) command revision
+    → (window_held state command).number < command.number → StandsIn (fold state commands) command revision
     → Any (IsTakenOf (fold state commands) command revision) commands
 
 -- A command whose ticket's order is a prefix of commands that continue the start stands in what these make, as the revision of its reply.

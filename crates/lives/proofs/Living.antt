@@ -11,12 +11,13 @@ use Rattle.revision.specs.Agree.{DocumentsAgree, PlacesAgree, Agree}
 use Rattle.world.specs.Board.{Board, Ticket}
 use Rattle.world.specs.World.{Entry, takens, is_of, last_sent}
 use Rattle.world.specs.Shown.{Shown, shown, all_shown}
-use Rattle.world.specs.Law.{IsSent, revision_named, last_found, last_held, HasTaken}
+use Rattle.revision.specs.Window.{revision_in}
+use Rattle.world.specs.Law.{IsSent, revision_named, window_found, window_held, HasTaken}
 use Rattle.lives.specs.declared.calls.Call.{Call}
 use Rattle.lives.specs.Schedule.{at_rest, schedule, acked, commands_in, AreNumbered, IsAllSettled}
 use Rattle.lives.specs.Lives.{counted_from, Life, Opens, Drives, Lives, First, Crashed, IsPromised, AllLives, OneLife, LivesGoOn, RunGoesOn}
 use Rattle.world.specs.steps.Showing.{grown_shown, fold_shown}
-use Rattle.world.specs.steps.Placing.{last_in, AllPlaced, after}
+use Rattle.world.specs.steps.Placing.{window_in, AllPlaced, after}
 use Rattle.world.specs.steps.Holding.{Stands, Counts, WasSent, StandsSettled, IsConsistent}
 use Rattle.world.proofs.CallerLemmas.{shown-fold, fold_shown-append, placed-take, stands-take, begun-holds, run-holds, acks-stay, acks-one_revision, taken-once, nothing-taken_back, taken-is_again, state-is_fold}
 use Rattle.lives.proofs.Scheduling.{run_is_schedule}
@@ -38,8 +39,8 @@ kept_again start order n a b revision same (inl there) =
       ((sym same.0 ∙ made.0.0, sym same.1 ∙ made.0.1, sym same.2 ∙ made.0.2), made.1),
     )
 kept_again start order n a b revision same (inr held) =
-    let alike : last_held start a ≡ last_held start b = λ i. last_found (same.1 i) (find (same.0 i) 0 start.documents) in
-    inr (sym alike ∙ (held ∙ (λ i. record { number = same.2 i; revision = revision })))
+    let alike : window_held start a ≡ window_held start b = λ i. window_found (same.1 i) (find (same.0 i) 0 start.documents) in
+    inr (ap (λ n. revision_in n (window_held start b)) (sym same.2) ∙ (ap (revision_in a.number) (sym alike) ∙ held))
 
 -- what is promised holds of a world at rest
 promises : (board : Board Entry) (tickets acks : List Ticket) (sent : List Command) (composed : List (ℕ × ℕ)) → IsConsistent (at_rest board tickets acks sent composed)
@@ -99,7 +100,7 @@ take-behind {A = A} (x ∷ others) more n =
 stands-before : (documents : List Shown) (first more : List Entry) (ticket : Ticket) → Stands documents first ticket → Stands documents (first ++ more) ticket
 stands-before documents first more ticket stands = record {
   within = omega (arith, stands.within, length-append first more);
-  last = ap (λ (l : List Entry). last_in ticket.command.name ticket.command.source (after documents l)) (take-append-le ticket.length first more stands.within) ∙ stands.last;
+  made = ap (λ (l : List Entry). revision_in ticket.command.number (window_in ticket.command.name ticket.command.source (after documents l))) (take-append-le ticket.length first more stands.within) ∙ stands.made;
 }
 
 -- and behind what stood before
@@ -107,8 +108,8 @@ stands-behind : (documents : List Shown) (first more : List Entry) (ticket : Tic
     → Stands documents (first ++ more) (record ticket { length = length first + ticket.length })
 stands-behind documents first more ticket stands = record {
   within = omega (arith, stands.within, length-append first more);
-  last = ap (λ (l : List Entry). last_in ticket.command.name ticket.command.source (after documents l)) (take-behind first more ticket.length)
-      ∙ (ap (last_in ticket.command.name ticket.command.source) (after-append documents first (take ticket.length more)) ∙ stands.last);
+  made = ap (λ (l : List Entry). revision_in ticket.command.number (window_in ticket.command.name ticket.command.source (after documents l))) (take-behind first more ticket.length)
+      ∙ (ap (λ d. revision_in ticket.command.number (window_in ticket.command.name ticket.command.source d)) (after-append documents first (take ticket.length more)) ∙ stands.made);
 }
 
 -- states that agree show the same

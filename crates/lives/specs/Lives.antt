@@ -8,7 +8,8 @@ use Rattle.revision.specs.Agree.{Agree}
 use Rattle.world.specs.Board.{Board, Ticket, begun_board}
 use Rattle.world.specs.World.{Entry, takens, last_sent}
 use Rattle.world.specs.Shown.{all_shown}
-use Rattle.world.specs.Law.{IsSent, revision_named, last_held, HasTaken}
+use Rattle.revision.specs.Window.{longest}
+use Rattle.world.specs.Law.{IsSent, revision_named, window_held, HasTaken}
 use Rattle.lives.specs.declared.calls.Call.{Call}
 use Rattle.lives.specs.declared.calls.Answer.{Answer}
 use Rattle.recovery.specs.Found.{FoundAs}
@@ -54,14 +55,17 @@ pub record IsPromised (start : State) (order : List Entry) (settled : ℕ) (stat
   pub kept : All (λ (ack : Ticket). HasTaken start (take settled order) ack.command (revision_named ack.reply)) acks
   -- None is taken twice: no two places of the order have one number of a source in a document, and none has one that the start had.
   pub apart : AllPairs (λ (a b : Entry). IsSent a.command b.command → ⊥) order
-  pub anew : All (λ (e : Entry). (last_held start e.command).number < e.command.number) order
+  pub anew : All (λ (e : Entry). (window_held start e.command).number < e.command.number) order
   -- None changes its revision: all acknowledgements of one number name one.
   pub one_revision : AllPairs (λ (a b : Ticket). IsSent a.command b.command → revision_named a.reply ≡ revision_named b.reply) acks
-  -- A number that the order or the start has, and that is the last one its source sent, is answered as a retry, with its revision.
+  -- A number that the order or the start has, and that is one of the last that its source sent, as many as a window has at most, is answered
+  -- as a retry, with its revision.
   pub again : (command : Command) (revision : ℕ) → 1 ≤ command.number → HasTaken start order command revision
-      → last_sent command.name command.source sent ≤ command.number → answer state command ≡ Repeats revision
-  -- What was acknowledged and comes again is answered as a retry, with its revision, unless its source has sent a greater number since.
-  pub stays : All (λ (ack : Ticket). (command : Command) → IsSent ack.command command → 1 ≤ command.number → last_sent command.name command.source sent ≤ command.number
+      → last_sent command.name command.source sent < command.number + longest → answer state command ≡ Repeats revision
+  -- What was acknowledged and comes again is answered as a retry, with its revision, unless its source has sent as many greater numbers since
+  -- as a window has at most.
+  pub stays : All (λ (ack : Ticket). (command : Command) → IsSent ack.command command → 1 ≤ command.number
+      → last_sent command.name command.source sent < command.number + longest
       → answer state command ≡ Repeats (revision_named ack.reply)) acks
   -- The state shows what the order makes of the start.
   pub limits : state.limits ≡ start.limits

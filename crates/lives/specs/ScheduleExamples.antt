@@ -20,7 +20,7 @@ use Rattle.lives.specs.Lives.{counted_from}
 
 -- a store without documents
 abbrev empty_store : State
-empty_store = record { limits = record { docs = 2; sources = 4; weight = 1000; width = 237; keep = 2 }; documents = [] }
+empty_store = record { limits = record { docs = 2; sources = 4; weight = 1000; width = 237; keep = 2; retry = 8 }; documents = [] }
 
 abbrev ask : ℕ → Action → Command
 ask number action = record { name = 100 ∷ []; source = 97 ∷ []; number = number; action = action }

@@ -5,11 +5,11 @@ use Rattle.std.proofs.lemmas.Nat.{from_le_bytes-to_le_bytes_4}
 use Rattle.std.proofs.lemmas.List.{take_at, take_all, take-take, drop-take, drop-drop, drop_more, get_or-take}
 use Rattle.journal.specs.Area.{open_gate, open_record}
 use Rattle.history.specs.Cell.{Cell}
-use Rattle.milestone.specs.CellSpelling.{cell_body, IsCell}
-use Rattle.milestone.specs.OneCell.{bytes_at, HoldsOpenCell, HoldsCell}
+use Rattle.milestone.specs.CellSpelling.{Format, cell_body_in, IsCellIn}
+use Rattle.milestone.specs.OneCell.{bytes_at, HoldsOpenCellIn, HoldsCellIn}
 use Rattle.milestone.proofs.Holding.{fits_there}
 
-module _ (q size number : ℕ) (content head : List ℕ) (large : 256 ≤ size) (small : size ≤ 16777216) (within : q + size ≤ length content) (read : head ≡ take 5 (drop q content)) where
+module _ (format : Format) (q size number : ℕ) (content head : List ℕ) (large : 256 ≤ size) (small : size ≤ 16777216) (within : q + size ≤ length content) (read : head ≡ take 5 (drop q content)) where
   heads : take 5 (bytes_at q size content) ≡ head
   heads = take-take 5 size (drop q content) (omega (arith, large)) ∙ sym read
 
@@ -17,7 +17,7 @@ module _ (q size number : ℕ) (content head : List ℕ) (large : 256 ≤ size) 
   gate_read = sym (get_or-take 5 (bytes_at q size content) 0 0 (omega arith)) ∙ ap (λ (l : List ℕ). get_or l 0 0) heads
 
   -- a cell whose gate isn't open holds nothing
-  pub closed_read : get_or head 0 0 ≢ open_gate → HoldsCell q size number content None
+  pub closed_read : get_or head 0 0 ≢ open_gate → HoldsCellIn format q size number content None
   closed_read shut = λ is. shut (sym gate_read ∙ is)
 
   -- what is behind the length
@@ -34,21 +34,21 @@ module _ (q size number : ℕ) (content head : List ℕ) (large : 256 ≤ size) 
     head_is = drop_more head 0 0 (omega (arith, head_long)) ∙ ap (λ g. g ∷ drop 1 head) gate ∙ ap (λ (l : List ℕ). open_gate ∷ l) (sym (take_all 4 (drop 1 head) (omega (arith, length-drop 1 head, head_long))) ∙ spelled)
 
     -- of a document that the cell holds this is the body's length
-    is_length : (cell : Cell) → HoldsOpenCell number (bytes_at q size content) cell → len ≡ length (cell_body number cell)
+    is_length : (cell : Cell) → HoldsOpenCellIn format number (bytes_at q size content) cell → len ≡ length (cell_body_in format number cell)
     is_length cell holds =
-        let short = fits_there q size number content cell holds in
-        let first : head ≡ open_gate ∷ to_le_bytes w32 (length (cell_body number cell)) =
+        let short = fits_there format q size number content cell holds in
+        let first : head ≡ open_gate ∷ to_le_bytes w32 (length (cell_body_in format number cell)) =
         sym heads ∙ ap (λ (l : List ℕ). take 5 l) holds.split ∙ refl in
-        let same : to_le_bytes w32 len ≡ to_le_bytes w32 (length (cell_body number cell)) = ap (λ (l : List ℕ). drop 1 l) (sym head_is ∙ first) in
-        sym (from_le_bytes-to_le_bytes_4 len low) ∙ ap (λ (l : List ℕ). from_le_bytes w32 l) same ∙ from_le_bytes-to_le_bytes_4 (length (cell_body number cell)) (omega (arith, short, small))
+        let same : to_le_bytes w32 len ≡ to_le_bytes w32 (length (cell_body_in format number cell)) = ap (λ (l : List ℕ). drop 1 l) (sym head_is ∙ first) in
+        sym (from_le_bytes-to_le_bytes_4 len low) ∙ ap (λ (l : List ℕ). from_le_bytes w32 l) same ∙ from_le_bytes-to_le_bytes_4 (length (cell_body_in format number cell)) (omega (arith, short, small))
 
-    open_cell : ((cell : Cell) → ¬ HoldsOpenCell number (bytes_at q size content) cell) → (cell : Option Cell) → ¬ HoldsCell q size number content cell
+    open_cell : ((cell : Cell) → ¬ HoldsOpenCellIn format number (bytes_at q size content) cell) → (cell : Option Cell) → ¬ HoldsCellIn format q size number content cell
     open_cell none None holds = holds (gate_read ∙ gate)
     open_cell none (Some cell) holds = none cell holds
 
     -- a length that passes the end
-    pub long_damaged : size - 5 < len → (cell : Option Cell) → ¬ HoldsCell q size number content cell
-    long_damaged long = open_cell (λ cell holds. absurd (omega (arith, long, is_length cell holds, fits_there q size number content cell holds)))
+    pub long_damaged : size - 5 < len → (cell : Option Cell) → ¬ HoldsCellIn format q size number content cell
+    long_damaged long = open_cell (λ cell holds. absurd (omega (arith, long, is_length cell holds, fits_there format q size number content cell holds)))
 
     module _ (fits : len ≤ size - 5) (body : List ℕ) (body_read : body ≡ take len (drop (q + 5) content)) where
       body_there : take len (drop 5 (bytes_at q size content)) ≡ body
@@ -58,12 +58,12 @@ module _ (q size number : ℕ) (content head : List ℕ) (large : 256 ≤ size) 
       body_long = omega (arith, ap (length {A = ℕ}) body_read, length-take len (drop (q + 5) content), length-drop (q + 5) content, within, large, fits)
 
       -- a body that spells no milestone
-      pub body_damaged : ((cell : Cell) → IsCell number cell → body ≡ cell_body number cell → ⊥) → (cell : Option Cell) → ¬ HoldsCell q size number content cell
+      pub body_damaged : ((cell : Cell) → IsCellIn format number cell → body ≡ cell_body_in format number cell → ⊥) → (cell : Option Cell) → ¬ HoldsCellIn format q size number content cell
       body_damaged none = open_cell (λ cell holds.
-          let rest : drop 5 (bytes_at q size content) ≡ cell_body number cell ++ holds.rest = ap (λ (l : List ℕ). drop 5 l) holds.split in
-          none cell holds.is (sym body_there ∙ ap (λ (l : List ℕ). take len l) rest ∙ take_at (cell_body number cell) holds.rest len (sym (is_length cell holds))))
+          let rest : drop 5 (bytes_at q size content) ≡ cell_body_in format number cell ++ holds.rest = ap (λ (l : List ℕ). drop 5 l) holds.split in
+          none cell holds.is (sym body_there ∙ ap (λ (l : List ℕ). take len l) rest ∙ take_at (cell_body_in format number cell) holds.rest len (sym (is_length cell holds))))
 
-      pub body_found : (cell : Cell) → IsCell number cell → body ≡ cell_body number cell → HoldsCell q size number content (Some cell)
+      pub body_found : (cell : Cell) → IsCellIn format number cell → body ≡ cell_body_in format number cell → HoldsCellIn format q size number content (Some cell)
       body_found cell is same =
           let whole : drop 5 (bytes_at q size content) ≡ body ++ drop len (drop 5 (bytes_at q size content)) =
           sym (take-append-drop len (drop 5 (bytes_at q size content))) ∙ ap (λ (l : List ℕ). l ++ drop len (drop 5 (bytes_at q size content))) body_there in

@@ -18,15 +18,16 @@ use Rattle.delta.specs.Gaps.{Gaps, End, Gap, counted, apply, units_below}
 use Rattle.delta.specs.Normal.{nf, IsNormal}
 use Rattle.delta.proofs.CallerLemmas.{nf-same, apply-nf, base_of-nf, units_below-counted}
 use Rattle.revision.specs.Name.{is_name_byte, is_name, is_source_name}
-use Rattle.revision.specs.declared.sources.LastTaken.{LastTaken}
+use Rattle.revision.specs.Window.{Window}
 use Rattle.revision.specs.Sources.{Sources, count_of}
 use Rattle.revision.specs.Spellable.{IsSpellable}
 use Rattle.revision.specs.State.{last_of_all}
 use Rattle.journal.specs.Spelling.{number, text16}
 use Rattle.journal.specs.DeltaSpelling.{delta}
 use Rattle.journal.proofs.CallerLemmas.{delta-append_same, one_text_spelling, one_number32_spelling, one_number64_spelling}
-use Rattle.milestone.specs.CellSpelling.{inserts_of, source, sources}
-use Rattle.milestone.specs.steps.Reading.{BeginsNone, IsWithin, IsContent, content_bytes, IsSource, AreSources, sources_bytes}
+use Rattle.milestone.specs.CellSpelling.{Format, inserts_of, window, source, sources}
+use Rattle.milestone.specs.steps.Reading.{BeginsNone, IsAbove, IsWithin, IsContent, content_bytes, IsWindowIn, IsSource, AreSources, sources_bytes}
+use Rattle.milestone.proofs.Windows.{one_window}
 use Rattle.milestone.proofs.Order.{above, IsLast, sorted_above, from_T}
 
 -- ---- names
@@ -82,6 +83,15 @@ other_number64 high m bytes rest low fits there isnt n other is spelled =
     let same = one_number64_spelling m n rest other fits (omega (arith, low, is.1)) (sym there ∙ spelled) in
     isnt (subst (IsWithin high) (sym same.0) is)
 
+-- a number above another one
+pub above_none : (low high : ℕ) (bytes : List ℕ) → BeginsNone (number w64) (IsWithin high) bytes → BeginsNone (number w64) (IsAbove low high) bytes
+above_none low high bytes none n rest is spelled = none n rest (omega (arith, is.0), is.1) spelled
+
+pub other_above : (low high m : ℕ) (bytes rest : List ℕ) → high < 2 ^ 64 → m < 2 ^ 64 → bytes ≡ number w64 m ++ rest → m ≤ low → BeginsNone (number w64) (IsAbove low high) bytes
+other_above low high m bytes rest few fits there isnt n other is spelled =
+    let same = one_number64_spelling m n rest other fits (omega (arith, few, is.1)) (sym there ∙ spelled) in
+    absurd (omega (arith, isnt, is.0, same.0))
+
 -- ---- content
 
 -- operations that stand on no unit insert alone
@@ -125,115 +135,102 @@ read_content operations units bytes rest is there none made =
 
 -- ---- sources
 
--- the parts of a source's bytes, one by one
-pub source_parts : (s : List ℕ × LastTaken) (x : List ℕ) → source s ++ x ≡ text16 s.0 ++ (number w64 s.1.number ++ (number w64 s.1.revision ++ x))
+-- the parts of a source's bytes
+pub source_parts : (format : Format) (s : List ℕ × Window) (x : List ℕ) → source format s ++ x ≡ text16 s.0 ++ (window format s.1 ++ x)
 unfolding source
-source_parts s x = simp append_assoc
+source_parts format s x = append_assoc (text16 s.0) (window format s.1) x
 
-pub source_within : (revision : ℕ) (s : List ℕ × LastTaken) → IsSource revision s → IsWithin last_of_all s.1.number × IsWithin revision s.1.revision
-source_within revision s is =
-    let three = and_parts (nat_le 1 s.1.number && nat_le s.1.number last_of_all && nat_le 1 s.1.revision) (nat_le s.1.revision revision) is.last in
-    let two = and_parts (nat_le 1 s.1.number && nat_le s.1.number last_of_all) (nat_le 1 s.1.revision) three.0 in
-    let one = and_parts (nat_le 1 s.1.number) (nat_le s.1.number last_of_all) two.0 in
-    ((leb-true _ _ one.0, leb-true _ _ one.1), (leb-true _ _ two.1, leb-true _ _ three.1))
+-- one that was read
+pub source_read : (format : Format) (revision : ℕ) (name : List ℕ) (w : Window) (bytes named rest : List ℕ) → is_source_name name ≡ true → bytes ≡ text16 name ++ named
+    → IsWindowIn format revision w × (named ≡ window format w ++ rest) → IsSource format revision (name, w) × (bytes ≡ source format (name, w) ++ rest)
+source_read format revision name w bytes named rest is there read = (
+  record { named = is; window = read.0 },
+  there ∙ ap (λ (l : List ℕ). text16 name ++ l) read.1 ∙ sym (source_parts format (name, w) rest),
+)
 
-pub source_is : (revision : ℕ) (s : List ℕ × LastTaken) → is_source_name s.0 ≡ true → IsWithin last_of_all s.1.number → IsWithin revision s.1.revision → IsSource revision s
-source_is revision s named numbered revised = record {
-  named = named;
-  last = and_from _ _ (and_from _ _ (and_from _ _ (le-leb _ _ numbered.0) (le-leb _ _ numbered.1)) (le-leb _ _ revised.0)) (le-leb _ _ revised.1);
-}
-
-module _ (revision : ℕ) (low : revision < 2 ^ 64) where
-  -- the name, the number and the revision of a source that begins bytes whose name, and whose number, are known
-  pub behind_name : (bytes name rest : List ℕ) (s : List ℕ × LastTaken) (x : List ℕ) → is_source_name name ≡ true → bytes ≡ text16 name ++ rest → IsSource revision s → bytes ≡ source s ++ x
-      → (name ≡ s.0) × (rest ≡ number w64 s.1.number ++ (number w64 s.1.revision ++ x))
+module _ (format : Format) (revision : ℕ) (low : revision < 2 ^ 64) where
+  -- the name and the window of a source that begins bytes whose name is known
+  pub behind_name : (bytes name rest : List ℕ) (s : List ℕ × Window) (x : List ℕ) → is_source_name name ≡ true → bytes ≡ text16 name ++ rest → IsSource format revision s
+      → bytes ≡ source format s ++ x → (name ≡ s.0) × (rest ≡ window format s.1 ++ x)
   behind_name bytes name rest s x named there is spelled =
-      one_name 32 name s.0 rest _ (omega arith) named is.named (sym there ∙ spelled ∙ source_parts s x)
+      one_name 32 name s.0 rest _ (omega arith) named is.named (sym there ∙ spelled ∙ source_parts format s x)
 
-  pub behind_number : (bytes rest : List ℕ) (n : ℕ) (s : List ℕ × LastTaken) (x : List ℕ) → n < 2 ^ 64 → bytes ≡ number w64 n ++ rest → IsSource revision s
-      → bytes ≡ number w64 s.1.number ++ (number w64 s.1.revision ++ x) → (n ≡ s.1.number) × (rest ≡ number w64 s.1.revision ++ x)
-  behind_number bytes rest n s x fits there is spelled =
-      one_number64_spelling n s.1.number rest _ fits (omega (arith, (source_within revision s is).0.1)) (sym there ∙ spelled)
-
-  one_source : (a b : List ℕ × LastTaken) (x y : List ℕ) → IsSource revision a → IsSource revision b → source a ++ x ≡ source b ++ y → (a ≡ b) × (x ≡ y)
+  one_source : (a b : List ℕ × Window) (x y : List ℕ) → IsSource format revision a → IsSource format revision b → source format a ++ x ≡ source format b ++ y → (a ≡ b) × (x ≡ y)
   one_source a b x y is_a is_b same =
-      let in_a = source_within revision a is_a in
-      let in_b = source_within revision b is_b in
-      let names = behind_name (source a ++ x) a.0 _ b y is_a.named (source_parts a x) is_b same in
-      let numbers = behind_number _ _ a.1.number b y (omega (arith, in_a.0.1)) refl is_b names.1 in
-      let revisions = one_number64_spelling a.1.revision b.1.revision x y (omega (arith, low, in_a.1.1)) (omega (arith, low, in_b.1.1)) numbers.1 in
-      (λ i. (names.0 i, record { number = numbers.0 i; revision = revisions.0 i }), revisions.1)
+      let names = behind_name (source format a ++ x) a.0 _ b y is_a.named (source_parts format a x) is_b same in
+      let windows = one_window format revision low a.1 b.1 x y is_a.window is_b.window names.1 in
+      (λ i. (names.0 i, windows.0 i), windows.1)
 
   -- a list of sources whose bytes begin those of another one begins the other one
-  prefix : (ps qs : List (List ℕ × LastTaken)) (x y : List ℕ) → AllByRecursion (IsSource revision) ps → AllByRecursion (IsSource revision) qs
-      → flat_map source ps ++ x ≡ flat_map source qs ++ y → length ps ≤ length qs → (more : List (List ℕ × LastTaken)) × (qs ≡ ps ++ more) × (x ≡ flat_map source more ++ y)
+  prefix : (ps qs : List (List ℕ × Window)) (x y : List ℕ) → AllByRecursion (IsSource format revision) ps → AllByRecursion (IsSource format revision) qs
+      → flat_map (source format) ps ++ x ≡ flat_map (source format) qs ++ y → length ps ≤ length qs → (more : List (List ℕ × Window)) × (qs ≡ ps ++ more) × (x ≡ flat_map (source format) more ++ y)
   prefix [] qs x y all_a all_b same few = (qs, refl, same)
   prefix (a ∷ ps) [] x y all_a all_b same few = absurd (omega arith)
   prefix (a ∷ ps) (b ∷ qs) x y all_a all_b same few =
-      let heads = one_source a b (flat_map source ps ++ x) (flat_map source qs ++ y) all_a.0 all_b.0
-      (sym (append_assoc (source a) (flat_map source ps) x) ∙ same ∙ append_assoc (source b) (flat_map source qs) y) in
+      let heads = one_source a b (flat_map (source format) ps ++ x) (flat_map (source format) qs ++ y) all_a.0 all_b.0
+      (sym (append_assoc (source format a) (flat_map (source format) ps) x) ∙ same ∙ append_assoc (source format b) (flat_map (source format) qs) y) in
       let others = prefix ps qs x y all_a.1 all_b.1 heads.1 (omega arith) in
       (others.0, λ i. sym heads.0 i ∷ others.1 i, others.2)
 
-  pub one_sources : (a b : Sources) (x y : List ℕ) → AreSources revision a → AreSources revision b → sources_bytes a ++ x ≡ sources_bytes b ++ y → (a ≡ b) × (x ≡ y)
+  pub one_sources : (a b : Sources) (x y : List ℕ) → AreSources format revision a → AreSources format revision b → sources_bytes format a ++ x ≡ sources_bytes format b ++ y → (a ≡ b) × (x ≡ y)
   unfolding sources
   one_sources a b x y is_a is_b same =
       let counts = one_number32_spelling (count_of a) (count_of b) _ _ is_a.count is_b.count
-      (sym (append_assoc (number w32 (count_of a)) (flat_map source a.entries) x) ∙ same ∙ append_assoc (number w32 (count_of b)) (flat_map source b.entries) y) in
-      let others = prefix a.entries b.entries x y (recursion_from_All (IsSource revision) a.entries is_a.each) (recursion_from_All (IsSource revision) b.entries is_b.each) counts.1 (omega (arith, counts.0)) in
-      let nothing : others.0 ≡ [] = nil_from_length others.0 (omega (arith, counts.0, ap (length {A = List ℕ × LastTaken}) others.1, length-append a.entries others.0)) in
-      let entries : a.entries ≡ b.entries = sym (append-nil a.entries) ∙ ap (λ (l : List (List ℕ × LastTaken)). a.entries ++ l) (sym nothing) ∙ sym others.1 in
-      (same_entries_map a b entries, others.2 ∙ ap (λ (l : List (List ℕ × LastTaken)). flat_map source l ++ y) nothing)
+      (sym (append_assoc (number w32 (count_of a)) (flat_map (source format) a.entries) x) ∙ same ∙ append_assoc (number w32 (count_of b)) (flat_map (source format) b.entries) y) in
+      let others = prefix a.entries b.entries x y (recursion_from_All (IsSource format revision) a.entries is_a.each) (recursion_from_All (IsSource format revision) b.entries is_b.each) counts.1 (omega (arith, counts.0)) in
+      let nothing : others.0 ≡ [] = nil_from_length others.0 (omega (arith, counts.0, ap (length {A = List ℕ × Window}) others.1, length-append a.entries others.0)) in
+      let entries : a.entries ≡ b.entries = sym (append-nil a.entries) ∙ ap (λ (l : List (List ℕ × Window)). a.entries ++ l) (sym nothing) ∙ sym others.1 in
+      (same_entries_map a b entries, others.2 ∙ ap (λ (l : List (List ℕ × Window)). flat_map (source format) l ++ y) nothing)
 
-  pub sources_short : (bytes : List ℕ) → length bytes < 4 → BeginsNone sources_bytes (AreSources revision) bytes
+  pub sources_short : (bytes : List ℕ) → length bytes < 4 → BeginsNone (sources_bytes format) (AreSources format revision) bytes
   unfolding sources
   sources_short bytes short others rest are spelled =
-      number32_none (count_of others) bytes short (flat_map source others.entries ++ rest) (spelled ∙ append_assoc (number w32 (count_of others)) (flat_map source others.entries) rest)
+      number32_none (count_of others) bytes short (flat_map (source format) others.entries ++ rest) (spelled ∙ append_assoc (number w32 (count_of others)) (flat_map (source format) others.entries) rest)
 
   -- so many sources are read, and no further one that is above them begins the bytes
-  pub none_more : (entries : List (List ℕ × LastTaken)) (last : List ℕ) (count : ℕ) (bytes rest : List ℕ) → bytes ≡ number w32 count ++ (flat_map source entries ++ rest) → count < 2 ^ 32
-      → length entries < count → AllByRecursion (IsSource revision) entries → IsLast entries last
-      → ((x : List ℕ × LastTaken) (behind : List ℕ) → IsSource revision x → is_lt (by_bytes last x.0) ≡ true → rest ≡ source x ++ behind → ⊥)
-      → BeginsNone sources_bytes (AreSources revision) bytes
+  pub none_more : (entries : List (List ℕ × Window)) (last : List ℕ) (count : ℕ) (bytes rest : List ℕ) → bytes ≡ number w32 count ++ (flat_map (source format) entries ++ rest) → count < 2 ^ 32
+      → length entries < count → AllByRecursion (IsSource format revision) entries → IsLast entries last
+      → ((x : List ℕ × Window) (behind : List ℕ) → IsSource format revision x → is_lt (by_bytes last x.0) ≡ true → rest ≡ source format x ++ behind → ⊥)
+      → BeginsNone (sources_bytes format) (AreSources format revision) bytes
   unfolding sources
   none_more entries last count bytes rest there low few all is none others behind are spelled =
       let counts = one_number32_spelling count (count_of others) _ _ low are.count
-      (sym there ∙ spelled ∙ append_assoc (number w32 (count_of others)) (flat_map source others.entries) behind) in
-      let each = recursion_from_All (IsSource revision) others.entries are.each in
+      (sym there ∙ spelled ∙ append_assoc (number w32 (count_of others)) (flat_map (source format) others.entries) behind) in
+      let each = recursion_from_All (IsSource format revision) others.entries are.each in
       let more = prefix entries others.entries rest behind all each counts.1 (omega (arith, few, counts.0)) in
-      further more.0 more.1 more.2 (subst (AllByRecursion (IsSource revision)) more.1 each) (omega (arith, few, counts.0, ap (length {A = List ℕ × LastTaken}) more.1, length-append entries more.0))
+      further more.0 more.1 more.2 (subst (AllByRecursion (IsSource format revision)) more.1 each) (omega (arith, few, counts.0, ap (length {A = List ℕ × Window}) more.1, length-append entries more.0))
     where
-      behind_all : (front more : List (List ℕ × LastTaken)) → AllByRecursion (IsSource revision) (front ++ more) → AllByRecursion (IsSource revision) more
+      behind_all : (front more : List (List ℕ × Window)) → AllByRecursion (IsSource format revision) (front ++ more) → AllByRecursion (IsSource format revision) more
       behind_all [] more each = each
       behind_all (f ∷ front) more each = behind_all front more each.1
 
-      further : (more : List (List ℕ × LastTaken)) → others.entries ≡ entries ++ more → rest ≡ flat_map source more ++ behind → AllByRecursion (IsSource revision) (entries ++ more) → 0 < length more → ⊥
+      further : (more : List (List ℕ × Window)) → others.entries ≡ entries ++ more → rest ≡ flat_map (source format) more ++ behind → AllByRecursion (IsSource format revision) (entries ++ more) → 0 < length more → ⊥
       further [] same then each some = absurd (omega arith)
       further (x ∷ more) same then each some =
           let here = behind_all entries (x ∷ more) each in
           let order : above entries x.0 ≡ true = sorted_above entries x more (ap (is_sorted by_bytes) (sym same) ∙ from_T _ others.ascending) in
-          none x (flat_map source more ++ behind) here.0 (is.back x.0 (name_some 32 x.0 here.0.named) order) (then ∙ append_assoc (source x) (flat_map source more) behind)
+          none x (flat_map (source format) more ++ behind) here.0 (is.back x.0 (name_some 32 x.0 here.0.named) order) (then ∙ append_assoc (source format x) (flat_map (source format) more) behind)
 
-pub each_more : (revision : ℕ) (entries : List (List ℕ × LastTaken)) (x : List ℕ × LastTaken) → AllByRecursion (IsSource revision) entries → IsSource revision x
-    → AllByRecursion (IsSource revision) (entries ++ x ∷ [])
-each_more revision [] x all is = (is, tt)
-each_more revision (e ∷ entries) x all is = (all.0, each_more revision entries x all.1 is)
+pub each_more : (format : Format) (revision : ℕ) (entries : List (List ℕ × Window)) (x : List ℕ × Window) → AllByRecursion (IsSource format revision) entries → IsSource format revision x
+    → AllByRecursion (IsSource format revision) (entries ++ x ∷ [])
+each_more format revision [] x all is = (is, tt)
+each_more format revision (e ∷ entries) x all is = (all.0, each_more format revision entries x all.1 is)
 
 -- a source more is read
-pub split_more : (count : ℕ) (entries : List (List ℕ × LastTaken)) (x : List ℕ × LastTaken) (bytes rest after : List ℕ) → bytes ≡ number w32 count ++ (flat_map source entries ++ rest)
-    → rest ≡ source x ++ after → bytes ≡ number w32 count ++ (flat_map source (entries ++ x ∷ []) ++ after)
-split_more count entries x bytes rest after there next =
-    let more : flat_map source (entries ++ x ∷ []) ≡ flat_map source entries ++ source x =
-    flat_map-append source entries (x ∷ []) ∙ ap (λ (l : List ℕ). flat_map source entries ++ l) (append-nil (source x)) in
+pub split_more : (format : Format) (count : ℕ) (entries : List (List ℕ × Window)) (x : List ℕ × Window) (bytes rest after : List ℕ) → bytes ≡ number w32 count ++ (flat_map (source format) entries ++ rest)
+    → rest ≡ source format x ++ after → bytes ≡ number w32 count ++ (flat_map (source format) (entries ++ x ∷ []) ++ after)
+split_more format count entries x bytes rest after there next =
+    let more : flat_map (source format) (entries ++ x ∷ []) ≡ flat_map (source format) entries ++ source format x =
+    flat_map-append (source format) entries (x ∷ []) ∙ ap (λ (l : List ℕ). flat_map (source format) entries ++ l) (append-nil (source format x)) in
     there
-    ∙ ap (λ (l : List ℕ). number w32 count ++ (flat_map source entries ++ l)) next
-    ∙ ap (λ (l : List ℕ). number w32 count ++ l) (sym (append_assoc (flat_map source entries) (source x) after) ∙ ap (λ (l : List ℕ). l ++ after) (sym more))
+    ∙ ap (λ (l : List ℕ). number w32 count ++ (flat_map (source format) entries ++ l)) next
+    ∙ ap (λ (l : List ℕ). number w32 count ++ l) (sym (append_assoc (flat_map (source format) entries) (source format x) after) ∙ ap (λ (l : List ℕ). l ++ after) (sym more))
 
 -- all are
-pub all_read : (revision : ℕ) (all : Sources) (count : ℕ) (bytes rest : List ℕ) → bytes ≡ number w32 count ++ (flat_map source all.entries ++ rest) → count < 2 ^ 32
-    → count_of all ≡ count → AllByRecursion (IsSource revision) all.entries → AreSources revision all × (bytes ≡ sources_bytes all ++ rest)
+pub all_read : (format : Format) (revision : ℕ) (all : Sources) (count : ℕ) (bytes rest : List ℕ) → bytes ≡ number w32 count ++ (flat_map (source format) all.entries ++ rest) → count < 2 ^ 32
+    → count_of all ≡ count → AllByRecursion (IsSource format revision) all.entries → AreSources format revision all × (bytes ≡ sources_bytes format all ++ rest)
 unfolding sources
-all_read revision all count bytes rest there low same each = (
-  record { count = omega (arith, low, same); each = All-from_recursion (IsSource revision) all.entries each },
-  there ∙ ap (λ k. number w32 k ++ (flat_map source all.entries ++ rest)) (sym same) ∙ sym (append_assoc (number w32 (count_of all)) (flat_map source all.entries) rest),
+all_read format revision all count bytes rest there low same each = (
+  record { count = omega (arith, low, same); each = All-from_recursion (IsSource format revision) all.entries each },
+  there ∙ ap (λ k. number w32 k ++ (flat_map (source format) all.entries ++ rest)) (sym same) ∙ sym (append_assoc (number w32 (count_of all)) (flat_map (source format) all.entries) rest),
 )

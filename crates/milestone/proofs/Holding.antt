@@ -5,8 +5,8 @@ use Rattle.disk.specs.Device.{overwritten, SameOutside}
 use Rattle.disk.proofs.CallerLemmas.{byte_overwritten}
 use Rattle.journal.specs.Area.{open_gate, frame, open_record, IsGated}
 use Rattle.history.specs.Cell.{Cell, Pair}
-use Rattle.milestone.specs.CellSpelling.{cell_body, IsCell}
-use Rattle.milestone.specs.OneCell.{bytes_at, HoldsOpenCell, HoldsCell, HoldsPair}
+use Rattle.milestone.specs.CellSpelling.{Format, Two, cell_body_in, cell_body, IsCell}
+use Rattle.milestone.specs.OneCell.{bytes_at, HoldsOpenCellIn, HoldsOpenCell, HoldsCell, HoldsPair}
 use Rattle.milestone.proofs.Bytes.{range_before, first_byte, gate_written, gated_outside, gated_bytes, gating}
 
 -- what a cell holds, it holds by its bytes alone
@@ -15,13 +15,13 @@ same_cell p q size number a b None same holds = λ is. holds (sym (ap (λ (l : L
 same_cell p q size number a b (Some cell) same holds = subst (λ (l : List ℕ). HoldsOpenCell number l cell) (sym same) holds
 
 -- the gate of a cell that holds a document is open
-pub open_there : (number : ℕ) (bytes : List ℕ) (cell : Cell) → HoldsOpenCell number bytes cell → get_or bytes 0 0 ≡ open_gate
-open_there number bytes cell holds = ap (λ (l : List ℕ). get_or l 0 0) holds.split
+pub open_there : (format : Format) (number : ℕ) (bytes : List ℕ) (cell : Cell) → HoldsOpenCellIn format number bytes cell → get_or bytes 0 0 ≡ open_gate
+open_there format number bytes cell holds = ap (λ (l : List ℕ). get_or l 0 0) holds.split
 
 -- a body that a cell holds fits
-pub fits_there : (q size number : ℕ) (content : List ℕ) (cell : Cell) → HoldsOpenCell number (bytes_at q size content) cell → 5 + length (cell_body number cell) ≤ size
-fits_there q size number content cell holds =
-    omega (arith, ap (length {A = ℕ}) holds.split, length-append (open_record (cell_body number cell)) holds.rest, length-take size (drop q content), length-append (frame (cell_body number cell)) holds.rest)
+pub fits_there : (format : Format) (q size number : ℕ) (content : List ℕ) (cell : Cell) → HoldsOpenCellIn format number (bytes_at q size content) cell → 5 + length (cell_body_in format number cell) ≤ size
+fits_there format q size number content cell holds =
+    omega (arith, ap (length {A = ℕ}) holds.split, length-append (open_record (cell_body_in format number cell)) holds.rest, length-take size (drop q content), length-append (frame (cell_body_in format number cell)) holds.rest)
 
 -- the second cell stays where the first changes, and the first where the second does
 second_stays : (place size : ℕ) (old new : List ℕ) → SameOutside place size old new → bytes_at (place + size) size new ≡ bytes_at (place + size) size old
@@ -62,7 +62,7 @@ pub closing_cell : (q size number : ℕ) (old content : List ℕ) (cell : Cell) 
     → HoldsCell q size number content None ⊎ HoldsCell q size number content (Some cell)
 closing_cell q size number old content cell some within same holds =
     ⊎_elim (λ shut. inl shut) (λ is. inr (subst (λ (l : List ℕ). HoldsOpenCell number l cell) (sym is) holds))
-    (gate_written q size old content some within same (open_there number (bytes_at q size old) cell holds))
+    (gate_written q size old content some within same (open_there Two number (bytes_at q size old) cell holds))
 
 pub closed_cell : (q size number : ℕ) (old new : List ℕ) → 0 < size → q + size ≤ length old → new ≡ overwritten old q (0 ∷ []) → HoldsCell q size number new None
 closed_cell q size number old new some within is = λ gate.

@@ -9,8 +9,8 @@ use Rattle.delta.specs.Normal.{nf}
 use Rattle.delta.proofs.CallerLemmas.{apply-nf, base_of-nf, length-apply_counted, units_below-counted}
 use Rattle.document.specs.Weight as document
 use Rattle.compose.specs.Many.{applied, lengths_of}
-use Rattle.revision.specs.Past.{Past, Change, StandInTurn, StayShort, newest, content_at, sources_at, deltas_of, deltas_above}
-use Rattle.revision.specs.Sources.{count_of}
+use Rattle.revision.specs.Past.{Past, Change, StandInTurn, StayShort, newest, newest_units, content_at, sources_at, deltas_of, deltas_above}
+use Rattle.revision.specs.Sources.{Sources}
 use Rattle.revision.specs.Replay.{IsReplay}
 use Rattle.revision.specs.State.{Limits, weight_of}
 use Rattle.revision.specs.Invariants.{IsLimits, IsPast}
@@ -23,8 +23,8 @@ heavy [] = omega arith
 heavy (x ∷ units) = omega (arith, heavy units)
 
 -- so a document of a weight below 2^32 is short
-light_is_short : (units : List Element) (sources : ℕ) → weight_of units sources < 2 ^ 32 → length units ≤ 2 ^ 29
-light_is_short units sources light = omega (arith, heavy units, light)
+light_is_short : (limits : Limits) (units : List Element) (sources : Sources) → weight_of limits units sources < 2 ^ 32 → length units ≤ 2 ^ 29
+light_is_short limits units sources light = omega (arith, heavy units, light)
 
 -- the delta that makes a document of the empty one has no more units
 inserts_short : (units : List Element) → length units ≤ 2 ^ 29 → base_of (nf (End units)) + out_of (nf (End units)) ≤ 2 ^ 29
@@ -82,7 +82,7 @@ module _ (limits : Limits) (past : Past) (ranges : IsLimits limits) (keeps : IsP
   -- a document is short at each revision that is held
   short_at : (revision : ℕ) → past.floor ≤ revision → revision ≤ newest past → length (content_at past revision).units ≤ 2 ^ 29
   short_at revision held there =
-      light_is_short (content_at past revision).units (count_of (sources_at past revision)) (omega (arith, (keeps.each revision held there).weight, ranges.weight))
+      light_is_short limits (content_at past revision).units (sources_at past revision) (omega (arith, (keeps.each revision held there).weight, ranges.weight))
 
   short_after : (count : ℕ) → count ≤ length (deltas_of past) → length (applied past.content.units (take count (deltas_of past))) ≤ 2 ^ 29
   short_after count within =

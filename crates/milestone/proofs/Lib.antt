@@ -9,6 +9,7 @@ pub mod Freeing
 pub mod Putting
 pub mod Replacing
 pub mod Order
+pub mod Windows
 pub mod Fields
 pub mod Bodies
 pub mod OnePair

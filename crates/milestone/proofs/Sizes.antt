@@ -1,5 +1,5 @@
 -- A cell that keeps the limits has its place in as many bytes as a document may weigh, and 128 more.
-use Rattle.std.proofs.Common.{◌≡◌, ℕ, ◌+◌, ◌*◌, ◌≤◌, ◌<◌, true, List, [], ◌∷◌, ◌++◌, length, sum_by, refl, sym, ap, subst, ◌∙◌, ⊎_elim, arith}
+use Rattle.std.proofs.Common.{◌≡◌, ℕ, suc, ◌+◌, ◌-◌, ◌*◌, ◌≤◌, ◌<◌, true, List, [], ◌∷◌, ◌++◌, length, sum_by, refl, sym, ap, subst, ◌∙◌, ⊎_elim, arith}
 use Rattle.std.specs.Int.{w32, w64}
 use Rattle.std.specs.List.{flat_map, AllByRecursion}
 use Rattle.std.specs.Char.{encode_utf8, len_utf8}
@@ -20,9 +20,9 @@ use Rattle.delta.specs.Operation.{Operation, insert_text, insert_embed, retain, 
 use Rattle.delta.specs.Normal.{spell_unit, spell_item, spell_inserts}
 use Rattle.document.specs.Weight.{named_weight, entries_weight, unit_weight, weight_of}
 use Rattle.revision.specs.Name.{is_name, is_source_name}
-use Rattle.revision.specs.Sources.{are_named}
-use Rattle.revision.specs.declared.sources.LastTaken.{LastTaken}
-use Rattle.revision.specs.State.{Limits}
+use Rattle.revision.specs.Sources.{are_named, total_of}
+use Rattle.revision.specs.Window.{Window}
+use Rattle.revision.specs.State.{Limits, window_weight}
 use Rattle.revision.specs.Spellable.{IsOperation}
 use Rattle.revision.specs.Width.{value_width, pair_width, operation_width, delta_width}
 use Rattle.journal.specs.Spelling.{number, text16}
@@ -30,7 +30,7 @@ use Rattle.journal.specs.DeltaSpelling as deltas
 use Rattle.journal.proofs.CallerLemmas.{length-delta}
 use Rattle.history.specs.Cell.{Cell, CellKeeps}
 use Rattle.milestone.specs.Milestone.{IsMilestone}
-use Rattle.milestone.specs.CellSpelling.{inserts_of, source, sources, cell_body}
+use Rattle.milestone.specs.CellSpelling.{Two, mark, inserts_of, window, source, sources, cell_body_in, cell_body}
 use Rattle.milestone.specs.Law.{FitsItsCell}
 
 -- a character below U+10000 has at most three bytes
@@ -147,33 +147,53 @@ text t = omega arith
 name_short : (longest : ℕ) (name : List ℕ) → is_name longest name ≡ true → length name ≤ longest
 name_short longest name is = leb-true _ _ (and_parts _ _ (and_parts _ _ is).0).1
 
--- a source takes at most 50 bytes
-source_short : (s : List ℕ × LastTaken) → is_source_name s.0 ≡ true → length (source s) ≤ 50
+-- so many numbers of eight bytes
+numbers_long : (numbers : List ℕ) → length (flat_map (number w64) numbers) ≡ 8 * length numbers
+numbers_long [] = refl
+numbers_long (n ∷ numbers) = omega (arith, length-append (number w64 n) (flat_map (number w64) numbers), number64 n, numbers_long numbers)
+
+window_long : (w : Window) → length (window Two w) ≡ 9 + 8 * length w.revisions
+unfolding window
+window_long w =
+    omega (arith, length-append (number w64 w.number) (length w.revisions ∷ flat_map (number w64) w.revisions), number64 w.number, numbers_long w.revisions)
+
+-- a source takes at most 43 bytes, and 8 for each number of its window
+source_short : (s : List ℕ × Window) → is_source_name s.0 ≡ true → length (source Two s) ≤ 43 + 8 * length s.1.revisions
 unfolding source
-source_short s is =
-    omega (arith, length-append (text16 s.0 ++ number w64 s.1.number) (number w64 s.1.revision), length-append (text16 s.0) (number w64 s.1.number), text s.0, number64 s.1.number, number64 s.1.revision, name_short 32 s.0 is)
+source_short s is = omega (arith, length-append (text16 s.0) (window Two s.1), text s.0, window_long s.1, name_short 32 s.0 is)
 
-each_short : (all : List (List ℕ × LastTaken)) → are_named all ≡ true → length (flat_map source all) ≤ 50 * length all
-each_short [] named = omega arith
-each_short (s ∷ all) named =
+-- which is less than it weighs, where a further number weighs 8
+window_weighs : (retry count : ℕ) → retry ≡ 8 → 43 + 8 * count ≤ 64 - retry + retry * count
+window_weighs retry count eight = subst (λ r. 43 + 8 * count ≤ 64 - r + r * count) (sym eight) (omega arith)
+
+sources_light : (limits : Limits) (all : List (List ℕ × Window)) → limits.retry ≡ 8 → are_named all ≡ true → length (flat_map (source Two) all) ≤ total_of (window_weight limits) all
+sources_light limits [] eight named = omega arith
+sources_light limits (s ∷ all) eight named =
     let both = and_parts (is_source_name s.0) (are_named all) named in
-    omega (arith, length-append (source s) (flat_map source all), source_short s both.0, each_short all both.1)
+    more (length (source Two s)) (43 + 8 * length s.1.revisions) (window_weight limits s.1) (length (flat_map (source Two) all)) (total_of (window_weight limits) all)
+    (length (flat_map (source Two) (s ∷ all))) (source_short s both.0) (window_weighs limits.retry (length s.1.revisions) eight) (sources_light limits all eight both.1)
+    (length-append (source Two s) (flat_map (source Two) all))
+  where
+    more : (one room weight others total long : ℕ) → one ≤ room → room ≤ weight → others ≤ total → long ≡ one + others → long ≤ weight + total
+    more one room weight others total long short light rest is = omega (arith, short, light, rest, is)
 
-sources_short : (all : List (List ℕ × LastTaken)) → are_named all ≡ true → length (sources all) ≤ 4 + 50 * length all
+sources_short : (limits : Limits) (all : List (List ℕ × Window)) → limits.retry ≡ 8 → are_named all ≡ true → length (sources Two all) ≤ 4 + total_of (window_weight limits) all
 unfolding sources
-sources_short all named = omega (arith, length-append (number w32 (length all)) (flat_map source all), number32 (length all), each_short all named)
+sources_short limits all eight named =
+    omega (arith, length-append (number w32 (length all)) (flat_map (source Two) all), number32 (length all), sources_light limits all eight named)
 
 -- the body, behind its gate and its length
-body_fits : (n : ℕ) (limits : Limits) (cell : Cell) → IsMilestone cell → CellKeeps limits cell → AllByRecursion IsNarrow (inserts_of cell.content.units)
+body_fits : (n : ℕ) (limits : Limits) (cell : Cell) → limits.retry ≡ 8 → IsMilestone cell → CellKeeps limits cell → AllByRecursion IsNarrow (inserts_of cell.content.units)
     → 5 + length (cell_body n cell) ≤ limits.weight + 128
-unfolding cell_body
-body_fits n limits cell is keeps narrow =
+unfolding cell_body_in
+body_fits n limits cell eight is keeps narrow =
     let content = deltas.delta (inserts_of cell.content.units) in
-    let all = sources cell.sources.entries in
+    let all = sources Two cell.sources.entries in
     omega (
       arith,
-      length-append (number w32 n ++ text16 cell.name ++ number w64 cell.revision ++ content) all,
-      length-append (number w32 n ++ text16 cell.name ++ number w64 cell.revision) content,
+      length-append (number w32 n ++ text16 cell.name ++ number w64 cell.revision ++ mark Two ++ content) all,
+      length-append (number w32 n ++ text16 cell.name ++ number w64 cell.revision ++ mark Two) content,
+      length-append (number w32 n ++ text16 cell.name ++ number w64 cell.revision) (mark Two),
       length-append (number w32 n ++ text16 cell.name) (number w64 cell.revision),
       length-append (number w32 n) (text16 cell.name),
       number32 n,
@@ -181,11 +201,11 @@ body_fits n limits cell is keeps narrow =
       number64 cell.revision,
       length-delta (inserts_of cell.content.units),
       content_width cell.content.units narrow,
-      sources_short cell.sources.entries is.named,
+      sources_short limits cell.sources.entries eight is.named,
       name_short 64 cell.name is.name,
       keeps.weight,
     )
 
 pub cell_fits : FitsItsCell
-cell_fits n limits cell is keeps =
-    body_fits n limits cell is.milestone keeps (narrow_each (inserts_of cell.content.units) (recursion_from_All IsOperation (inserts_of cell.content.units) is.content.each))
+cell_fits n limits cell eight is keeps =
+    body_fits n limits cell eight is.milestone keeps (narrow_each (inserts_of cell.content.units) (recursion_from_All IsOperation (inserts_of cell.content.units) is.content.each))

@@ -1,28 +1,28 @@
--- The body of a cell spelled out: the source "a" created document 0, "d", with the text "z". It has 52 bytes.
+-- The body of a cell spelled out: the source "a" created document 0, "d", with the text "z". It has 54 bytes.
 use Rattle.std.proofs.Common.{◌≡◌, [], ◌∷◌, length, refl}
 use Rattle.std.specs.Char.{encode_utf8}
 use Rattle.std.specs.Char.Utf16.{utf16_chars}
 use Rattle.attributes.specs.Map.{empty, insert}
 use Rattle.delta.specs.Element.{letters}
-use Rattle.revision.specs.Sources.{with_last}
+use Rattle.revision.specs.Sources.{with_taken}
 use Rattle.journal.specs.Spelling.{number, text16, text32}
 use Rattle.journal.specs.DeltaSpelling.{value, pairs, operation, delta}
 use Rattle.history.specs.Cell.{Cell}
-use Rattle.milestone.specs.CellSpelling.{source, sources, cell_body}
+use Rattle.milestone.specs.CellSpelling.{window, source, sources, cell_body_in, cell_body}
 
 abbrev created : Cell
-created = record { name = 100 ∷ []; revision = 1; content = record { units = letters (122 ∷ []) empty }; sources = with_last (97 ∷ []) 1 1 empty }
+created = record { name = 100 ∷ []; revision = 1; content = record { units = letters (122 ∷ []) empty }; sources = with_taken (97 ∷ []) 1 1 empty }
 
--- the document's number and name, the revision; the delta; the sources
+-- the document's number and name; the revision, and that there is a document; the delta; the sources
 pub body-of_created : cell_body 0 created ≡
     0 ∷ 0 ∷ 0 ∷ 0
     ∷ 1 ∷ 0 ∷ 100
-    ∷ 1 ∷ 0 ∷ 0 ∷ 0 ∷ 0 ∷ 0 ∷ 0 ∷ 0
+    ∷ 1 ∷ 0 ∷ 0 ∷ 0 ∷ 0 ∷ 0 ∷ 0 ∷ 0 ∷ 1
     ∷ 1 ∷ 0 ∷ 0 ∷ 0 ∷ 1 ∷ 1 ∷ 0 ∷ 0 ∷ 0 ∷ 122 ∷ 0 ∷ 0 ∷ 0 ∷ 0
-    ∷ 1 ∷ 0 ∷ 0 ∷ 0 ∷ 1 ∷ 0 ∷ 97 ∷ 1 ∷ 0 ∷ 0 ∷ 0 ∷ 0 ∷ 0 ∷ 0 ∷ 0 ∷ 1 ∷ 0 ∷ 0 ∷ 0 ∷ 0 ∷ 0 ∷ 0 ∷ 0 ∷ []
-unfolding number text16 text32 value pairs operation delta source sources cell_body insert utf16_chars encode_utf8
+    ∷ 1 ∷ 0 ∷ 0 ∷ 0 ∷ 1 ∷ 0 ∷ 97 ∷ 1 ∷ 0 ∷ 0 ∷ 0 ∷ 0 ∷ 0 ∷ 0 ∷ 0 ∷ 1 ∷ 1 ∷ 0 ∷ 0 ∷ 0 ∷ 0 ∷ 0 ∷ 0 ∷ 0 ∷ []
+unfolding number text16 text32 value pairs operation delta window source sources cell_body_in insert utf16_chars encode_utf8
 body-of_created = refl
 
-pub created_long : length (cell_body 0 created) ≡ 52
-unfolding number text16 text32 value pairs operation delta source sources cell_body insert utf16_chars encode_utf8
+pub created_long : length (cell_body 0 created) ≡ 54
+unfolding number text16 text32 value pairs operation delta window source sources cell_body_in insert utf16_chars encode_utf8
 created_long = refl

@@ -2,7 +2,8 @@
 use Rattle.std.specs.Prelude.{ℕ, ◌≡◌, ◌⊎◌, ◌*◌, Some, None, List}
 use Rattle.disk.specs.Device.{SameOutside}
 use Rattle.history.specs.Cell.{Cell, Pair, freed}
-use Rattle.milestone.specs.OneCell.{HoldsPair}
+use Rattle.milestone.specs.CellSpelling.{Format, Two}
+use Rattle.milestone.specs.OneCell.{HoldsPairIn, HoldsPair}
 use Rattle.milestone.specs.Revisions.{Revisions, revisions_in}
 use Rattle.milestone.specs.declared.cells.Cells.{Cells}
 
@@ -20,9 +21,13 @@ abbrev pub revisions_of : Cells → Revisions
 revisions_of cells = (cells.first, cells.second)
 
 -- the cells are those of a content, which hold this pair
-pub record Fits (content : List ℕ) (cells : Cells) (pair : Pair) : Type 0 where
-  pub holds : HoldsPair (place_of cells) (size_of cells) (number_of cells) content pair
+pub record FitsIn (format : Format) (content : List ℕ) (cells : Cells) (pair : Pair) : Type 0 where
+  pub holds : HoldsPairIn format (place_of cells) (size_of cells) (number_of cells) content pair
   pub revisions : revisions_of cells ≡ revisions_in pair
+
+-- in the second format, which is written
+abbrev pub Fits : List ℕ → Cells → Pair → Type 0
+Fits content cells pair = FitsIn Two content cells pair
 
 -- one of the two cells is closed
 abbrev pub HasClosed : Revisions → Type 0

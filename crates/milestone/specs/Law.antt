@@ -11,23 +11,24 @@ use Rattle.revision.specs.Past.{Past, newest}
 use Rattle.revision.specs.Invariants.{IsLimits, IsPast}
 use Rattle.revision.specs.Replay.{IsReplay}
 use Rattle.history.specs.Cell.{Cell, Pair, CellKeeps}
-use Rattle.milestone.specs.CellSpelling.{cell_body, inserts_of, IsCell}
+use Rattle.milestone.specs.CellSpelling.{Format, cell_body, inserts_of, IsCell}
 use Rattle.milestone.specs.Job.{KeepLengths}
-use Rattle.milestone.specs.OneCell.{HoldsPair}
+use Rattle.milestone.specs.OneCell.{HoldsPairIn, HoldsPair}
 
--- What has a spelling as a cell and keeps the limits fits a cell that has 128 bytes more than a document may weigh: the gate and the
--- length of the body take five bytes.
+-- What has a spelling as a cell and keeps the limits fits a cell that has 128 bytes more than a document may weigh, where a further number
+-- of a window weighs as many bytes as it takes: the gate and the length of the body take five bytes.
 abbrev pub FitsItsCell : Type 0
-FitsItsCell = (number : ℕ) (limits : Limits) (cell : Cell) → IsCell number cell → CellKeeps limits cell
+FitsItsCell = (number : ℕ) (limits : Limits) (cell : Cell) → limits.retry ≡ 8 → IsCell number cell → CellKeeps limits cell
     → 5 + length (cell_body number cell) ≤ limits.weight + 128
 
 -- The spelling of a content has at most twice as many bytes as the document weighs, and four.
 abbrev pub LightContent : Type 0
 LightContent = (units : List Element) → delta_width (inserts_of units) ≤ 4 + 2 * weight_of units
 
--- A content holds one pair at most at a place.
+-- A content holds one pair at most at a place, in either format.
 abbrev pub OnePair : Type 0
-OnePair = (place size number : ℕ) (content : List ℕ) (a b : Pair) → HoldsPair place size number content a → HoldsPair place size number content b → a ≡ b
+OnePair = (format : Format) (place size number : ℕ) (content : List ℕ) (a b : Pair) → HoldsPairIn format place size number content a
+    → HoldsPairIn format place size number content b → a ≡ b
 
 -- Contents that agree within the range of two cells hold the same pair there.
 abbrev pub AgreeWithin : Type 0

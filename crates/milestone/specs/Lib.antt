@@ -5,6 +5,7 @@ pub mod Halves
 pub mod JobView
 pub mod CellSpelling
 pub mod OneCell
+pub mod LeftOutside
 pub mod Revisions
 pub mod Cells
 pub mod ReadCells

@@ -8,8 +8,8 @@ use Rattle.revision.specs.Sources.{Sources, sources_code, are_named}
 use Rattle.revision.specs.State.{last_of_all, are_sources}
 use Rattle.history.specs.Cell.{Cell}
 
--- A milestone has a document's name, a revision from 1 to 2^53 - 1, and sources: each has a source's name, a number in that range,
--- and a revision up to the milestone's.
+-- A milestone has a document's name, a revision from 1 to 2^53 - 1, and sources: each has a source's name, and a window as one may have at
+-- the revision.
 pub record IsMilestone (cell : Cell) : Type 0 where
   pub name : is_document_name cell.name ≡ true
   pub first : 1 ≤ cell.revision

@@ -1,14 +1,19 @@
 //! One cell on a device: its gate, and what it holds.
-ghost use Rattle.std.specs.Prelude.{◌≡◌, ◌⊎◌, ◌+◌, ◌≤◌, ◌<◌, ◌^◌, ℕ, Option, [], ◌∷◌, length, take, drop, OnOk, IfOk, IfErr};
+ghost use Rattle.std.specs.Prelude.{◌≡◌, ◌⊎◌, ◌+◌, ◌*◌, ◌≤◌, ◌<◌, ◌^◌, ℕ, Option, [], ◌∷◌, length, take, drop, Some, OnOk, IfOk, IfErr, IsErrOf};
 ghost use Rattle.std.specs.Int.{w32, to_le_bytes};
 ghost use Rattle.disk.specs.Calls.{HasOnlyRead, HasOnlyWritten, CountsFaults, CountsFaultsAs};
-ghost use Rattle.disk.specs.Crash.{LeavesOnly};
+ghost use Rattle.disk.specs.Crash.{LeavesOnly, history_of};
 ghost use Rattle.disk.specs.Device.{overwritten, SameOutside};
-ghost use Rattle.history.specs.Cell.{Cell};
-ghost use Rattle.milestone.specs.OneCell.{HoldsCell};
+ghost use Rattle.history.specs.Cell.{Cell, Pair};
+ghost use Rattle.journal.specs.Area.{open_gate};
+ghost use Rattle.milestone.specs.CellSpelling.{cell_body, IsCell};
+ghost use Rattle.milestone.specs.OneCell.{HoldsCellIn, HoldsPair};
+ghost use Rattle.milestone.specs.LeftOutside.{IsLeftOutside};
 
+use crate::format::Format;
 use crate::milestone::Milestone;
 use crate::reading::read_body;
+use crate::writing::framed;
 use disk::{Disk, Fault};
 use journal::{CLOSED, OPEN};
 use refusal::Refusal;
@@ -32,11 +37,12 @@ pub(crate) fn close<D: Disk>(disk: &mut D, gate: u64) -> Result<(), Fault>
     Ok(())
 }
 
-/// What a cell holds: one read of its gate and of the body's length, and where the gate is open one of the body. `Damaged`
+/// What a cell holds in a format: one read of its gate and of the body's length, and where the gate is open one of the body. `Damaged`
 /// comes exactly when it holds nothing that a cell may hold.
 pub(crate) fn read_cell<D: Disk>(
     alloc: Global,
     disk: &mut D,
+    format: Format,
     at: u64,
     size: u64,
     number: u32,
@@ -46,9 +52,9 @@ pub(crate) fn read_cell<D: Disk>(
     requires high { size ≤ 16777216 }
     requires within { at + size ≤ length (D.seen disk.old) }
 
-    ensures found { IfOk result (λ cell. D.honest disk.new → HoldsCell at size number (D.seen disk.old) cell) }
+    ensures found { IfOk result (λ cell. D.honest disk.new → HoldsCellIn format at size number (D.seen disk.old) cell) }
     ensures damaged { IfErr result (λ e. e ≡ Refusal.Damaged → D.honest disk.new
-        → (cell : Option Cell) → ¬ HoldsCell at size number (D.seen disk.old) cell) }
+        → (cell : Option Cell) → ¬ HoldsCellIn format at size number (D.seen disk.old) cell) }
     ensures only { IfErr result (λ e. (e ≡ Refusal.Damaged) ⊎ ((e ≡ Refusal.NoMemory) ⊎ (e ≡ Refusal.Fault))) }
     ensures only_read { HasOnlyRead ⟦<D as Disk>⟧ disk.old disk.new }
     ensures faults { CountsFaultsAs ⟦<D as Disk>⟧ Refusal.Fault result disk.old disk.new }
@@ -63,7 +69,7 @@ pub(crate) fn read_cell<D: Disk>(
         return Err(Refusal::Damaged);
     }
     let body = read_range(alloc, disk, at + 5, len)?;
-    let Some(milestone) = read_body(alloc, number, &body)? else {
+    let Some(milestone) = read_body(alloc, format, number, &body)? else {
         return Err(Refusal::Damaged);
     };
     Ok(Some(milestone))
@@ -101,4 +107,52 @@ fn read_range<D: Disk>(alloc: Global, disk: &mut D, at: u64, len: u64) -> Result
     let mut bytes = vec![in alloc; 0u8; len as usize]?;
     disk.read(at, &mut bytes)?;
     Ok(bytes)
+}
+
+/// Writes the first of the two cells of a document with its gate open, on a device of which nothing counts yet: the body behind the
+/// gate, then the gate, and no sync. `NoMemory` comes before any call of the device. A crash leaves anything in the cell's range, and
+/// outside it what one could have left before.
+pub fn write_open<D: Disk>(
+    alloc: Global,
+    disk: &mut D,
+    place: u64,
+    size: u64,
+    number: u32,
+    milestone: &Milestone,
+) -> Result<(), Refusal>
+    requires within { place + 2 * size ≤ length (D.seen disk.old) }
+    requires bound { place + 2 * size < 2 ^ 62 }
+    requires high { size ≤ 16777216 }
+    requires is { IsCell number milestone.now }
+    requires fits { 5 + length (cell_body number milestone.now) ≤ size }
+
+    ensures any_moment { LeavesOnly ⟦<D as Disk>⟧
+        (IsLeftOutside place size (history_of ⟦<D as Disk>⟧ disk.old).now) disk.old disk.new }
+    ensures held { OnOk result ((pair : Pair) → HoldsPair place size number (D.seen disk.old) pair
+        → HoldsPair place size number (D.seen disk.new) (Some milestone.now, pair.1)) }
+    ensures outside { OnOk result (SameOutside place size (D.seen disk.old) (D.seen disk.new)) }
+    ensures untouched { IsErrOf result Refusal.NoMemory → disk.new ≡ disk.old }
+    ensures only { IfErr result (λ e. (e ≡ Refusal.NoMemory) ⊎ (e ≡ Refusal.Fault)) }
+    ensures only_written { HasOnlyWritten ⟦<D as Disk>⟧ disk.old disk.new }
+    ensures faults { CountsFaultsAs ⟦<D as Disk>⟧ Refusal.Fault result disk.old disk.new }
+{
+    let bytes = framed(alloc, number, milestone)?;
+    write_both(disk, place, &bytes)?;
+    Ok(())
+}
+
+// The bytes behind a gate, and then the gate, which is open.
+fn write_both<D: Disk>(disk: &mut D, place: u64, bytes: &[u8]) -> Result<(), Fault>
+    requires within { place + 1 + length bytes.now ≤ length (D.seen disk.old) }
+    requires bound { place + 1 + length bytes.now < 2 ^ 63 }
+    ensures any_moment { LeavesOnly ⟦<D as Disk>⟧
+        (IsLeftOutside place (1 + length bytes.now) (history_of ⟦<D as Disk>⟧ disk.old).now) disk.old disk.new }
+    ensures written { OnOk result (D.seen disk.new
+        ≡ overwritten (overwritten (D.seen disk.old) (place + 1) bytes.now) place (open_gate ∷ [])) }
+    ensures only_written { HasOnlyWritten ⟦<D as Disk>⟧ disk.old disk.new }
+    ensures faults { CountsFaults ⟦<D as Disk>⟧ result disk.old disk.new }
+{
+    disk.write_at(place + 1, bytes)?;
+    disk.write_at(place, &[OPEN])?;
+    Ok(())
 }

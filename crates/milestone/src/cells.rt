@@ -4,6 +4,7 @@ ghost use Rattle.disk.specs.Calls.{HasOnlyRead, HasOnlyWritten, CountsFaultsAs};
 ghost use Rattle.milestone.specs.Revisions.{revision_in};
 
 use crate::cell::{close, read_cell};
+use crate::format::Format;
 use crate::milestone::Milestone;
 use crate::writing::framed;
 use disk::Disk;
@@ -51,17 +52,18 @@ impl Cells {
     ghost use Rattle.history.specs.Cell.{Pair, freed, lowest};
     ghost use Rattle.journal.specs.Area.{frame};
     ghost use Rattle.milestone.specs.CellSpelling.{cell_body, IsCell};
-    ghost use Rattle.milestone.specs.OneCell.{HoldsPair};
+    ghost use Rattle.milestone.specs.OneCell.{HoldsPairIn};
     ghost use Rattle.milestone.specs.Revisions.{lowest_of, highest_of, freed_of, with_revision};
-    ghost use Rattle.milestone.specs.Cells.{place_of, size_of, number_of, revisions_of, with_cell, HasClosed, Fits, FitsNow, SameCells, IsLeftByFreeing, IsLeftByPut, IsLeftByReplacing};
+    ghost use Rattle.milestone.specs.Cells.{place_of, size_of, number_of, revisions_of, with_cell, HasClosed, FitsIn, Fits, FitsNow, SameCells, IsLeftByFreeing, IsLeftByPut, IsLeftByReplacing};
     ghost use Rattle.milestone.specs.ReadCells.{pair_of, IsReadAs};
 
-    /// Reads the two cells of the document of this number. Each has `size` bytes, 256 to 16,777,216, and the first begins at
+    /// Reads the two cells of the document of this number in a format. Each has `size` bytes, 256 to 16,777,216, and the first begins at
     /// `place`. Of a closed cell the gate alone counts. `Damaged` comes exactly when they hold no pair: an open cell's body isn't
     /// spelled as a milestone of this document, or passes the cell's end. The device stays as it is.
     pub fn read_both<D: Disk>(
         alloc: Global,
         disk: &mut D,
+        format: Format,
         place: u64,
         size: u64,
         number: u32,
@@ -71,16 +73,17 @@ impl Cells {
         requires end { place + 2 * size < 2 ^ 62 }
         requires within { place + 2 * size ≤ length (D.seen disk.old) }
 
-        ensures found { IfOk result (λ read. D.honest disk.new → Fits (D.seen disk.old) read.cells (pair_of read)) }
+        ensures found { IfOk result (λ read. D.honest disk.new
+            → FitsIn format (D.seen disk.old) read.cells (pair_of read)) }
         ensures known { IfOk result (λ read. IsReadAs place size number read) }
         ensures damaged { IfErr result (λ e. e ≡ Refusal.Damaged → D.honest disk.new
-            → (pair : Pair) → ¬ HoldsPair place size number (D.seen disk.old) pair) }
+            → (pair : Pair) → ¬ HoldsPairIn format place size number (D.seen disk.old) pair) }
         ensures only { IfErr result (λ e. (e ≡ Refusal.Damaged) ⊎ ((e ≡ Refusal.NoMemory) ⊎ (e ≡ Refusal.Fault))) }
         ensures only_read { HasOnlyRead ⟦<D as Disk>⟧ disk.old disk.new }
         ensures faults { CountsFaultsAs ⟦<D as Disk>⟧ Refusal.Fault result disk.old disk.new }
     {
-        let first = read_cell(alloc, disk, place, size, number)?;
-        let second = read_cell(alloc, disk, place + size, size, number)?;
+        let first = read_cell(alloc, disk, format, place, size, number)?;
+        let second = read_cell(alloc, disk, format, place + size, size, number)?;
         let cells = Cells {
             place,
             size,

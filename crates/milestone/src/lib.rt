@@ -7,7 +7,8 @@
 //! milestone is what the job's deltas make, and that nothing but memory refuses it.
 //!
 //! `Cells` are the two cells of a document as they are known in memory: they are read together, the older one is closed, and a
-//! milestone is put where one is closed. How a cell spells a milestone stands in specs/CellSpelling.antt, what two cells hold in
+//! milestone is put where one is closed. How a cell spells a milestone in a `Format` stands in specs/CellSpelling.antt; the second format is
+//! written, and either one is read, what two cells hold in
 //! specs/OneCell.antt, and what a crash at any moment of a call leaves of them in specs/Cells.antt. The crate stands on `history`,
 //! whose cells it holds, on `revision` and `compose`, and on `journal` and `disk`.
 //!
@@ -38,6 +39,7 @@ mod cell;
 mod cells;
 mod composing;
 mod content;
+mod format;
 mod job;
 pub mod laws;
 mod milestone;
@@ -45,8 +47,10 @@ mod part;
 mod reading;
 mod writing;
 
+pub use cell::write_open;
 pub use cells::{Cells, ReadCells};
 pub use composing::{Composed, Uncomposed, compose_job, join_parts};
+pub use format::Format;
 pub use job::Job;
 pub use milestone::{Milestone, MilestoneParts};
 pub use part::{Part, PartBack, PartDone, compose_part};

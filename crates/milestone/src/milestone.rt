@@ -8,8 +8,7 @@ use revision::{Name, Sources};
 use std::marker::Model;
 
 /// A document at a revision, with its name and its sources there, seen as what a cell holds. The name has 1 to 64 characters, the
-/// revision is 1 to 2^53 - 1, and each source has a name of 1 to 32 characters, a number of 1 to 2^53 - 1 and a revision of 1 to
-/// the document's.
+/// revision is 1 to 2^53 - 1, and each source has a name of 1 to 32 characters and a window as one may have at the revision.
 #[derive(Drop)]
 pub struct Milestone {
     name: Name,
@@ -43,8 +42,8 @@ pub struct MilestoneParts {
 }
 
 impl Milestone {
-    /// The document of this name at a revision of 1 to 2^53 - 1, where its sources have numbers of 1 to 2^53 - 1 and revisions of 1
-    /// to this one. It takes no memory.
+    /// The document of this name at a revision of 1 to 2^53 - 1, where its sources have windows as they may have there. It takes no
+    /// memory.
     pub fn new(name: Name, revision: u64, document: Document, sources: Sources) -> Milestone
         requires first { 1 ≤ revision }
         requires last { revision ≤ last_of_all }

@@ -1,23 +1,24 @@
 //! Reading the body of a cell: each part of the spelling has one function, which answers what it read and the bytes behind it.
-ghost use Rattle.std.specs.Prelude.{◌≡◌, ◌+◌, ◌≤◌, ◌<◌, ◌^◌, ◌++◌, List, ℕ, true, length, OnOk, IfOk, IfErr, IfSome, IfNone};
+ghost use Rattle.std.specs.Prelude.{◌≡◌, ◌+◌, ◌≤◌, ◌<◌, ◌^◌, ◌++◌, ◌∷◌, [], List, ℕ, true, length, OnOk, IfOk, IfErr, IfSome, IfNone};
 ghost use Rattle.std.specs.Int.{w32, w64};
 ghost use Rattle.std.specs.Ordering.{is_lt};
-ghost use Rattle.attributes.specs.Map.{by_bytes};
+ghost use Rattle.attributes.specs.Map.{by_bytes, insert};
 ghost use Rattle.history.specs.Cell.{Cell};
 ghost use Rattle.journal.specs.Spelling as fields;
 ghost use Rattle.revision.specs.Name.{is_document_name, is_source_name};
-ghost use Rattle.revision.specs.Sources as specs;
-ghost use Rattle.revision.specs.declared.sources.LastTaken.{LastTaken};
+ghost use Rattle.revision.specs.Window.{longest, Window};
 ghost use Rattle.revision.specs.State.{last_of_all};
 ghost use Rattle.milestone.specs.CellSpelling as spelling;
-ghost use Rattle.milestone.specs.CellSpelling.{IsCell, cell_body};
-ghost use Rattle.milestone.specs.steps.Reading.{BeginsNone, IsWithin, IsContent, content_bytes, IsSource, AreSources, sources_bytes};
+ghost use Rattle.milestone.specs.CellSpelling.{IsCellIn, cell_body_in};
+ghost use Rattle.milestone.specs.steps.Reading.{BeginsNone, IsAbove, IsWithin, IsContent, content_bytes, IsCount, AreRevisions, revisions_bytes, IsWindowIn, IsSource, AreSources, sources_bytes};
 
+use crate::format::Format;
 use crate::milestone::Milestone;
+use crate::writing::IS_THERE;
 use document::Document;
 use journal::{read_delta, read_number32, read_number64, read_text16};
 use refusal::Refusal;
-use revision::{LastTaken, Name, Sources};
+use revision::{LONGEST, Name, Sources, Window};
 use std::alloc::{AllocError, Global};
 use std::cmp::Ordering;
 
@@ -43,35 +44,38 @@ impl From<AllocError> for Unread {
     }
 }
 
-/// The milestone whose spelling as a cell of the document of this number the bytes are, all of them, or none.
+/// The milestone whose spelling as a cell of the document of this number the bytes are in a format, all of them, or none.
 pub(crate) fn read_body(
     alloc: Global,
+    format: Format,
     number: u32,
     bytes: &[u8],
 ) -> Result<Option<Milestone>, Refusal>
-    ensures found { IfOk result (λ found. IfSome found (λ m. IsCell number m × (bytes.now ≡ cell_body number m))) }
-    ensures none { IfOk result (λ found. IfNone found ((cell : Cell) → IsCell number cell
-        → bytes.now ≡ cell_body number cell → ⊥)) }
+    ensures found { IfOk result (λ found. IfSome found (λ m. IsCellIn format number m
+        × (bytes.now ≡ cell_body_in format number m))) }
+    ensures none { IfOk result (λ found. IfNone found ((cell : Cell) → IsCellIn format number cell
+        → bytes.now ≡ cell_body_in format number cell → ⊥)) }
     ensures only { IfErr result (λ e. e ≡ Refusal.NoMemory) }
 {
-    match whole(alloc, number, bytes) {
+    match whole(alloc, format, number, bytes) {
         Ok(milestone) => Ok(Some(milestone)),
         Err(Unread::Malformed) => Ok(None),
         Err(Unread::NoMemory) => Err(Refusal::NoMemory),
     }
 }
 
-#[tactic(auto, unfolding(crate::specs::CellSpelling::cell_body))]
-fn whole(alloc: Global, number: u32, bytes: &[u8]) -> Result<Milestone, Unread>
-    ensures found { IfOk result (λ m. IsCell number m × (bytes.now ≡ cell_body number m)) }
-    ensures none { IfErr result (λ e. e ≡ Unread.Malformed → (cell : Cell) → IsCell number cell
-        → bytes.now ≡ cell_body number cell → ⊥) }
+#[tactic(auto, unfolding(crate::specs::CellSpelling::cell_body_in))]
+fn whole(alloc: Global, format: Format, number: u32, bytes: &[u8]) -> Result<Milestone, Unread>
+    ensures found { IfOk result (λ m. IsCellIn format number m × (bytes.now ≡ cell_body_in format number m)) }
+    ensures none { IfErr result (λ e. e ≡ Unread.Malformed → (cell : Cell) → IsCellIn format number cell
+        → bytes.now ≡ cell_body_in format number cell → ⊥) }
 {
     let rest = this_number(number, bytes)?;
     let (name, rest) = document_name(alloc, rest)?;
     let (revision, rest) = number_within(LAST_OF_ALL, rest)?;
+    let rest = marked(format, rest)?;
     let (document, rest) = content(alloc, rest)?;
-    let (sources, rest) = sources(alloc, revision, rest)?;
+    let (sources, rest) = sources(alloc, format, revision, rest)?;
     if !rest.is_empty() {
         return Err(Unread::Malformed);
     }
@@ -122,6 +126,45 @@ fn number_within(high: u64, bytes: &[u8]) -> Result<(u64, &[u8]), Unread>
     Ok((number, rest))
 }
 
+// a number above the one and up to the other
+fn number_above(low: u64, high: u64, bytes: &[u8]) -> Result<(u64, &[u8]), Unread>
+    ensures found { IfOk result (λ x. IsAbove low high x.0 × (bytes.now ≡ fields.number w64 x.0 ++ x.1.now)) }
+    ensures none { IfErr result (λ e. e ≡ Unread.Malformed
+        → BeginsNone (fields.number w64) (IsAbove low high) bytes.now) }
+{
+    let (number, rest) = number_within(high, bytes)?;
+    if number <= low {
+        return Err(Unread::Malformed);
+    }
+    Ok((number, rest))
+}
+
+// the first byte
+fn byte(bytes: &[u8]) -> Option<(u8, &[u8])>
+    ensures found { IfSome result (λ x. bytes.now ≡ x.0 ∷ x.1.now) }
+    ensures none { IfNone result (bytes.now ≡ []) }
+{
+    match bytes {
+        [first, rest @ ..] => Some((*first, rest)),
+        [] => None,
+    }
+}
+
+// what stands behind the revision in this format
+fn marked(format: Format, bytes: &[u8]) -> Result<&[u8], Unread>
+    ensures found { IfOk result (λ rest. bytes.now ≡ spelling.mark format ++ rest.now) }
+    ensures none { IfErr result (λ e. e ≡ Unread.Malformed → (rest : List ℕ)
+        → bytes.now ≡ spelling.mark format ++ rest → ⊥) }
+{
+    match format {
+        Format::One => Ok(bytes),
+        Format::Two => match byte(bytes) {
+            Some((IS_THERE, rest)) => Ok(rest),
+            _ => Err(Unread::Malformed),
+        },
+    }
+}
+
 fn document_name(alloc: Global, bytes: &[u8]) -> Result<(Name, &[u8]), Unread>
     ensures found { IfOk result (λ x. (is_document_name x.0 ≡ true) × (bytes.now ≡ fields.text16 x.0 ++ x.1.now)) }
     ensures none { IfErr result (λ e. e ≡ Unread.Malformed
@@ -169,9 +212,16 @@ fn content(alloc: Global, bytes: &[u8]) -> Result<(Document, &[u8]), Unread>
     }
 }
 
-fn sources(alloc: Global, revision: u64, bytes: &[u8]) -> Result<(Sources, &[u8]), Unread>
-    ensures found { IfOk result (λ x. AreSources revision x.0 × (bytes.now ≡ sources_bytes x.0 ++ x.1.now)) }
-    ensures none { IfErr result (λ e. e ≡ Unread.Malformed → BeginsNone sources_bytes (AreSources revision) bytes.now) }
+fn sources(
+    alloc: Global,
+    format: Format,
+    revision: u64,
+    bytes: &[u8],
+) -> Result<(Sources, &[u8]), Unread>
+    ensures found { IfOk result (λ x. AreSources format revision x.0
+        × (bytes.now ≡ sources_bytes format x.0 ++ x.1.now)) }
+    ensures none { IfErr result (λ e. e ≡ Unread.Malformed
+        → BeginsNone (sources_bytes format) (AreSources format revision) bytes.now) }
 {
     let Some((count, rest)) = read_number32(bytes) else {
         return Err(Unread::Malformed);
@@ -181,8 +231,8 @@ fn sources(alloc: Global, revision: u64, bytes: &[u8]) -> Result<(Sources, &[u8]
     let mut last = "";
     let mut rest = rest;
     for _ in 0..count {
-        let (text, name, taken, after) = source_above(alloc, last, revision, rest)?;
-        set(&mut sources, name, taken)?;
+        let (text, name, window, after) = source_above(alloc, format, last, revision, rest)?;
+        put(&mut sources, name, window)?;
         last = text;
         rest = after;
     }
@@ -193,33 +243,111 @@ fn sources(alloc: Global, revision: u64, bytes: &[u8]) -> Result<(Sources, &[u8]
 #[tactic(auto, unfolding(crate::specs::CellSpelling::source))]
 fn source_above<'a>(
     alloc: Global,
+    format: Format,
     last: &str,
     revision: u64,
     bytes: &'a [u8],
-) -> Result<(&'a str, Name, LastTaken, &'a [u8]), Unread>
-    ensures found { IfOk result (λ x. IsSource revision (x.1, x.2)
-        × (bytes.now ≡ spelling.source (x.1, x.2) ++ x.3.now)) }
+) -> Result<(&'a str, Name, Window, &'a [u8]), Unread>
+    ensures found { IfOk result (λ x. IsSource format revision (x.1, x.2)
+        × (bytes.now ≡ spelling.source format (x.1, x.2) ++ x.3.now)) }
     ensures same { IfOk result (λ x. x.1 ≡ x.0.now) }
     ensures above { IfOk result (λ x. is_lt (by_bytes last.now x.1) ≡ true) }
-    ensures none { IfErr result (λ e. e ≡ Unread.Malformed → (x : List ℕ × LastTaken) (rest : List ℕ)
-        → IsSource revision x
-        → is_lt (by_bytes last.now x.0) ≡ true → bytes.now ≡ spelling.source x ++ rest → ⊥) }
+    ensures none { IfErr result (λ e. e ≡ Unread.Malformed → (x : List ℕ × Window) (rest : List ℕ)
+        → IsSource format revision x
+        → is_lt (by_bytes last.now x.0) ≡ true → bytes.now ≡ spelling.source format x ++ rest → ⊥) }
 {
     let (text, name, rest) = source_name(alloc, bytes)?;
-    let (number, rest) = number_within(LAST_OF_ALL, rest)?;
-    let (revision, rest) = number_within(revision, rest)?;
+    let (window, rest) = window(format, revision, rest)?;
     match last.cmp(text) {
-        Ordering::Less => Ok((text, name, LastTaken { number, revision }, rest)),
+        Ordering::Less => Ok((text, name, window, rest)),
         _ => Err(Unread::Malformed),
     }
 }
 
-fn set(sources: &mut Sources, name: Name, taken: LastTaken) -> Result<(), Unread>
+// the window of a source at a revision
+fn window(format: Format, revision: u64, bytes: &[u8]) -> Result<(Window, &[u8]), Unread>
+    ensures found { IfOk result (λ x. IsWindowIn format revision x.0
+        × (bytes.now ≡ spelling.window format x.0 ++ x.1.now)) }
+    ensures none { IfErr result (λ e. e ≡ Unread.Malformed
+        → BeginsNone (spelling.window format) (IsWindowIn format revision) bytes.now) }
+{
+    match format {
+        Format::One => window_of_one(revision, bytes),
+        Format::Two => window_of_more(revision, bytes),
+    }
+}
+
+// a window of one number, as the first format spells it
+#[tactic(auto, unfolding(crate::specs::CellSpelling::window))]
+fn window_of_one(revision: u64, bytes: &[u8]) -> Result<(Window, &[u8]), Unread>
+    ensures found { IfOk result (λ x. IsWindowIn Format.One revision x.0
+        × (bytes.now ≡ spelling.window Format.One x.0 ++ x.1.now)) }
+    ensures none { IfErr result (λ e. e ≡ Unread.Malformed
+        → BeginsNone (spelling.window Format.One) (IsWindowIn Format.One revision) bytes.now) }
+{
+    let (number, rest) = number_within(LAST_OF_ALL, bytes)?;
+    let (made, rest) = number_within(revision, rest)?;
+    Ok((Window::of_one(number, made), rest))
+}
+
+// a window of one number or more, as the second format spells it
+#[tactic(auto, unfolding(crate::specs::CellSpelling::window))]
+fn window_of_more(revision: u64, bytes: &[u8]) -> Result<(Window, &[u8]), Unread>
+    ensures found { IfOk result (λ x. IsWindowIn Format.Two revision x.0
+        × (bytes.now ≡ spelling.window Format.Two x.0 ++ x.1.now)) }
+    ensures none { IfErr result (λ e. e ≡ Unread.Malformed
+        → BeginsNone (spelling.window Format.Two) (IsWindowIn Format.Two revision) bytes.now) }
+{
+    let (number, rest) = number_within(LAST_OF_ALL, bytes)?;
+    let (count, rest) = count_within(number, rest)?;
+    let (window, rest) = revisions(number, count, revision, rest)?;
+    Ok((window, rest))
+}
+
+// how many numbers a window with this last number has
+fn count_within(number: u64, bytes: &[u8]) -> Result<(u64, &[u8]), Unread>
+    ensures found { IfOk result (λ x. IsCount number x.0 × (bytes.now ≡ x.0 ∷ x.1.now)) }
+    ensures none { IfErr result (λ e. e ≡ Unread.Malformed → (count : ℕ) (rest : List ℕ)
+        → IsCount number count → bytes.now ≡ count ∷ rest → ⊥) }
+{
+    let Some((count, rest)) = byte(bytes) else {
+        return Err(Unread::Malformed);
+    };
+    let count = u64::from(count);
+    let is_count = count >= 1 && count <= LONGEST as u64 && count <= number;
+    if !is_count {
+        return Err(Unread::Malformed);
+    }
+    Ok((count, rest))
+}
+
+// The window with this last number that has so many revisions, each above the one before it, and the last one up to `high`.
+fn revisions(number: u64, count: u64, high: u64, bytes: &[u8]) -> Result<(Window, &[u8]), Unread>
+    requires { count ≤ longest }
+    ensures number { IfOk result (λ x. x.0.number ≡ number) }
+    ensures found { IfOk result (λ x. AreRevisions count high x.0.revisions
+        × (bytes.now ≡ revisions_bytes x.0.revisions ++ x.1.now)) }
+    ensures none { IfErr result (λ e. e ≡ Unread.Malformed
+        → BeginsNone revisions_bytes (AreRevisions count high) bytes.now) }
+{
+    let mut window = Window::begun(number);
+    let mut last = 0;
+    let mut rest = bytes;
+    for _ in 0..count {
+        let (revision, after) = number_above(last, high, rest)?;
+        window.add(revision);
+        last = revision;
+        rest = after;
+    }
+    Ok((window, rest))
+}
+
+fn put(sources: &mut Sources, name: Name, window: Window) -> Result<(), Unread>
     requires { is_source_name name ≡ true }
-    ensures ok { OnOk result (sources.new ≡ specs.with_last name taken.number taken.revision sources.old) }
+    ensures ok { OnOk result (sources.new ≡ insert sources.old name window) }
     ensures only { IfErr result (λ e. e ≡ Unread.NoMemory) }
 {
-    match sources.set(name, taken.number, taken.revision) {
+    match sources.put(name, window) {
         Ok(()) => Ok(()),
         Err(_) => Err(Unread::NoMemory),
     }

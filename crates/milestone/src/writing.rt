@@ -1,16 +1,22 @@
 //! Writing the body of a cell: each part of the spelling has one function.
-ghost use Rattle.std.specs.Prelude.{◌≡◌, ◌++◌, ◌<◌, ◌^◌, length, OnOk, IfOk, IfErr};
+ghost use Rattle.std.specs.Prelude.{◌≡◌, ◌++◌, ◌∷◌, ◌<◌, ◌^◌, length, OnOk, IfOk, IfErr};
+ghost use Rattle.std.specs.List.{flat_map};
+ghost use Rattle.std.specs.Int.{w64};
 ghost use Rattle.revision.specs.Sources.{count_of};
 ghost use Rattle.journal.specs.Area.{frame};
 ghost use Rattle.journal.specs.Spelling as fields;
 ghost use Rattle.milestone.specs.CellSpelling as spelling;
 ghost use Rattle.milestone.specs.CellSpelling.{IsCell, cell_body};
+ghost use Rattle.milestone.specs.declared.format.Format.TheVariants.{Two};
 
 use crate::milestone::Milestone;
 use journal::{write_delta, write_number32, write_number64, write_text16};
 use refusal::Refusal;
-use revision::{LastTaken, Name, Sources};
+use revision::{Name, Sources, Window};
 use std::alloc::{AllocError, Global};
+
+/// The byte behind a cell's revision that says that there is a document.
+pub(crate) const IS_THERE: u8 = 1;
 
 /// What stands behind the gate of a cell of the document of this number: the body's length in four bytes, and the body.
 pub(crate) fn framed(alloc: Global, number: u32, milestone: &Milestone) -> Result<Vec<u8>, Refusal>
@@ -27,7 +33,7 @@ pub(crate) fn framed(alloc: Global, number: u32, milestone: &Milestone) -> Resul
 }
 
 /// The body of a cell of the document of this number.
-#[tactic(auto, unfolding(crate::specs::CellSpelling::cell_body))]
+#[tactic(auto, unfolding(crate::specs::CellSpelling::cell_body_in))]
 fn body_of(alloc: Global, number: u32, milestone: &Milestone) -> Result<Vec<u8>, Refusal>
     requires { IsCell number milestone.now }
     ensures bytes { IfOk result (λ v. v.items ≡ cell_body number milestone.now) }
@@ -38,6 +44,7 @@ fn body_of(alloc: Global, number: u32, milestone: &Milestone) -> Result<Vec<u8>,
     write_number32(&mut out, number)?;
     write_name(&mut out, milestone.name())?;
     write_number64(&mut out, milestone.revision())?;
+    out.push(IS_THERE)?;
     write_delta(&mut out, &content)?;
     write_sources(&mut out, milestone.sources())?;
     Ok(out)
@@ -55,7 +62,7 @@ fn write_name(out: &mut Vec<u8>, name: &Name) -> Result<(), AllocError>
 #[tactic(auto, unfolding(crate::specs::CellSpelling::sources))]
 fn write_sources(out: &mut Vec<u8>, sources: &Sources) -> Result<(), AllocError>
     requires { count_of sources.now < 2 ^ 32 }
-    ensures { OnOk result (out.new.items ≡ out.old.items ++ spelling.sources sources.now.entries) }
+    ensures { OnOk result (out.new.items ≡ out.old.items ++ spelling.sources Two sources.now.entries) }
 {
     let entries = sources.entries();
     write_number32(out, entries.len() as u32)?;
@@ -66,11 +73,28 @@ fn write_sources(out: &mut Vec<u8>, sources: &Sources) -> Result<(), AllocError>
 }
 
 #[tactic(auto, unfolding(crate::specs::CellSpelling::source))]
-fn write_source(out: &mut Vec<u8>, entry: &(Name, LastTaken)) -> Result<(), AllocError>
-    ensures { OnOk result (out.new.items ≡ out.old.items ++ spelling.source entry.now) }
+fn write_source(out: &mut Vec<u8>, entry: &(Name, Window)) -> Result<(), AllocError>
+    ensures { OnOk result (out.new.items ≡ out.old.items ++ spelling.source Two entry.now) }
 {
     write_name(out, &entry.0)?;
-    write_number64(out, entry.1.number)?;
-    write_number64(out, entry.1.revision)?;
+    write_window(out, &entry.1)
+}
+
+#[tactic(auto, unfolding(crate::specs::CellSpelling::window))]
+fn write_window(out: &mut Vec<u8>, window: &Window) -> Result<(), AllocError>
+    ensures { OnOk result (out.new.items ≡ out.old.items ++ spelling.window Two window.now) }
+{
+    write_number64(out, window.number())?;
+    let revisions = window.revisions();
+    out.push(revisions.len() as u8)?;
+    write_numbers(out, revisions)
+}
+
+fn write_numbers(out: &mut Vec<u8>, numbers: &[u64]) -> Result<(), AllocError>
+    ensures { OnOk result (out.new.items ≡ out.old.items ++ flat_map (fields.number w64) numbers.now) }
+{
+    for number in numbers {
+        write_number64(out, *number)?;
+    }
     Ok(())
 }

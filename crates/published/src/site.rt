@@ -23,7 +23,7 @@ impl Site for Brand {
     } };
 
     ghost start = { record {
-      limits = record { docs = 0; sources = 0; weight = 0; width = 0; keep = 0 };
+      limits = record { docs = 0; sources = 0; weight = 0; width = 0; keep = 0; retry = 0 };
       documents = [];
     } };
 }

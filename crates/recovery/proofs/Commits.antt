@@ -7,6 +7,7 @@ use Rattle.disk.specs.Device.{SameOutside}
 use Rattle.revision.specs.Command.{Taken}
 use Rattle.revision.specs.State.{fold, all_grow}
 use Rattle.journal.specs.BatchSpelling.{IsBatch, batch}
+use Rattle.history.specs.Shown.{with_commands}
 use Rattle.history.specs.Running.{Runs}
 use Rattle.history.proofs.CallerLemmas.{commits}
 use Rattle.segments.specs.declared.ring.Ring.{Ring}
@@ -119,9 +120,9 @@ module _ {D : Type 0} {disk : Ghosts D} (store : Store D disk) (is_open : IsOpen
         }
 
     -- the store runs on with it
-    pub runs_with : Runs (is_open.order ++ commands) is_open.cells (commands_of batches_then) (fold store.state commands)
+    pub runs_with : Runs (with_commands is_open.order commands) is_open.cells (commands_of batches_then) (fold store.state commands)
     runs_with =
-        subst (λ (entries : List Taken). Runs (is_open.order ++ commands) is_open.cells entries (fold store.state commands)) (sym (commands_of-push is_open.batches commands))
+        subst (λ (entries : List Taken). Runs (with_commands is_open.order commands) is_open.cells entries (fold store.state commands)) (sym (commands_of-push is_open.batches commands))
         (commits is_open.order is_open.cells (commands_of is_open.batches) store.state commands is_open.runs grow)
 
     pub limits_with : (fold store.state commands).limits ≡ limits_of store.shape
@@ -137,7 +138,7 @@ module _ {D : Type 0} {disk : Ghosts D} (store : Store D disk) (is_open : IsOpen
           cells = is_open.cells;
           table = now;
           batches = batches_then;
-          order = is_open.order ++ commands;
+          order = with_commands is_open.order commands;
           holds = parts_with content ready now (length (batch commands)) is appended held;
           limits = limits_with;
           runs = runs_with;

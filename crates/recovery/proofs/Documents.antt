@@ -14,14 +14,16 @@ use Rattle.history.specs.Found.{unread, StandsFor, StandFor}
 use Rattle.history.specs.Reading.{HasRead, entered, enters, is_there, ReadsNext, NothingLeft}
 use Rattle.history.proofs.CallerLemmas.{reading_begins, reading_goes_on, reading_ends, reading_finds}
 use Rattle.milestone.specs.declared.cells.Cells.{Cells}
-use Rattle.milestone.specs.OneCell.{HoldsPair}
-use Rattle.milestone.specs.Cells.{Fits, place_of, size_of}
+use Rattle.milestone.specs.declared.format.Format.{Format}
+use Rattle.milestone.specs.declared.format.Format.TheVariants.{One, Two}
+use Rattle.milestone.specs.OneCell.{HoldsPairIn}
+use Rattle.milestone.specs.Cells.{FitsIn, place_of, size_of}
 use Rattle.milestone.proofs.CallerLemmas.{one_pair}
 use Rattle.recovery.specs.declared.shape.Shape.{Shape}
 use Rattle.recovery.specs.Shape.{is_in_range, cells_place}
-use Rattle.recovery.specs.Layout.{HoldsCells}
-use Rattle.recovery.specs.Cells.{IsCellsOf, FitEach}
-use Rattle.recovery.specs.Found.{limits_of, empty_state}
+use Rattle.recovery.specs.Layout.{HoldsCellsIn}
+use Rattle.recovery.specs.Cells.{IsCellsOf, FitEachIn}
+use Rattle.recovery.specs.Found.{retry_in, limits_in}
 use Rattle.recovery.specs.steps.Reading.{AreByDocument, IsNextRead, IsDocumentRead, IsNext, AreDocumentsRead}
 use Rattle.recovery.proofs.Folds.{fold-limits}
 use Rattle.recovery.proofs.Superblocks.{ranges_of}
@@ -65,12 +67,12 @@ pub record ReadTo (pairs : List Pair) (pick : Pick) (entries : List Taken) (list
       → (picked pick (cells_at pairs number) ≡ None) × (get_or lists number [] ≡ [])
 
 -- What is read so far of a content, of which the cells are known where the device is honest.
-pub record SoFar (honest : Type 0) (content : List ℕ) (shape : Shape) (pick : Pick) (lists : List (List Taken)) (known : List Cells) (state : State) : Type 0 where
+pub record SoFar (format : Format) (honest : Type 0) (content : List ℕ) (shape : Shape) (pick : Pick) (lists : List (List Taken)) (known : List Cells) (state : State) : Type 0 where
   pub pairs : List Pair
   pub count : length pairs ≡ length known
   pub of : (number : ℕ) (cells : Cells) → slice_get known number ≡ Some cells → IsCellsOf shape number cells
-  pub fit : honest → FitEach content known pairs
-  pub limits : state.limits ≡ limits_of shape
+  pub fit : honest → FitEachIn format content known pairs
+  pub limits : state.limits ≡ limits_in format shape
   pub reads : (entries : List Taken) → AreByDocument entries lists → ReadTo pairs pick entries lists state
 
 nothing-there : (cell : Option Cell) (entries : List Taken) → is_there cell entries ≡ false → (cell ≡ None) × (entries ≡ [])
@@ -214,8 +216,12 @@ module _ (pick : Pick) (entries : List Taken) (lists : List (List Taken)) (by : 
   goes_on = by-test (is_there cell own) refl
 
 -- The limits of a shape are in their ranges.
-pub limits_in_range : (shape : Shape) → is_in_range shape ≡ true → IsLimits (limits_of shape)
-limits_in_range shape is =
+few_in : (format : Format) → retry_in format ≤ 8
+few_in One = omega arith
+few_in Two = omega arith
+
+pub limits_in_range : (format : Format) (shape : Shape) → is_in_range shape ≡ true → IsLimits (limits_in format shape)
+limits_in_range format shape is =
     let ranges = ranges_of shape is in
     record {
       some_document = ranges.docs_low;
@@ -226,19 +232,20 @@ limits_in_range shape is =
       width = omega (arith, ranges.slot);
       some_revision = ranges.keep_low;
       keep = ranges.keep;
+      retry = few_in format;
     }
 
 -- Nothing is read yet.
-pub begins : (honest : Type 0) (content : List ℕ) (shape : Shape) (pick : Pick) (lists : List (List Taken)) → is_in_range shape ≡ true
-    → SoFar honest content shape pick lists [] (empty_state shape)
-begins honest content shape pick lists is = record {
+pub begins : (format : Format) (honest : Type 0) (content : List ℕ) (shape : Shape) (pick : Pick) (lists : List (List Taken)) → is_in_range shape ≡ true
+    → SoFar format honest content shape pick lists [] (record { limits = limits_in format shape; documents = [] })
+begins format honest content shape pick lists is = record {
   pairs = [];
   count = refl;
   of = λ number cells there. absurd (cc);
   fit = λ h number cells there. absurd (cc);
   limits = refl;
   reads = λ entries by. record {
-    has = reading_begins (limits_of shape) [] entries pick (limits_in_range shape is);
+    has = reading_begins (limits_in format shape) [] entries pick (limits_in_range format shape is);
     low = omega arith;
     gap = λ number le lt. absurd (omega (arith, lt));
   };
@@ -252,20 +259,20 @@ document-limits number cell own state after read =
     (λ next. ap (λ (s : State). s.limits) next.is ∙ (fold-limits (entered state cell) (unread cell own) ∙ entered-limits state cell))
     read
 
-pub one_more : (honest now_honest : Type 0) (content : List ℕ) (shape : Shape) (pick : Pick) (lists : List (List Taken)) (own : List Taken) (known now : List Cells)
-    (state after : State) → SoFar honest content shape pick lists known state → (now_honest → honest) → own ≡ get_or lists (length known) []
-    → IsNext now_honest content shape pick own known state now after → SoFar now_honest content shape pick lists now after
-one_more honest now_honest content shape pick lists own known now state after so_far was_honest is_own next =
-    subst (λ (k : List Cells). SoFar now_honest content shape pick lists k after) (sym next.is)
+pub one_more : (format : Format) (honest now_honest : Type 0) (content : List ℕ) (shape : Shape) (pick : Pick) (lists : List (List Taken)) (own : List Taken) (known now : List Cells)
+    (state after : State) → SoFar format honest content shape pick lists known state → (now_honest → honest) → own ≡ get_or lists (length known) []
+    → IsNext format now_honest content shape pick own known state now after → SoFar format now_honest content shape pick lists now after
+one_more format honest now_honest content shape pick lists own known now state after so_far was_honest is_own next =
+    subst (λ (k : List Cells). SoFar format now_honest content shape pick lists k after) (sym next.is)
     (record {
       pairs = so_far.pairs ++ next.pair ∷ [];
       count = length-append so_far.pairs (next.pair ∷ []) ∙ (ap (λ n. n + 1) so_far.count ∙ sym (length-append known (next.cells ∷ [])));
       of = each-push (IsCellsOf shape) known next.cells so_far.of next.of;
-      fit = λ h. each-push (λ n (cells : Cells). Fits content cells (cells_at (so_far.pairs ++ next.pair ∷ []) n)) known next.cells
+      fit = λ h. each-push (λ n (cells : Cells). FitsIn format content cells (cells_at (so_far.pairs ++ next.pair ∷ []) n)) known next.cells
           (λ n cells there.
           let fits = so_far.fit (was_honest h) n cells there in
-          subst (Fits content cells) (sym (cells-before so_far.pairs next.pair n (omega (arith, so_far.count, slice_get_within known n cells there)))) fits)
-          (subst (Fits content next.cells) (sym (ap (cells_at (so_far.pairs ++ next.pair ∷ [])) (sym so_far.count) ∙ cells-own so_far.pairs next.pair)) (next.fits h));
+          subst (FitsIn format content cells) (sym (cells-before so_far.pairs next.pair n (omega (arith, so_far.count, slice_get_within known n cells there)))) fits)
+          (subst (FitsIn format content next.cells) (sym (ap (cells_at (so_far.pairs ++ next.pair ∷ [])) (sym so_far.count) ∙ cells-own so_far.pairs next.pair)) (next.fits h));
       limits = document-limits (length known) (picked pick next.pair) own state after next.read ∙ so_far.limits;
       reads = λ entries by.
           let to = so_far.reads entries by in
@@ -278,12 +285,12 @@ one_more honest now_honest content shape pick lists own known now state after so
     })
 
 -- cells that fit hold their pair where those of their number lie
-pub held-pair : (content : List ℕ) (shape : Shape) (number : ℕ) (cells : Cells) (pair : Pair) → IsCellsOf shape number cells → Fits content cells pair
-    → HoldsPair (cells_place shape number) shape.cell number content pair
-held-pair content shape number cells pair place fits =
-    subst (λ n. HoldsPair n shape.cell number content pair) place.place
-    (subst (λ n. HoldsPair (place_of cells) n number content pair) place.size
-    (subst (λ n. HoldsPair (place_of cells) (size_of cells) n content pair) place.of fits.holds))
+pub held-pair : (format : Format) (content : List ℕ) (shape : Shape) (number : ℕ) (cells : Cells) (pair : Pair) → IsCellsOf shape number cells → FitsIn format content cells pair
+    → HoldsPairIn format (cells_place shape number) shape.cell number content pair
+held-pair format content shape number cells pair place fits =
+    subst (λ n. HoldsPairIn format n shape.cell number content pair) place.place
+    (subst (λ n. HoldsPairIn format (place_of cells) n number content pair) place.size
+    (subst (λ n. HoldsPairIn format (place_of cells) (size_of cells) n content pair) place.of fits.holds))
 
 -- the list that comes behind others
 pub own-at : {A B : Type 0} (f : A → B) (before : List A) (own : A) (rest : List A) (d : B) → get_or (map f (before ++ own ∷ rest)) (length before) d ≡ f own
@@ -300,23 +307,23 @@ not-within (x ∷ xs) zero lt is = absurd (cc)
 not-within (x ∷ xs) (suc n) lt is = not-within xs n (omega (arith, lt)) is
 
 -- the cells of a content that were read are those that it holds
-held : (content : List ℕ) (shape : Shape) (known : List Cells) (pairs : List Pair)
-    → ((number : ℕ) (cells : Cells) → slice_get known number ≡ Some cells → IsCellsOf shape number cells) → FitEach content known pairs
-    → (number : ℕ) → number < length known → HoldsPair (cells_place shape number) shape.cell number content (cells_at pairs number)
-held content shape known pairs of fit number lt = on (slice_get known number) refl
+held : (format : Format) (content : List ℕ) (shape : Shape) (known : List Cells) (pairs : List Pair)
+    → ((number : ℕ) (cells : Cells) → slice_get known number ≡ Some cells → IsCellsOf shape number cells) → FitEachIn format content known pairs
+    → (number : ℕ) → number < length known → HoldsPairIn format (cells_place shape number) shape.cell number content (cells_at pairs number)
+held format content shape known pairs of fit number lt = on (slice_get known number) refl
   where
-    on : (found : Option Cells) → slice_get known number ≡ found → HoldsPair (cells_place shape number) shape.cell number content (cells_at pairs number)
+    on : (found : Option Cells) → slice_get known number ≡ found → HoldsPairIn format (cells_place shape number) shape.cell number content (cells_at pairs number)
     on None is = absurd (not-within known number lt is)
-    on (Some cells) is = held-pair content shape number cells (cells_at pairs number) (of number cells is) (fit number cells is)
+    on (Some cells) is = held-pair format content shape number cells (cells_at pairs number) (of number cells is) (fit number cells is)
 
-pub all_read : (honest : Type 0) (content : List ℕ) (shape : Shape) (pick : Pick) (lists : List (List Taken)) (known : List Cells) (state : State)
-    → SoFar honest content shape pick lists known state → length known ≡ shape.docs → length lists ≡ shape.docs → honest
-    → (entries : List Taken) → AreByDocument entries lists → AreDocumentsRead content shape pick entries known state
-all_read honest content shape pick lists known state so_far count lists_count h entries by = record {
+pub all_read : (format : Format) (honest : Type 0) (content : List ℕ) (shape : Shape) (pick : Pick) (lists : List (List Taken)) (known : List Cells) (state : State)
+    → SoFar format honest content shape pick lists known state → length known ≡ shape.docs → length lists ≡ shape.docs → honest
+    → (entries : List Taken) → AreByDocument entries lists → AreDocumentsRead format content shape pick entries known state
+all_read format honest content shape pick lists known state so_far count lists_count h entries by = record {
   pairs = so_far.pairs;
   holds = record {
     count = so_far.count ∙ count;
-    each = λ number lt. held content shape known so_far.pairs so_far.of (so_far.fit h) number (omega (arith, lt, count));
+    each = λ number lt. held format content shape known so_far.pairs so_far.of (so_far.fit h) number (omega (arith, lt, count));
   };
   fit = so_far.fit h;
   stand = subst (λ (l : Limits). StandFor l so_far.pairs entries pick state) so_far.limits
@@ -324,18 +331,18 @@ all_read honest content shape pick lists known state so_far count lists_count h 
 }
 
 -- Where the next number can't be read, the parts stand for no state.
-pub none_stand : (honest : Type 0) (content : List ℕ) (shape : Shape) (pick : Pick) (lists : List (List Taken)) (known : List Cells) (state : State) (own : List Taken)
-    → SoFar honest content shape pick lists known state → honest → length known < shape.docs → own ≡ get_or lists (length known) []
-    → ((pair : Pair) → HoldsPair (cells_place shape (length known)) shape.cell (length known) content pair
+pub none_stand : (format : Format) (honest : Type 0) (content : List ℕ) (shape : Shape) (pick : Pick) (lists : List (List Taken)) (known : List Cells) (state : State) (own : List Taken)
+    → SoFar format honest content shape pick lists known state → honest → length known < shape.docs → own ≡ get_or lists (length known) []
+    → ((pair : Pair) → HoldsPairIn format (cells_place shape (length known)) shape.cell (length known) content pair
     → (after : State) → ¬ IsDocumentRead (length known) (picked pick pair) own state after)
-    → (pairs : List Pair) → HoldsCells content shape pairs → (entries : List Taken) → AreByDocument entries lists
-    → (found : State) → ¬ StandFor (limits_of shape) pairs entries pick found
-none_stand honest content shape pick lists known state own so_far h lt is_own none pairs holds entries by found stand =
+    → (pairs : List Pair) → HoldsCellsIn format content shape pairs → (entries : List Taken) → AreByDocument entries lists
+    → (found : State) → ¬ StandFor (limits_in format shape) pairs entries pick found
+none_stand format honest content shape pick lists known state own so_far h lt is_own none pairs holds entries by found stand =
     goes_on pick entries lists by so_far.pairs pairs state found (so_far.reads entries by)
     (λ n below.
     let inside : n < length known = omega (arith, below, so_far.count) in
-    one_pair (cells_place shape n) shape.cell n content (cells_at pairs n) (cells_at so_far.pairs n)
-    (holds.each n (omega (arith, inside, lt))) (held content shape known so_far.pairs so_far.of (so_far.fit h) n inside))
+    one_pair format (cells_place shape n) shape.cell n content (cells_at pairs n) (cells_at so_far.pairs n)
+    (holds.each n (omega (arith, inside, lt))) (held format content shape known so_far.pairs so_far.of (so_far.fit h) n inside))
     (subst (λ (l : Limits). StandFor l pairs entries pick found) (sym so_far.limits) stand)
     (λ after read.
     none (cells_at pairs (length known)) (holds.each (length known) lt) after

@@ -13,6 +13,7 @@ use Rattle.journal.specs.Area.{open_gate}
 use Rattle.journal.specs.BatchSpelling.{IsBatch}
 use Rattle.revision.specs.Invariants.{IsLimits}
 use Rattle.history.specs.Cell.{Pair, no_cells, cells_at}
+use Rattle.history.specs.Shown.{no_order}
 use Rattle.history.proofs.CallerLemmas.{begins as begins_empty}
 use Rattle.milestone.specs.OneCell.{HoldsPair}
 use Rattle.segments.specs.Slot.{Segment, HoldsSlot, number_of}
@@ -98,7 +99,7 @@ pub no_bodies : (shape : Shape) → bodies_of (empty_table shape) ≡ []
 no_bodies shape = ap (λ (l : List Segment). flat_map (λ (segment : Segment). segment.bodies) l) (no_segments shape.slots)
 
 -- the slots hold that table where their gates are closed
-slots_empty : (shape : Shape) (content : List ℕ) → is_in_range shape ≡ true → ((s : ℕ) → s < shape.slots → IsClosed content (slot_place (slots_place shape) shape.slot s)) → HoldsSlots content shape (empty_table shape)
+pub slots_empty : (shape : Shape) (content : List ℕ) → is_in_range shape ≡ true → ((s : ℕ) → s < shape.slots → IsClosed content (slot_place (slots_place shape) shape.slot s)) → HoldsSlots content shape (empty_table shape)
 slots_empty shape content in_range closed = record {
   count = length-replicate shape.slots None;
   holds = record {
@@ -112,13 +113,13 @@ slots_empty shape content in_range closed = record {
 }
 
 -- no document has a cell
-no_pair : (count number : ℕ) → cells_at (replicate count no_cells) number ≡ no_cells
+pub no_pair : (count number : ℕ) → cells_at (replicate count no_cells) number ≡ no_cells
 no_pair zero number = refl
 no_pair (suc count) zero = refl
 no_pair (suc count) (suc number) = no_pair count number
 
 -- the two cells of each document are closed where all their gates are
-cells_empty : (shape : Shape) (content : List ℕ) → is_in_range shape ≡ true → ((k : ℕ) → k < 2 * shape.docs → IsClosed content (cell_place shape k))
+pub cells_empty : (shape : Shape) (content : List ℕ) → is_in_range shape ≡ true → ((k : ℕ) → k < 2 * shape.docs → IsClosed content (cell_place shape k))
     → HoldsCells content shape (replicate shape.docs no_cells)
 cells_empty shape content in_range closed = record {
   count = length-replicate shape.docs no_cells;
@@ -149,6 +150,7 @@ are_limits shape in_range =
       width = omega (arith, ranges.slot);
       some_revision = ranges.keep_low;
       keep = ranges.keep;
+      retry = omega arith;
     }
 
 -- with an open gate in front, what is prepared is an empty store
@@ -168,7 +170,7 @@ empty_store shape content in_range is gate = record { laid_out = laid_out; found
       cells = replicate shape.docs no_cells;
       table = empty_table shape;
       batches = [];
-      order = [];
+      order = no_order;
       holds = record { laid_out = laid_out; spell = record { spelled = no_bodies shape; each = All-nil IsBatch } };
       limits = refl;
       runs = begins_empty (limits_of shape) (are_limits shape in_range);

@@ -16,9 +16,11 @@ use Rattle.segments.specs.Slot.{Segment}
 use Rattle.segments.proofs.CallerLemmas.{one_table}
 use Rattle.recovery.specs.declared.shape.Shape.{Shape}
 use Rattle.recovery.specs.Shape.{cells_place, slots_place}
-use Rattle.recovery.specs.Layout.{HoldsCells, HoldsSlots}
+use Rattle.milestone.specs.declared.format.Format.{Format}
+use Rattle.milestone.specs.declared.format.Format.TheVariants.{Two}
+use Rattle.recovery.specs.Layout.{HoldsCellsIn, HoldsSlots}
 use Rattle.segments.specs.Order.{bodies_of}
-use Rattle.recovery.specs.Found.{Found, RunsWith, HoldsParts, SpellBatches, limits_of, commands_of}
+use Rattle.recovery.specs.Found.{FoundIn, Found, RunsWith, HoldsPartsIn, HoldsParts, SpellBatches, limits_in, limits_of, commands_of}
 use Rattle.recovery.proofs.Named.{named_same}
 
 -- lists of pairs of one length that have the same pair at each number
@@ -32,12 +34,12 @@ pairs_same (x ∷ a) (y ∷ b) count each =
     λ i. first i ∷ others i
 
 -- the cells of a shape hold one list of pairs at most, and its slots one table
-pub cells_same : (content : List ℕ) (shape : Shape) (a b : List Pair) → HoldsCells content shape a → HoldsCells content shape b → a ≡ b
-cells_same content shape a b is_a is_b =
+pub cells_same : (format : Format) (content : List ℕ) (shape : Shape) (a b : List Pair) → HoldsCellsIn format content shape a → HoldsCellsIn format content shape b → a ≡ b
+cells_same format content shape a b is_a is_b =
     pairs_same a b (is_a.count ∙ sym is_b.count)
     (λ number inside.
     let below : number < shape.docs = omega (arith, inside, is_a.count) in
-    one_pair (cells_place shape number) shape.cell number content (cells_at a number) (cells_at b number) (is_a.each number below) (is_b.each number below))
+    one_pair format (cells_place shape number) shape.cell number content (cells_at a number) (cells_at b number) (is_a.each number below) (is_b.each number below))
 
 pub slots_same : (content : List ℕ) (shape : Shape) (a b : List (Option Segment)) → HoldsSlots content shape a → HoldsSlots content shape b → a ≡ b
 slots_same content shape a b is_a is_b = one_table (slots_place shape) shape.slot content a b (is_a.count ∙ sym is_b.count) is_a.holds is_b.holds
@@ -64,36 +66,47 @@ pub record SameParts (shape : Shape) (cells : List Pair) (batches : List (List T
   pub cells_are : other_cells ≡ cells
   pub batches_are : other_batches ≡ batches
 
-pub parts_once : (content : List ℕ) (shape other : Shape) (cells other_cells : List Pair) (table other_table : List (Option Segment)) (batches other_batches : List (List Taken))
-    → HoldsParts content shape cells table batches → HoldsParts content other other_cells other_table other_batches → SameParts shape cells batches other other_cells other_batches
-parts_once content shape other cells other_cells table other_table batches other_batches holds others =
-    let shapes : other ≡ shape = named_same content other shape others.laid_out.names holds.laid_out.names in
-    let here : HoldsParts content shape other_cells other_table other_batches = subst (λ (s : Shape). HoldsParts content s other_cells other_table other_batches) shapes others in
+pub parts_once : (format : Format) (content : List ℕ) (shape other : Shape) (cells other_cells : List Pair) (table other_table : List (Option Segment)) (batches other_batches : List (List Taken))
+    → HoldsPartsIn format content shape cells table batches → HoldsPartsIn format content other other_cells other_table other_batches
+    → SameParts shape cells batches other other_cells other_batches
+parts_once format content shape other cells other_cells table other_table batches other_batches holds others =
+    let shapes : other ≡ shape = named_same format content other shape others.laid_out.names holds.laid_out.names in
+    let here : HoldsPartsIn format content shape other_cells other_table other_batches =
+    subst (λ (s : Shape). HoldsPartsIn format content s other_cells other_table other_batches) shapes others in
     let tables : other_table ≡ table = slots_same content shape other_table table here.laid_out.in_slots holds.laid_out.in_slots in
     record {
       shapes = shapes;
-      cells_are = cells_same content shape other_cells cells here.laid_out.in_cells holds.laid_out.in_cells;
+      cells_are = cells_same format content shape other_cells cells here.laid_out.in_cells holds.laid_out.in_cells;
       batches_are = batches_same table other_batches batches (subst (λ (t : List (Option Segment)). SpellBatches (bodies_of t) other_batches) tables here.spell) holds.spell;
     }
 
--- what is found of a content that holds these parts, they stand for; and a state that its store runs with, they run with
+-- what is found of a content that holds these parts, they stand for
+pub stand_in : (format : Format) (content : List ℕ) (shape : Shape) (cells : List Pair) (table : List (Option Segment)) (batches : List (List Taken))
+    → HoldsPartsIn format content shape cells table batches → (pick : Pick) (state : State) → FoundIn format content pick state
+    → StandFor (limits_in format shape) cells (commands_of batches) pick state
+stand_in format content shape cells table batches holds pick state found =
+    let same = parts_once format content shape found.shape cells found.cells table found.table batches found.batches holds found.holds in
+    subst (λ (s : Shape). StandFor (limits_in format s) cells (commands_of batches) pick state) same.shapes
+    (subst (λ (c : List Pair). StandFor (limits_in format found.shape) c (commands_of batches) pick state) same.cells_are
+    (subst (λ (b : List (List Taken)). StandFor (limits_in format found.shape) found.cells (commands_of b) pick state) same.batches_are found.stand))
+
+-- and a state that its store runs with, they run with
 module _ (content : List ℕ) (shape : Shape) (cells : List Pair) (table : List (Option Segment)) (batches : List (List Taken)) (holds : HoldsParts content shape cells table batches) where
   pub stand_at : (pick : Pick) (state : State) → Found content pick state → StandFor (limits_of shape) cells (commands_of batches) pick state
-  stand_at pick state found =
-      let same = parts_once content shape found.shape cells found.cells table found.table batches found.batches holds found.holds in
-      subst (λ (s : Shape). StandFor (limits_of s) cells (commands_of batches) pick state) same.shapes
-      (subst (λ (c : List Pair). StandFor (limits_of found.shape) c (commands_of batches) pick state) same.cells_are
-      (subst (λ (b : List (List Taken)). StandFor (limits_of found.shape) found.cells (commands_of b) pick state) same.batches_are found.stand))
+  stand_at = stand_in Two content shape cells table batches holds
 
   pub runs_at : (state : State) (running : RunsWith content state) → (state.limits ≡ limits_of shape) × Runs running.order cells (commands_of batches) state
   runs_at state running =
-      let same = parts_once content shape running.shape cells running.cells table running.table batches running.batches holds running.holds in (
+      let same = parts_once Two content shape running.shape cells running.cells table running.table batches running.batches holds running.holds in (
         running.limits ∙ ap limits_of same.shapes,
         subst (λ (c : List Pair). Runs running.order c (commands_of batches) state) same.cells_are
             (subst (λ (b : List (List Taken)). Runs running.order running.cells (commands_of b) state) same.batches_are running.runs),
       )
 
+pub found_once_in : (format : Format) (content : List ℕ) (pick : Pick) (a b : State) → FoundIn format content pick a → FoundIn format content pick b → a ≡ b
+found_once_in format content pick a b is_a is_b =
+    at_most_one (limits_in format is_a.shape) is_a.cells (commands_of is_a.batches) pick a b is_a.stand
+    (stand_in format content is_a.shape is_a.cells is_a.table is_a.batches is_a.holds pick b is_b)
+
 pub found_once : (content : List ℕ) (pick : Pick) (a b : State) → Found content pick a → Found content pick b → a ≡ b
-found_once content pick a b is_a is_b =
-    at_most_one (limits_of is_a.shape) is_a.cells (commands_of is_a.batches) pick a b is_a.stand
-    (stand_at content is_a.shape is_a.cells is_a.table is_a.batches is_a.holds pick b is_b)
+found_once = found_once_in Two

@@ -7,9 +7,8 @@ use Rattle.revision.specs.Command.{Taken}
 use Rattle.revision.specs.State.{State}
 use Rattle.recovery.proofs.PutCells.{pair_other}
 use Rattle.history.specs.Cell.{with_pair, Cell, Pair, cells_at}
-use Rattle.history.specs.Shown.{StateShows}
-use Rattle.history.specs.Running.{IsCellOf}
-use Rattle.history.specs.Entries.{of_document}
+use Rattle.history.specs.Shown.{Order, with_commands}
+use Rattle.history.specs.Running.{IsCellAt, Runs}
 use Rattle.history.proofs.CallerLemmas.{held_is_cell, cells_stay}
 use Rattle.milestone.specs.Job.{Job, cell_of_job}
 use Rattle.recovery.specs.Jobs.{without_job, with_job, highest, CanBePut, CanAllBePut, IsJobTo}
@@ -25,25 +24,25 @@ module _ {X : Type 0} (P : X → Type 0) (test : X → Bool) where
   all_passing (x ∷ xs) all = first_of x xs (test x) refl (All-head P x xs all) (all_passing xs (All-tail P x xs all))
 
 -- the order grows
-pub kept_later : (order batch : List Taken) (cells : List Pair) (jobs : List Job) → CanAllBePut order cells jobs → CanAllBePut (order ++ batch) cells jobs
+pub kept_later : (order : Order) (batch : List Taken) (cells : List Pair) (jobs : List Job) → CanAllBePut order cells jobs → CanAllBePut (with_commands order batch) cells jobs
 kept_later order batch cells jobs kept =
-    All-weaker (CanBePut order cells) (CanBePut (order ++ batch) cells)
+    All-weaker (CanBePut order cells) (CanBePut (with_commands order batch) cells)
     (λ job is. record { is_cell = cells_stay order batch job.document (cell_of_job job) is.is_cell; not_below = is.not_below }) jobs kept
 
 -- the job of a document is dropped
-pub kept_without : (order : List Taken) (cells : List Pair) (document : ℕ) (jobs : List Job) → CanAllBePut order cells jobs → CanAllBePut order cells (without_job document jobs)
+pub kept_without : (order : Order) (cells : List Pair) (document : ℕ) (jobs : List Job) → CanAllBePut order cells jobs → CanAllBePut order cells (without_job document jobs)
 kept_without order cells document jobs kept = all_passing (CanBePut order cells) (λ job. not (job.document == document)) jobs kept
 
 -- a job is kept
-pub kept_with : (order : List Taken) (cells : List Pair) (job : Job) (jobs : List Job) → CanBePut order cells job → CanAllBePut order cells jobs → CanAllBePut order cells (with_job job jobs)
+pub kept_with : (order : Order) (cells : List Pair) (job : Job) (jobs : List Job) → CanBePut order cells job → CanAllBePut order cells jobs → CanAllBePut order cells (with_job job jobs)
 kept_with order cells job jobs one kept = All-push (CanBePut order cells) (without_job job.document jobs) job (kept_without order cells job.document jobs kept) one
 
 -- what is handed out can be kept
-pub handed_out : (order : List Taken) (cells : List Pair) (state : State) (document revision : ℕ) (job : Job) → StateShows order state
+pub handed_out : (order : Order) (cells : List Pair) (entries : List Taken) (state : State) (document revision : ℕ) (job : Job) → Runs order cells entries state
     → IsJobTo state.documents document revision job → highest (cells_at cells document) ≤ revision → CanBePut order cells job
-handed_out order cells state document revision job shows to above = record {
-  is_cell = subst (λ n. IsCellOf (of_document n order) (cell_of_job job)) (sym to.number)
-      (subst (IsCellOf (of_document document order)) (sym to.is) (held_is_cell order state document to.found revision shows to.there to.held to.first to.reached));
+handed_out order cells entries state document revision job runs to above = record {
+  is_cell = subst (λ n. IsCellAt order n (cell_of_job job)) (sym to.number)
+      (subst (IsCellAt order document) (sym to.is) (held_is_cell order cells entries state document to.found revision runs to.there to.held to.first to.reached));
   not_below = subst (λ n. highest (cells_at cells n) ≤ job.revision) (sym to.number) (omega (arith, above, ap (λ (c : Cell). c.revision) to.is));
 }
 
@@ -62,7 +61,7 @@ other_document : (document other : ℕ) → not (other == document) ≡ true →
 other_document document other is same = false≢true (ap not (sym (eq-eqb other document (sym same))) ∙ is)
 
 -- the cells of a document are others, and its job is dropped
-pub kept_put : (order : List Taken) (cells : List Pair) (document : ℕ) (pair : Pair) (jobs : List Job) → CanAllBePut order cells jobs
+pub kept_put : (order : Order) (cells : List Pair) (document : ℕ) (pair : Pair) (jobs : List Job) → CanAllBePut order cells jobs
     → CanAllBePut order (with_pair document pair cells) (without_job document jobs)
 kept_put order cells document pair jobs kept =
     passing_have (CanBePut order cells) (CanBePut order (with_pair document pair cells)) (λ job. not (job.document == document))

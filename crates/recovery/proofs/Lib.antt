@@ -1,5 +1,6 @@
 pub mod CallerLemmas
 pub mod EmptyStores
+pub mod Beginning
 pub mod Superblocks
 pub mod Layouts
 pub mod Folds

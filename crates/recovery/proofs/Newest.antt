@@ -11,15 +11,14 @@ use Rattle.revision.specs.Past.{Past, from_floor}
 use Rattle.revision.specs.State.{newest_revision, State, DocumentRecord, revision_of}
 use Rattle.history.specs.Entries.{of_document}
 use Rattle.history.specs.Cell.{Cell, Pair, cell_of, cells_at, lowest, freed, with_pair, record_of_cell, OfOpen}
-use Rattle.history.specs.Shown.{past_of, name_of}
-use Rattle.history.specs.Running.{IsCellOf}
-use Rattle.history.proofs.CallerLemmas.{held_is_cell}
+use Rattle.history.specs.Running.{IsCellAt}
+use Rattle.history.proofs.CallerLemmas.{held_is_cell, cells_reach, one_cell_at}
 use Rattle.milestone.specs.Cells.{with_cell}
 use Rattle.milestone.specs.Job.{Job, cell_of_job}
 use Rattle.recovery.specs.declared.shape.Shape.{Shape}
 use Rattle.recovery.specs.declared.store.Store.{Store}
 use Rattle.recovery.specs.Faults.{FailsAtFaults}
-use Rattle.recovery.specs.Found.{HoldsParts}
+use Rattle.recovery.specs.Found.{commands_of, HoldsParts}
 use Rattle.recovery.specs.Jobs.{highest}
 use Rattle.recovery.specs.Goes.{Goes}
 use Rattle.recovery.specs.Open.{IsOpen, AreBothNewest, IsOnePut, newest_cell, device_of, state_of}
@@ -27,23 +26,12 @@ use Rattle.recovery.specs.Run.{IsPutAt}
 use Rattle.recovery.specs.steps.Freeing.{reached_in, IsPutOf, IsHalfPut}
 use Rattle.recovery.proofs.FoundOnce.{cells_same, slots_same}
 use Rattle.recovery.proofs.Named.{named_same}
+use Rattle.milestone.specs.declared.format.Format.TheVariants.{Two}
 use Rattle.recovery.proofs.Faults.{works_still}
 use Rattle.recovery.proofs.HandedOut.{same_some}
 use Rattle.recovery.proofs.PutCells.{pair_own, pair_other}
-use Rattle.recovery.proofs.Reaching.{cells_reached, document_reached}
+use Rattle.recovery.proofs.Reaching.{cells_reached}
 use Rattle.recovery.proofs.Retirement.{known_highest}
-
-same_cell : (a b : Cell) → a.name ≡ b.name → a.revision ≡ b.revision → a.content ≡ b.content → a.sources ≡ b.sources → a ≡ b
-same_cell a b name revision content sources = λ i. record { name = name i; revision = revision i; content = content i; sources = sources i }
-
--- the commands of a document have one cell at each revision
-pub one_cell : (commands : List Taken) (a b : Cell) → IsCellOf commands a → IsCellOf commands b → a.revision ≡ b.revision → a ≡ b
-one_cell commands a b is_a is_b same =
-    same_cell a b (same_some a.name b.name (sym is_a.shows.name ∙ (ap (λ n. name_of (take n commands)) same ∙ is_b.shows.name))) same
-    (ap (λ (p : Past). p.content) past) (ap (λ (p : Past). p.sources) past)
-  where
-    past : ◌≡◌ {A = Past} (record_of_cell a).past (record_of_cell b).past
-    past = is_a.shows.past ∙ (ap (λ n. from_floor (past_of (take n commands)) n) same ∙ sym is_b.shows.past)
 
 -- the other cell is the first, no higher than the one that was put
 behind_first : (cell first : Cell) → first.revision ≤ cell.revision → with_cell cell (freed (Some first, Some cell)) ≡ (Some cell, Some cell)
@@ -105,9 +93,9 @@ module _ {D : Type 0} {disk : Ghosts D} where
       let content : List ℕ = disk.seen (device_of old) in
       let seen : disk.seen (device_of new) ≡ content = ap (λ (d : D). disk.seen d) device in
       let here = subst (λ (l : List ℕ). HoldsParts l new.shape now.cells now.table now.batches) seen now.holds in
-      let shapes : new.shape ≡ old.shape = named_same content new.shape old.shape here.laid_out.names is_open.holds.laid_out.names in
+      let shapes : new.shape ≡ old.shape = named_same Two content new.shape old.shape here.laid_out.names is_open.holds.laid_out.names in
       let parts = subst (λ (s : Shape). HoldsParts content s now.cells now.table now.batches) shapes here in (
-        cells_same content old.shape now.cells is_open.cells parts.laid_out.in_cells is_open.holds.laid_out.in_cells,
+        cells_same Two content old.shape now.cells is_open.cells parts.laid_out.in_cells is_open.holds.laid_out.in_cells,
         slots_same content old.shape now.table is_open.table parts.laid_out.in_slots is_open.holds.laid_out.in_slots,
       )
 
@@ -138,12 +126,12 @@ module _ {D : Type 0} {disk : Ghosts D} where
   newest_already : (store : Store D disk) (is_open : IsOpen store) (document : ℕ) (found : DocumentRecord) → slice_get (state_of store).documents document ≡ Some found
       → 1 ≤ revision_of found → (second : Cell) → (cells_at is_open.cells document).1 ≡ Some second → revision_of found ≤ second.revision → second ≡ newest_cell found
   newest_already store is_open document found there some second is above =
-      one_cell (of_document document is_open.order) second (newest_cell found) there_cell
-      (held_is_cell is_open.order (state_of store) document found (revision_of found) is_open.runs.shows there (omega arith) some (omega arith))
-      (omega (arith, above, there_cell.reached, document_reached store is_open document, ap newest_revision there))
+      one_cell_at is_open.order is_open.cells (commands_of is_open.batches) (state_of store) document second (newest_cell found) is_open.runs there_cell
+      (held_is_cell is_open.order is_open.cells (commands_of is_open.batches) (state_of store) document found (revision_of found) is_open.runs there (omega arith) some (omega arith))
+      (omega (arith, above, cells_reach is_open.order is_open.cells (commands_of is_open.batches) (state_of store) document second is_open.runs there_cell, ap newest_revision there))
     where
-      there_cell : IsCellOf (of_document document is_open.order) second
-      there_cell = open_there (IsCellOf (of_document document is_open.order)) ((cells_at is_open.cells document).1) second is (is_open.runs.cells_are document).1
+      there_cell : IsCellAt is_open.order document second
+      there_cell = open_there (IsCellAt is_open.order document) ((cells_at is_open.cells document).1) second is (is_open.runs.cells_are document).1
 
   -- and two of them
   pub both_put : (old mid new : Store D disk) (is_open : IsOpen old) (document : ℕ) → state_of mid ≡ state_of old

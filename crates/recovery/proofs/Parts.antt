@@ -19,8 +19,9 @@ use Rattle.history.proofs.CallerLemmas.{stand_is_state, reading_finds}
 use Rattle.segments.specs.Slot.{Segment}
 use Rattle.segments.specs.Order.{bodies_of, segments_of}
 use Rattle.recovery.specs.declared.shape.Shape.{Shape}
-use Rattle.recovery.specs.Layout.{Names, HoldsCells, HoldsSlots}
-use Rattle.recovery.specs.Found.{Found, HoldsParts, SpellBatches, limits_of, commands_of}
+use Rattle.milestone.specs.declared.format.Format.{Format}
+use Rattle.recovery.specs.Layout.{NamesIn, HoldsCellsIn, HoldsSlots}
+use Rattle.recovery.specs.Found.{FoundIn, HoldsPartsIn, SpellBatches, limits_in, commands_of}
 use Rattle.recovery.specs.steps.Reading.{are_below, AreByDocument, SpellGroups, commands_in}
 use Rattle.recovery.proofs.Documents.{limits_in_range}
 use Rattle.recovery.proofs.FoundOnce.{slots_same, batches_same}
@@ -146,51 +147,51 @@ stand-below limits cells entries pick state is stand =
     all-below limits.docs entries (λ number past. (left number (omega (arith, past, stand.count))).1)
 
 -- What is found of a content of this shape.
-record FoundAt (content : List ℕ) (shape : Shape) (pick : Pick) (state : State) : Type 0 where
+record FoundAt (format : Format) (content : List ℕ) (shape : Shape) (pick : Pick) (state : State) : Type 0 where
   pub cells : List Pair
   pub table : List (Option Segment)
   pub batches : List (List Taken)
-  pub holds : HoldsParts content shape cells table batches
-  pub stand : StandFor (limits_of shape) cells (commands_of batches) pick state
+  pub holds : HoldsPartsIn format content shape cells table batches
+  pub stand : StandFor (limits_in format shape) cells (commands_of batches) pick state
 
-found-at : (content : List ℕ) (shape : Shape) (pick : Pick) (state : State) → Names content shape → Found content pick state → FoundAt content shape pick state
-found-at content shape pick state names found =
-    subst (λ (s : Shape). FoundAt content s pick state) (named_same content found.shape shape found.holds.laid_out.names names)
+found-at : (format : Format) (content : List ℕ) (shape : Shape) (pick : Pick) (state : State) → NamesIn format content shape → FoundIn format content pick state → FoundAt format content shape pick state
+found-at format content shape pick state names found =
+    subst (λ (s : Shape). FoundAt format content s pick state) (named_same format content found.shape shape found.holds.laid_out.names names)
     (record { cells = found.cells; table = found.table; batches = found.batches; holds = found.holds; stand = found.stand })
 
 -- the groups in which the segments of a table spell the batches that are found
-pub record InGroups (content : List ℕ) (shape : Shape) (pick : Pick) (table : List (Option Segment)) (state : State) : Type 0 where
+pub record InGroups (format : Format) (content : List ℕ) (shape : Shape) (pick : Pick) (table : List (Option Segment)) (state : State) : Type 0 where
   pub cells : List Pair
   pub groups : List (List (List Taken))
-  pub in_cells : HoldsCells content shape cells
+  pub in_cells : HoldsCellsIn format content shape cells
   pub spell : SpellGroups (segments_of table) groups
   pub below : are_below shape.docs (commands_in groups) ≡ true
-  pub stand : StandFor (limits_of shape) cells (commands_in groups) pick state
+  pub stand : StandFor (limits_in format shape) cells (commands_in groups) pick state
 
-pub in-groups : (content : List ℕ) (shape : Shape) (pick : Pick) (table : List (Option Segment)) (state : State) → Names content shape → HoldsSlots content shape table
-    → Found content pick state → InGroups content shape pick table state
-in-groups content shape pick table state names slots found =
-    let here = found-at content shape pick state names found in
+pub in-groups : (format : Format) (content : List ℕ) (shape : Shape) (pick : Pick) (table : List (Option Segment)) (state : State) → NamesIn format content shape → HoldsSlots content shape table
+    → FoundIn format content pick state → InGroups format content shape pick table state
+in-groups format content shape pick table state names slots found =
+    let here = found-at format content shape pick state names found in
     let in_slots = here.holds.laid_out.in_slots in
     let same : here.table ≡ table = slots_same content shape here.table table in_slots slots in
     let spell = subst (λ (t : List (Option Segment)). SpellBatches (bodies_of t) here.batches) same here.holds.spell in
     let groups = grouped (segments_of table) here.batches spell.spelled (recursion_from_All IsBatch here.batches spell.each) in
     let commands : commands_of here.batches ≡ commands_in groups.groups = ap commands_of (sym groups.is) ∙ commands-all groups.groups in
-    let stand = subst (λ (e : List Taken). StandFor (limits_of shape) here.cells e pick state) commands here.stand in
+    let stand = subst (λ (e : List Taken). StandFor (limits_in format shape) here.cells e pick state) commands here.stand in
     record {
       cells = here.cells;
       groups = groups.groups;
       in_cells = here.holds.laid_out.in_cells;
       spell = groups.spell;
-      below = stand-below (limits_of shape) here.cells (commands_in groups.groups) pick state (limits_in_range shape names.in_range) stand;
+      below = stand-below (limits_in format shape) here.cells (commands_in groups.groups) pick state (limits_in_range format shape names.in_range) stand;
       stand = stand;
     }
 
 -- no slots, no content
-pub not-slots : (content : List ℕ) (shape : Shape) (pick : Pick) (state : State) → Names content shape → ((table : List (Option Segment)) → ¬ HoldsSlots content shape table)
-    → ¬ Found content pick state
-not-slots content shape pick state names none found =
-    let here = found-at content shape pick state names found in
+pub not-slots : (format : Format) (content : List ℕ) (shape : Shape) (pick : Pick) (state : State) → NamesIn format content shape → ((table : List (Option Segment)) → ¬ HoldsSlots content shape table)
+    → ¬ FoundIn format content pick state
+not-slots format content shape pick state names none found =
+    let here = found-at format content shape pick state names found in
     none here.table here.holds.laid_out.in_slots
 
 -- segments spell the commands of one list of groups at most

@@ -198,7 +198,7 @@ module _ {D : Type 0} {disk : Ghosts D} (store : Store D disk) (job : Job) (cont
 
   pub fits_cell : IsCell (number_of one) (cell_of_job job) → 5 + length (cell_body (number_of one) (cell_of_job job)) ≤ size_of one
   fits_cell is_one =
-      omega (arith, cell_fits (number_of one) (limits_of store.shape) (cell_of_job job) is_one keeps.keeps, its_cells.size, ranges.cell_low)
+      omega (arith, cell_fits (number_of one) (limits_of store.shape) (cell_of_job job) refl is_one keeps.keeps, its_cells.size, ranges.cell_low)
 
   -- the cells that are known later
   pub placed_later : (later : Cells) → SameCells one later → AreCellsOf store.shape (set store.cells.items document later)

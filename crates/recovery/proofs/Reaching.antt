@@ -8,12 +8,13 @@ use Rattle.std.proofs.lemmas.List.Concat.{flat_map-append}
 use Rattle.disk.specs.declared.device.Disk.{Ghosts}
 use Rattle.revision.specs.Command.{Taken}
 use Rattle.revision.specs.Past.{Past, Change, newest, empty_past, from_floor, with_change}
-use Rattle.revision.specs.Sources.{last_of}
-use Rattle.revision.specs.State.{newest_revision, Limits, DocumentRecord, revision_of, sources_of, units_of, last_of_all, has_place, keeps, change_of, continues, continues_by_name, record_by_name, record_after, all_continue}
+use Rattle.revision.specs.Sources.{window_of}
+use Rattle.revision.specs.State.{newest_revision, Limits, DocumentRecord, State, revision_of, sources_of, units_of, last_of_all, has_place, keeps, change_of, continues, continues_by_name, record_by_name, record_after, all_continue}
 use Rattle.history.specs.Entries.{of_document, greatest}
 use Rattle.history.specs.Cell.{Pair, cells_at, OfBoth}
-use Rattle.history.specs.Shown.{RecordShows, past_of}
-use Rattle.history.specs.Running.{IsCellOf}
+use Rattle.history.specs.Shown.{Order, base_at}
+use Rattle.history.specs.Running.{IsCellAt, Runs}
+use Rattle.history.proofs.CallerLemmas.{documents_reach, cells_reach}
 use Rattle.segments.specs.Numbers.{IsOldest}
 use Rattle.segments.specs.Table.{slot_at, numbers_of, IsRetired}
 use Rattle.segments.specs.Ring.{known_numbers}
@@ -47,12 +48,12 @@ next_reached limits None taken (Some name) is =
     omega (arith, eqb-true _ _ (and_parts (taken.revision == 1) (taken.number == 1) last.0).0)
 next_reached limits (Some found) taken None is =
     let kept = and_parts ((taken.revision == revision_of found + 1) && not (revision_of found == last_of_all)
-    && (taken.number == (last_of taken.source (sources_of found)).number + 1) && nat_le taken.number last_of_all
+    && (taken.number == (window_of taken.source (sources_of found)).number + 1) && nat_le taken.number last_of_all
     && has_place limits taken.source (sources_of found)) (keeps limits (units_of found) (sources_of found) taken) is in
     let place = and_parts ((taken.revision == revision_of found + 1) && not (revision_of found == last_of_all)
-    && (taken.number == (last_of taken.source (sources_of found)).number + 1) && nat_le taken.number last_of_all) _ kept.0 in
+    && (taken.number == (window_of taken.source (sources_of found)).number + 1) && nat_le taken.number last_of_all) _ kept.0 in
     let number = and_parts ((taken.revision == revision_of found + 1) && not (revision_of found == last_of_all)
-    && (taken.number == (last_of taken.source (sources_of found)).number + 1)) _ place.0 in
+    && (taken.number == (window_of taken.source (sources_of found)).number + 1)) _ place.0 in
     let next = and_parts ((taken.revision == revision_of found + 1) && not (revision_of found == last_of_all)) _ number.0 in
     eqb-true _ _ (and_parts (taken.revision == revision_of found + 1) _ next.0).0
 next_reached limits (Some found) taken (Some name) is = absurd cc
@@ -92,24 +93,18 @@ greatest_last number (taken ∷ more) others = elim (cases_eq taken.document num
   | inr apart ↦ let test : (taken.document == number) ≡ false = grind (arith, nat_tests) in rw test (greatest_last number more others)
 ]
 
-newest_shown : (commands : List Taken) (floor : ℕ) → floor ≤ length commands → newest (from_floor (past_of commands) floor) ≡ length commands
-newest_shown commands floor below = omega (arith, below, length-drop (floor - 0) (map change_of commands), length-map commands change_of)
-
--- a document that shows its commands has reached as many revisions
-shown_reached : (commands : List Taken) (found : Option DocumentRecord) → RecordShows commands found → length commands ≡ newest_revision found
-shown_reached commands None shows = ap (λ (l : List Taken). length l) shows
-shown_reached commands (Some found) shows = sym (ap newest shows.past ∙ newest_shown commands found.past.floor shows.floor)
-
--- open cells of it reach no further
-cells_within : (commands : List Taken) (pair : Pair) → OfBoth (IsCellOf commands) pair → highest pair ≤ length commands
-cells_within commands (None, None) both = omega arith
-cells_within commands (None, Some second) both = both.1.reached
-cells_within commands (Some first, None) both = both.0.reached
-cells_within commands (Some first, Some second) both = omega (arith, both.0.reached, both.1.reached)
+-- open cells of a document reach no further than it
+cells_within : (order : Order) (cells : List Pair) (entries : List Taken) (state : State) (number : ℕ) → Runs order cells entries state → (pair : Pair)
+    → OfBoth (IsCellAt order number) pair → highest pair ≤ newest_revision (slice_get state.documents number)
+cells_within order cells entries state number runs (None, None) both = omega arith
+cells_within order cells entries state number runs (None, Some second) both = cells_reach order cells entries state number second runs both.1
+cells_within order cells entries state number runs (Some first, None) both = cells_reach order cells entries state number first runs both.0
+cells_within order cells entries state number runs (Some first, Some second) both =
+    omega (arith, cells_reach order cells entries state number first runs both.0, cells_reach order cells entries state number second runs both.1)
 
 module _ {D : Type 0} {disk : Ghosts D} (store : Store D disk) (is_open : IsOpen store) where
-  pub document_reached : (document : ℕ) → length (of_document document is_open.order) ≡ reached_in store.state document
-  document_reached document = shown_reached (of_document document is_open.order) (slice_get store.state.documents document) (is_open.runs.shows document)
+  document_reached : (document : ℕ) → newest_revision (base_at is_open.order document) + length (of_document document is_open.order.taken) ≡ reached_in store.state document
+  document_reached document = documents_reach is_open.order is_open.cells (commands_of is_open.batches) store.state document is_open.runs
 
   -- no open cell of a document is above its revision
   pub cells_reached : (document : ℕ) → highest_known store.cells.items document ≤ reached_in store.state document
@@ -117,8 +112,7 @@ module _ {D : Type 0} {disk : Ghosts D} (store : Store D disk) (is_open : IsOpen
       omega (
         arith,
         known_highest store is_open document,
-        document_reached document,
-        cells_within (of_document document is_open.order) (cells_at is_open.cells document) (is_open.runs.cells_are document),
+        cells_within is_open.order is_open.cells (commands_of is_open.batches) store.state document is_open.runs (cells_at is_open.cells document) (is_open.runs.cells_are document),
       )
 
   -- and no mark of the oldest segment
@@ -143,6 +137,6 @@ module _ {D : Type 0} {disk : Ghosts D} (store : Store D disk) (is_open : IsOpen
         ap (greatest document) entries,
         greatest_last document is_open.runs.retired (commands_of is_open.batches),
         ap (greatest document) is_open.runs.held,
-        greatest_reached store.state.limits document is_open.order None (is_open.runs.is_order document),
+        greatest_reached store.state.limits document is_open.order.taken (base_at is_open.order document) (is_open.runs.is_order document),
         document_reached document,
       )

@@ -11,7 +11,7 @@ use Rattle.attributes.specs.Map.{empty, insert}
 use Rattle.delta.specs.Element.{letters}
 use Rattle.delta.specs.Operation.{insert_text, retain}
 use Rattle.revision.specs.Command.{Taken, IsTaken}
-use Rattle.revision.specs.Sources.{with_last}
+use Rattle.revision.specs.Sources.{with_taken}
 use Rattle.revision.specs.Spellable.{IsSpellable, IsOperation, IsPair, IsValue, IsNewValue}
 use Rattle.revision.specs.State.{State, DocumentRecord, all_continue}
 use Rattle.journal.specs.Area.{open_record}
@@ -22,7 +22,7 @@ use Rattle.history.specs.declared.pick.Pick.TheVariants.{Newer, Older}
 use Rattle.history.specs.Cell.{Cell, Pair, no_cells, cells_at, picked, CellKeeps}
 use Rattle.history.specs.Entries.{of_document}
 use Rattle.history.specs.Found.{StandsFor, started}
-use Rattle.milestone.specs.CellSpelling.{IsCell, cell_body, source, sources}
+use Rattle.milestone.specs.CellSpelling.{IsCell, cell_body, cell_body_in, window, source, sources}
 use Rattle.milestone.specs.OneCell.{HoldsPair, HoldsOpenCell, bytes_at}
 use Rattle.segments.specs.Slot.{Segment, HoldsSegment}
 use Rattle.segments.specs.Table.{slot_bytes}
@@ -36,7 +36,7 @@ ann = 97 ∷ []
 
 -- the document at a revision, which ann's command of that number made, with this text
 abbrev cell_at : ℕ → List ℕ → Cell
-cell_at revision text = record { name = 100 ∷ []; revision = revision; content = record { units = letters text empty }; sources = with_last ann revision revision empty }
+cell_at revision text = record { name = 100 ∷ []; revision = revision; content = record { units = letters text empty }; sources = with_taken ann revision revision empty }
 
 abbrev first : Cell
 first = cell_at 1 (122 ∷ [])
@@ -50,25 +50,25 @@ pair_of_d = (Some first, Some second)
 abbrev cells : List Pair
 cells = pair_of_d ∷ no_cells ∷ []
 
--- their bodies, of 52 bytes and 53
+-- their bodies, of 54 bytes and 55
 abbrev first_spelling : List ℕ
 first_spelling =
-    0 ∷ 0 ∷ 0 ∷ 0 ∷ 1 ∷ 0 ∷ 100 ∷ 1 ∷ 0 ∷ 0 ∷ 0 ∷ 0 ∷ 0 ∷ 0 ∷ 0
+    0 ∷ 0 ∷ 0 ∷ 0 ∷ 1 ∷ 0 ∷ 100 ∷ 1 ∷ 0 ∷ 0 ∷ 0 ∷ 0 ∷ 0 ∷ 0 ∷ 0 ∷ 1
     ∷ 1 ∷ 0 ∷ 0 ∷ 0 ∷ 1 ∷ 1 ∷ 0 ∷ 0 ∷ 0 ∷ 122 ∷ 0 ∷ 0 ∷ 0 ∷ 0
-    ∷ 1 ∷ 0 ∷ 0 ∷ 0 ∷ 1 ∷ 0 ∷ 97 ∷ 1 ∷ 0 ∷ 0 ∷ 0 ∷ 0 ∷ 0 ∷ 0 ∷ 0 ∷ 1 ∷ 0 ∷ 0 ∷ 0 ∷ 0 ∷ 0 ∷ 0 ∷ 0 ∷ []
+    ∷ 1 ∷ 0 ∷ 0 ∷ 0 ∷ 1 ∷ 0 ∷ 97 ∷ 1 ∷ 0 ∷ 0 ∷ 0 ∷ 0 ∷ 0 ∷ 0 ∷ 0 ∷ 1 ∷ 1 ∷ 0 ∷ 0 ∷ 0 ∷ 0 ∷ 0 ∷ 0 ∷ 0 ∷ []
 
 abbrev second_spelling : List ℕ
 second_spelling =
-    0 ∷ 0 ∷ 0 ∷ 0 ∷ 1 ∷ 0 ∷ 100 ∷ 2 ∷ 0 ∷ 0 ∷ 0 ∷ 0 ∷ 0 ∷ 0 ∷ 0
+    0 ∷ 0 ∷ 0 ∷ 0 ∷ 1 ∷ 0 ∷ 100 ∷ 2 ∷ 0 ∷ 0 ∷ 0 ∷ 0 ∷ 0 ∷ 0 ∷ 0 ∷ 1
     ∷ 1 ∷ 0 ∷ 0 ∷ 0 ∷ 1 ∷ 2 ∷ 0 ∷ 0 ∷ 0 ∷ 122 ∷ 120 ∷ 0 ∷ 0 ∷ 0 ∷ 0
-    ∷ 1 ∷ 0 ∷ 0 ∷ 0 ∷ 1 ∷ 0 ∷ 97 ∷ 2 ∷ 0 ∷ 0 ∷ 0 ∷ 0 ∷ 0 ∷ 0 ∷ 0 ∷ 2 ∷ 0 ∷ 0 ∷ 0 ∷ 0 ∷ 0 ∷ 0 ∷ 0 ∷ []
+    ∷ 1 ∷ 0 ∷ 0 ∷ 0 ∷ 1 ∷ 0 ∷ 97 ∷ 2 ∷ 0 ∷ 0 ∷ 0 ∷ 0 ∷ 0 ∷ 0 ∷ 0 ∷ 1 ∷ 2 ∷ 0 ∷ 0 ∷ 0 ∷ 0 ∷ 0 ∷ 0 ∷ 0 ∷ []
 
 first_spelled : cell_body 0 first ≡ first_spelling
-unfolding number text16 text32 value pairs operation delta source sources cell_body utf16_chars encode_utf8 insert
+unfolding number text16 text32 value pairs operation delta window source sources cell_body_in utf16_chars encode_utf8 insert
 first_spelled = refl
 
 second_spelled : cell_body 0 second ≡ second_spelling
-unfolding number text16 text32 value pairs operation delta source sources cell_body utf16_chars encode_utf8 insert
+unfolding number text16 text32 value pairs operation delta window source sources cell_body_in utf16_chars encode_utf8 insert
 second_spelled = refl
 
 -- the command that appends "x" to "z", and its batch of 55 bytes
@@ -93,8 +93,8 @@ segment = record { number = 1; bodies = batch_spelling ∷ [] }
 -- the device: the superblock, the two cells of "d", those of a second document, which are closed, and the slots
 abbrev with_cells : List ℕ
 with_cells =
-    165 ∷ superblock small ++ (replicate 31 0 ++ ((165 ∷ 52 ∷ 0 ∷ 0 ∷ 0 ∷ first_spelling) ++ (replicate 199 0
-    ++ ((165 ∷ 53 ∷ 0 ∷ 0 ∷ 0 ∷ second_spelling) ++ (replicate 198 0 ++ (replicate 512 0
+    165 ∷ superblock small ++ (replicate 31 0 ++ ((165 ∷ 54 ∷ 0 ∷ 0 ∷ 0 ∷ first_spelling) ++ (replicate 197 0
+    ++ ((165 ∷ 55 ∷ 0 ∷ 0 ∷ 0 ∷ second_spelling) ++ (replicate 196 0 ++ (replicate 512 0
     ++ ((165 ∷ 1 ∷ replicate 7 0) ++ ((165 ∷ 55 ∷ 0 ∷ 0 ∷ 0 ∷ batch_spelling) ++ replicate 443 0))))))))
 
 second_spellable : IsSpellable (insert_text (122 ∷ 120 ∷ []) empty ∷ [])
@@ -122,6 +122,7 @@ first_is = record {
   };
   content = spellable_first;
   count = lit< tt;
+  windows = refl;
 }
 
 second_is : IsCell 0 second
@@ -137,13 +138,14 @@ second_is = record {
   };
   content = second_spellable;
   count = lit< tt;
+  windows = refl;
 }
 
 first_held : HoldsOpenCell 0 (bytes_at 64 256 with_cells) first
-first_held = record { is = first_is; rest = replicate 199 0; split = ap (λ (b : List ℕ). open_record b ++ replicate 199 0) (sym first_spelled) }
+first_held = record { is = first_is; rest = replicate 197 0; split = ap (λ (b : List ℕ). open_record b ++ replicate 197 0) (sym first_spelled) }
 
 second_held : HoldsOpenCell 0 (bytes_at 320 256 with_cells) second
-second_held = record { is = second_is; rest = replicate 198 0; split = ap (λ (b : List ℕ). open_record b ++ replicate 198 0) (sym second_spelled) }
+second_held = record { is = second_is; rest = replicate 196 0; split = ap (λ (b : List ℕ). open_record b ++ replicate 196 0) (sym second_spelled) }
 
 cells_held : HoldsCells with_cells small cells
 cells_held = record {

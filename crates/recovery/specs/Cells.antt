@@ -3,7 +3,9 @@ use Rattle.std.specs.Prelude.{◌≡◌, ℕ, Option, Some, None, List, length, 
 use Rattle.history.specs.Cell.{Pair, cells_at}
 use Rattle.milestone.specs.declared.cells.Cells.{Cells}
 use Rattle.milestone.specs.Revisions.{lowest_of, highest_of}
-use Rattle.milestone.specs.Cells.{Fits, place_of, size_of, number_of, revisions_of}
+use Rattle.milestone.specs.declared.format.Format.{Format}
+use Rattle.milestone.specs.declared.format.Format.TheVariants.{Two}
+use Rattle.milestone.specs.Cells.{FitsIn, place_of, size_of, number_of, revisions_of}
 use Rattle.recovery.specs.declared.shape.Shape.{Shape}
 use Rattle.recovery.specs.Shape.{cells_place}
 
@@ -19,8 +21,13 @@ pub record AreCellsOf (shape : Shape) (known : List Cells) : Type 0 where
   pub each : (number : ℕ) (cells : Cells) → slice_get known number ≡ Some cells → IsCellsOf shape number cells
 
 -- cells are those of a content, where the ones of each number hold the pair of that number
+abbrev pub FitEachIn : Format → List ℕ → List Cells → List Pair → Type 0
+FitEachIn format content known pairs =
+    (number : ℕ) (cells : Cells) → slice_get known number ≡ Some cells → FitsIn format content cells (cells_at pairs number)
+
+-- in the second format, which is written
 abbrev pub FitEach : List ℕ → List Cells → List Pair → Type 0
-FitEach content known pairs = (number : ℕ) (cells : Cells) → slice_get known number ≡ Some cells → Fits content cells (cells_at pairs number)
+FitEach content known pairs = FitEachIn Two content known pairs
 
 -- the lowest revision that is known of the open cells of a document, 0 where none is open
 abbrev pub lowest_in : Option Cells → ℕ

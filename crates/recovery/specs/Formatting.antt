@@ -1,14 +1,18 @@
 -- What formatting leaves of a device.
-use Rattle.std.specs.Prelude.{◌≡◌, ◌⊎◌, ℕ, ◌*◌, ◌<◌, ◌≤◌, true, Option, None, List, [], length, replicate, take, drop}
+use Rattle.std.specs.Prelude.{◌≡◌, ◌⊎◌, ℕ, ◌*◌, ◌<◌, ◌≤◌, true, Option, Some, None, List, [], length, replicate, take, drop, slice_get, All}
 use Rattle.disk.specs.Device.{History, IsSync, IsAtMostOneStep}
 use Rattle.disk.specs.Crash.{Leaves}
-use Rattle.history.specs.Cell.{no_cells}
+use Rattle.revision.specs.Invariants.{IsState}
+use Rattle.history.specs.Cell.{Cell, no_cells, CellKeeps}
+use Rattle.history.specs.Law.{first_cells, begun_with}
+use Rattle.milestone.specs.CellSpelling.{IsCell}
+use Rattle.milestone.specs.OneCell.{HoldsPair}
 use Rattle.segments.specs.Slot.{Segment}
 use Rattle.segments.specs.Table.{slot_place}
 use Rattle.recovery.specs.declared.shape.Shape.{Shape}
-use Rattle.recovery.specs.Shape.{is_in_range, layout_length, cell_place, slots_place, superblock}
+use Rattle.recovery.specs.Shape.{is_in_range, layout_length, cell_place, cells_place, slots_place, superblock}
 use Rattle.recovery.specs.Layout.{IsClosed, IsLaidOut}
-use Rattle.recovery.specs.Found.{FoundAs, empty_state}
+use Rattle.recovery.specs.Found.{FoundAs, limits_of, empty_state}
 
 -- a shape in range, and a device of so many bytes has room for its layout
 pub record Fits (shape : Shape) (size : ℕ) : Type 0 where
@@ -31,6 +35,28 @@ pub record IsEmptyStore (shape : Shape) (content : List ℕ) : Type 0 where
 -- what a crash may leave while a device is being formatted
 abbrev pub IsUnformattedOrEmpty : Shape → List ℕ → Type 0
 IsUnformattedOrEmpty shape content = IsUnformatted content ⊎ IsEmptyStore shape content
+
+-- What a store of this shape may begin with: documents that keep its limits, each of which has a spelling as the cell of its number.
+pub record MayBegin (shape : Shape) (start : List Cell) : Type 0 where
+  pub state : IsState (begun_with (limits_of shape) start)
+  pub keep : All (CellKeeps (limits_of shape)) start
+  pub spelled : (number : ℕ) (cell : Cell) → slice_get start number ≡ Some cell → IsCell number cell
+
+-- a store of this shape that begins with these documents, each in its first cell, and in which no slot is open
+pub record IsBegunStore (shape : Shape) (start : List Cell) (content : List ℕ) : Type 0 where
+  pub laid_out : IsLaidOut content shape (first_cells start shape.docs) (empty_table shape)
+  pub found : FoundAs content (begun_with (limits_of shape) start)
+
+-- what a crash may leave while a device is being formatted with documents
+abbrev pub IsUnformattedOrBegun : Shape → List Cell → List ℕ → Type 0
+IsUnformattedOrBegun shape start content = IsUnformatted content ⊎ IsBegunStore shape start content
+
+-- such a store but for the superblock's gate, which may have any value
+pub record IsPreparedWith (shape : Shape) (start : List Cell) (content : List ℕ) : Type 0 where
+  pub named : take 32 (drop 1 content) ≡ superblock shape
+  pub long : layout_length shape ≤ length content
+  pub cells : (number : ℕ) → number < shape.docs → HoldsPair (cells_place shape number) shape.cell number content (slice_get start number, None)
+  pub slots : (s : ℕ) → s < shape.slots → IsClosed content (slot_place (slots_place shape) shape.slot s)
 
 -- an empty store but for the superblock's gate, which may have any value
 pub record IsPrepared (shape : Shape) (content : List ℕ) : Type 0 where

@@ -7,7 +7,8 @@ use Rattle.revision.specs.Replay.{IsReplay}
 use Rattle.revision.specs.State.{Limits, DocumentRecord, State, revision_of}
 use Rattle.history.specs.Entries.{of_document}
 use Rattle.history.specs.Cell.{Pair, cells_at, cell_of, CellKeeps}
-use Rattle.history.specs.Running.{IsCellOf}
+use Rattle.history.specs.Shown.{Order}
+use Rattle.history.specs.Running.{IsCellAt}
 use Rattle.milestone.specs.Revisions.{revisions_in, highest_of}
 use Rattle.milestone.specs.Job.{Job, units_of_job, cell_of_job}
 use Rattle.recovery.specs.declared.jobs.Jobs.{Jobs}
@@ -49,13 +50,13 @@ abbrev pub no_job_for : Option DocumentRecord → ℕ → ℕ → Option Refusal
 no_job_for None highest revision = Some NoDocument
 no_job_for (Some found) highest revision = no_job_of found highest revision
 
--- What comes of a kept job can be put: it is the document of this order of commands at the job's revision, which isn't below an open
+-- What comes of a kept job can be put: it is the document of this history at the job's revision, which isn't below an open
 -- cell of the document.
-pub record CanBePut (order : List Taken) (cells : List Pair) (job : Job) : Type 0 where
-  pub is_cell : IsCellOf (of_document job.document order) (cell_of_job job)
+pub record CanBePut (order : Order) (cells : List Pair) (job : Job) : Type 0 where
+  pub is_cell : IsCellAt order job.document (cell_of_job job)
   pub not_below : highest (cells_at cells job.document) ≤ job.revision
 
-abbrev pub CanAllBePut : List Taken → List Pair → List Job → Type 0
+abbrev pub CanAllBePut : Order → List Pair → List Job → Type 0
 CanAllBePut order cells jobs = All (CanBePut order cells) jobs
 
 -- what comes of a job keeps the limits, and there are cells for its document

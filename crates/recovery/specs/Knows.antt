@@ -16,7 +16,7 @@ use Rattle.recovery.specs.Open.{known_cells, known_marks}
 
 module _ {D : Type 0} {disk : Ghosts D} where
   -- A store knows a content: its shape, the ring of its slots, its cells and the marks of its segments are those of the content's parts,
-  -- which stand by this pick for the state that it holds. That the parts are of one order of commands is more (`IsOpen`).
+  -- which stand by this pick for the state that it holds. That the parts are of one history is more (`IsOpen`).
   pub record Knows (content : List ℕ) (pick : Pick) (store : Store D disk) : Type 0 where
     pub cells : List Pair
     pub table : List (Option Segment)

@@ -5,6 +5,7 @@ use Rattle.revision.specs.Command.{Taken}
 use Rattle.journal.specs.BatchSpelling.{batch as spelled, batch_width}
 use Rattle.revision.specs.State.{State, DocumentRecord, revision_of, fold}
 use Rattle.history.specs.Cell.{Cell, Pair, cell_of, cells_at, freed, with_pair}
+use Rattle.history.specs.Shown.{Order}
 use Rattle.history.specs.Running.{Runs}
 use Rattle.milestone.specs.Job.{Job, cell_of_job}
 use Rattle.milestone.specs.Cells.{with_cell}
@@ -102,14 +103,14 @@ module _ {D : Type 0} {disk : Ghosts D} where
     pub failed : new.failed ≡ old.failed
 
   -- The device is synced, and a store runs on it with the state that is held: its content holds these parts, the ring is that of its
-  -- slots, its cells and the marks of its segments are known, its cells and entries are of the order of commands that the state
+  -- slots, its cells and the marks of its segments are known, its cells and entries are of the history that the state
   -- shows, and so is what comes of the jobs that it keeps.
   pub record IsOpen (store : Store D disk) : Type 0 where
     pub synced : disk.unsynced store.device ≡ []
     pub cells : List Pair
     pub table : List (Option Segment)
     pub batches : List (List Taken)
-    pub order : List Taken
+    pub order : Order
     pub holds : HoldsParts (disk.seen store.device) store.shape cells table batches
     pub fits : Fits (disk.seen store.device) store.ring table
     pub ring_at : at_of store.ring ≡ slots_place store.shape

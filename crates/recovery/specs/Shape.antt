@@ -1,6 +1,8 @@
 -- The numbers that a store is made with, and where its parts lie on the device.
 use Rattle.std.specs.Prelude.{ℕ, ◌+◌, ◌*◌, ◌&&◌, nat_le, Bool, List, ◌++◌, codes}
 use Rattle.std.specs.Int.{w32, to_le_bytes}
+use Rattle.milestone.specs.declared.format.Format.{Format}
+use Rattle.milestone.specs.declared.format.Format.TheVariants.{One, Two}
 use Rattle.recovery.specs.declared.shape.Shape.{Shape}
 
 -- low and high count
@@ -29,8 +31,17 @@ slots_place shape = 64 + 2 * shape.docs * shape.cell
 abbrev pub layout_length : Shape → ℕ
 layout_length shape = 64 + 2 * shape.docs * shape.cell + shape.slots * shape.slot
 
+-- the letters of a format
+abbrev pub letters : Format → List ℕ
+letters One = codes "QDSTORE1"
+letters Two = codes "QDSTORE2"
+
 -- the 32 bytes behind the superblock's gate: the letters of the format, and the six numbers
-abbrev pub superblock : Shape → List ℕ
-superblock shape =
-    codes "QDSTORE1" ++ (to_le_bytes w32 shape.slots ++ (to_le_bytes w32 shape.slot ++ (to_le_bytes w32 shape.docs
+abbrev pub superblock_in : Format → Shape → List ℕ
+superblock_in format shape =
+    letters format ++ (to_le_bytes w32 shape.slots ++ (to_le_bytes w32 shape.slot ++ (to_le_bytes w32 shape.docs
     ++ (to_le_bytes w32 shape.cell ++ (to_le_bytes w32 shape.sources ++ to_le_bytes w32 shape.keep)))))
+
+-- in the second format, which is written
+abbrev pub superblock : Shape → List ℕ
+superblock shape = superblock_in Two shape

@@ -51,8 +51,9 @@ mod shape;
 mod store;
 mod superblock;
 
-pub use formatting::format_device;
+pub use formatting::{format_device, format_with};
 pub use history::Pick;
+pub use reading::{OldStore, read_old};
 pub use receipt::Receipt;
 pub use run::{Stop, StoreStep};
 pub use shape::Shape;

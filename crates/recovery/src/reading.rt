@@ -9,9 +9,12 @@ ghost use Rattle.segments.specs.Slot.{Segment};
 ghost use Rattle.segments.specs.Recovered.{IsReadAs as IsRingReadAs};
 ghost use Rattle.segments.specs.Ring.{size_of, end_of};
 ghost use Rattle.recovery.specs.Shape.{is_in_range, layout_length};
-ghost use Rattle.recovery.specs.Layout.{IsFormatted, Names, HoldsSlots};
+ghost use Rattle.recovery.specs.Layout.{IsFormatted, IsOfFormat, IsOldFormat, NamesIn, HoldsSlots};
 ghost use Rattle.recovery.specs.Cells.{AreCellsOf};
-ghost use Rattle.recovery.specs.Found.{Found, limits_of};
+ghost use Rattle.history.specs.declared.pick.Pick.TheVariants.{Newer};
+ghost use Rattle.milestone.specs.declared.format.Format.TheVariants.{One, Two};
+ghost use Rattle.recovery.specs.Formatting.{IsOnlySynced};
+ghost use Rattle.recovery.specs.Found.{Found, FoundIn, limits_of, limits_in};
 ghost use Rattle.recovery.specs.steps.Reading.{IsRingOf, IsReadAs};
 
 mod documents;
@@ -21,13 +24,13 @@ mod one_document;
 
 use crate::marks::Marks;
 use crate::shape::Shape;
-use crate::superblock::{BODY_LEN, SUPERBLOCK_LEN, read_superblock};
+use crate::superblock::{BODY_LEN, LETTERS_LEN, SUPERBLOCK_LEN, has_letters, read_superblock};
 use disk::Disk;
 use documents::{ReadDocuments, read_documents};
 use entries::{Gathered, gather};
 use gates::{is_open, read_at};
 use history::Pick;
-use milestone::Cells;
+use milestone::{Cells, Format};
 use refusal::Refusal;
 use revision::State;
 use segments::{RecoveredRing, Ring};
@@ -45,14 +48,14 @@ pub struct RecoveredStore {
 }
 
 /// Reads a device after a sync of it, by the newer or the older cell of each document, and writes nothing. `NotFormatted` comes
-/// where the superblock's gate is closed or the device has less than 64 bytes, and `Damaged` where it is formatted and its content
-/// stands for no state by this pick.
+/// where the superblock's gate is closed or the device has less than 64 bytes, `OldFormat` where it has the first format, and `Damaged`
+/// where it is formatted otherwise and its content stands for no state by this pick.
 pub fn read_store<D: Disk>(
     alloc: Global,
     disk: &mut D,
     pick: Pick,
 ) -> Result<RecoveredStore, Refusal>
-    ensures read { IfOk result (λ recovered. D.honest disk.new → IsReadAs (D.seen disk.old) pick recovered) }
+    ensures read { IfOk result (λ recovered. D.honest disk.new → IsReadAs Two (D.seen disk.old) pick recovered) }
     ensures cells { IfOk result (λ recovered. AreCellsOf recovered.shape recovered.cells.items) }
     ensures limits { IfOk result (λ recovered. recovered.state.limits ≡ limits_of recovered.shape) }
     ensures in_range { IfOk result (λ recovered. is_in_range recovered.shape ≡ true) }
@@ -62,11 +65,14 @@ pub fn read_store<D: Disk>(
 
     ensures not_formatted { IfErr result (λ e. e ≡ Refusal.NotFormatted → D.honest disk.new
         → ¬ IsFormatted (D.seen disk.old)) }
+    ensures old_format { IfErr result (λ e. e ≡ Refusal.OldFormat → D.honest disk.new → IsOldFormat (D.seen disk.old)) }
+    ensures new_format { IfErr result (λ e. e ≡ Refusal.Damaged → D.honest disk.new
+        → ¬ IsOldFormat (D.seen disk.old)) }
     ensures formatted { IfErr result (λ e. e ≡ Refusal.Damaged → D.honest disk.new → IsFormatted (D.seen disk.old)) }
     ensures damaged { IfErr result (λ e. e ≡ Refusal.Damaged → D.honest disk.new → (found : StateValue)
         → ¬ Found (D.seen disk.old) pick found) }
-    ensures only { IfErr result (λ e. (e ≡ Refusal.NotFormatted)
-        ⊎ ((e ≡ Refusal.Damaged) ⊎ ((e ≡ Refusal.NoMemory) ⊎ (e ≡ Refusal.Fault)))) }
+    ensures only { IfErr result (λ e. (e ≡ Refusal.NotFormatted) ⊎ ((e ≡ Refusal.OldFormat)
+        ⊎ ((e ≡ Refusal.Damaged) ⊎ ((e ≡ Refusal.NoMemory) ⊎ (e ≡ Refusal.Fault))))) }
 
     // The sync alone moves the device on.
     ensures seen { D.seen disk.new ≡ D.seen disk.old }
@@ -75,15 +81,71 @@ pub fn read_store<D: Disk>(
     ensures honest { D.honest disk.new → D.honest disk.old }
     ensures faults { CountsFaultsAs ⟦<D as Disk>⟧ Refusal.Fault result disk.old disk.new }
 {
-    disk.sync()?;
-    read_content(alloc, disk, pick)
+    if is_synced_as(disk, Format::One)? {
+        return Err(Refusal::OldFormat);
+    }
+    read_content(alloc, disk, Format::Two, pick)
 }
 
-// Reads what stands on the device. No call of it moves the device on.
-fn read_content<D: Disk>(alloc: Global, disk: &mut D, pick: Pick) -> Result<RecoveredStore, Refusal>
-    ensures read { IfOk result (λ recovered. D.honest disk.new → IsReadAs (D.seen disk.old) pick recovered) }
+/// What was read of a device of the first format.
+#[derive(Drop)]
+pub struct OldStore {
+    /// The numbers that the store was made with.
+    pub shape: Shape,
+    /// The documents that it stands for, within the limits of the first format.
+    pub state: State,
+}
+
+/// Reads a device of the first format after a sync of it, by the newer cell of each document, and writes nothing. `NotFormatted` comes
+/// exactly where the superblock's gate is closed or the device has less than 64 bytes, `NotOld` exactly where it has the second format,
+/// and `Damaged` exactly where it is formatted otherwise and its content stands for no state.
+pub fn read_old<D: Disk>(alloc: Global, disk: &mut D) -> Result<OldStore, Refusal>
+    ensures found { IfOk result (λ old. D.honest disk.new → FoundIn One (D.seen disk.old) Newer old.state) }
+    ensures only_state { IfOk result (λ old. D.honest disk.new → (state : StateValue)
+        → FoundIn One (D.seen disk.old) Newer state → state ≡ old.state) }
+    ensures only_shape { IfOk result (λ old. D.honest disk.new → (state : StateValue)
+        → (is : FoundIn One (D.seen disk.old) Newer state) → is.shape ≡ old.shape) }
+    ensures limits { IfOk result (λ old. old.state.limits ≡ limits_in One old.shape) }
+    ensures in_range { IfOk result (λ old. is_in_range old.shape ≡ true) }
+
+    ensures not_formatted { IfErr result (λ e. e ≡ Refusal.NotFormatted → D.honest disk.new
+        → ¬ IsFormatted (D.seen disk.old)) }
+    ensures not_old { IfErr result (λ e. e ≡ Refusal.NotOld → D.honest disk.new → IsOfFormat Two (D.seen disk.old)) }
+    ensures damaged { IfErr result (λ e. e ≡ Refusal.Damaged → D.honest disk.new → IsFormatted (D.seen disk.old)
+        × ¬ IsOfFormat Two (D.seen disk.old)
+        × ((found : StateValue) → ¬ FoundIn One (D.seen disk.old) Newer found)) }
+    ensures only { IfErr result (λ e. (e ≡ Refusal.NotFormatted) ⊎ ((e ≡ Refusal.NotOld)
+        ⊎ ((e ≡ Refusal.Damaged) ⊎ ((e ≡ Refusal.NoMemory) ⊎ (e ≡ Refusal.Fault))))) }
+
+    // The sync alone moves the device on.
+    ensures only_synced { IsOnlySynced (history_of ⟦<D as Disk>⟧ disk.old) (history_of ⟦<D as Disk>⟧ disk.new) }
+    ensures synced { OnOk result (D.unsynced disk.new ≡ []) }
+    ensures honest { D.honest disk.new → D.honest disk.old }
+    ensures faults { CountsFaultsAs ⟦<D as Disk>⟧ Refusal.Fault result disk.old disk.new }
+{
+    if is_synced_as(disk, Format::Two)? {
+        return Err(Refusal::NotOld);
+    }
+    let RecoveredStore {
+        shape,
+        ring: _,
+        cells: _,
+        marks: _,
+        state,
+    } = read_content(alloc, disk, Format::One, Pick::Newer)?;
+    Ok(OldStore { shape, state })
+}
+
+// Reads what stands on a device of a format. No call of it moves the device on.
+fn read_content<D: Disk>(
+    alloc: Global,
+    disk: &mut D,
+    format: Format,
+    pick: Pick,
+) -> Result<RecoveredStore, Refusal>
+    ensures read { IfOk result (λ recovered. D.honest disk.new → IsReadAs format (D.seen disk.old) pick recovered) }
     ensures cells { IfOk result (λ recovered. AreCellsOf recovered.shape recovered.cells.items) }
-    ensures limits { IfOk result (λ recovered. recovered.state.limits ≡ limits_of recovered.shape) }
+    ensures limits { IfOk result (λ recovered. recovered.state.limits ≡ limits_in format recovered.shape) }
     ensures in_range { IfOk result (λ recovered. is_in_range recovered.shape ≡ true) }
     ensures long { IfOk result (λ recovered. layout_length recovered.shape ≤ length (D.seen disk.old)) }
     ensures slot { IfOk result (λ recovered. size_of recovered.ring ≡ recovered.state.limits.width + 19) }
@@ -92,16 +154,16 @@ fn read_content<D: Disk>(alloc: Global, disk: &mut D, pick: Pick) -> Result<Reco
         → ¬ IsFormatted (D.seen disk.old)) }
     ensures formatted { IfErr result (λ e. e ≡ Refusal.Damaged → D.honest disk.new → IsFormatted (D.seen disk.old)) }
     ensures damaged { IfErr result (λ e. e ≡ Refusal.Damaged → D.honest disk.new → (found : StateValue)
-        → ¬ Found (D.seen disk.old) pick found) }
+        → ¬ FoundIn format (D.seen disk.old) pick found) }
     ensures only { IfErr result (λ e. (e ≡ Refusal.NotFormatted)
         ⊎ ((e ≡ Refusal.Damaged) ⊎ ((e ≡ Refusal.NoMemory) ⊎ (e ≡ Refusal.Fault)))) }
     ensures only_read { HasOnlyRead ⟦<D as Disk>⟧ disk.old disk.new }
     ensures faults { CountsFaultsAs ⟦<D as Disk>⟧ Refusal.Fault result disk.old disk.new }
 {
-    let shape = read_shape(disk)?;
+    let shape = read_shape(disk, format)?;
     let RecoveredRing { ring, segments } = read_slots(alloc, disk, &shape)?;
     let Gathered { lists, marks } = gather(alloc, shape.docs, &segments)?;
-    let ReadDocuments { state, cells } = read_documents(alloc, disk, &shape, pick, lists)?;
+    let ReadDocuments { state, cells } = read_documents(alloc, disk, format, &shape, pick, lists)?;
     Ok(RecoveredStore {
         shape,
         ring,
@@ -129,16 +191,16 @@ fn read_slots<D: Disk>(alloc: Global, disk: &mut D, shape: &Shape) -> Result<Rec
     Ring::read(alloc, disk, at, size, u64::from(shape.slots))
 }
 
-// The shape that the superblock names.
-fn read_shape<D: Disk>(disk: &mut D) -> Result<Shape, Refusal>
-    ensures named { IfOk result (λ shape. D.honest disk.new → Names (D.seen disk.old) shape) }
+// The shape that the superblock names in a format.
+fn read_shape<D: Disk>(disk: &mut D, format: Format) -> Result<Shape, Refusal>
+    ensures named { IfOk result (λ shape. D.honest disk.new → NamesIn format (D.seen disk.old) shape) }
     ensures in_range { IfOk result (λ shape. is_in_range shape ≡ true) }
     ensures within { IfOk result (λ shape. layout_length shape ≤ length (D.seen disk.old)) }
     ensures not_formatted { IfErr result (λ e. e ≡ Refusal.NotFormatted → D.honest disk.new
         → ¬ IsFormatted (D.seen disk.old)) }
     ensures formatted { IfErr result (λ e. e ≡ Refusal.Damaged → D.honest disk.new → IsFormatted (D.seen disk.old)) }
     ensures damaged { IfErr result (λ e. e ≡ Refusal.Damaged → D.honest disk.new → (shape : ShapeValue)
-        → ¬ Names (D.seen disk.old) shape) }
+        → ¬ NamesIn format (D.seen disk.old) shape) }
     ensures only { IfErr result (λ e. (e ≡ Refusal.NotFormatted) ⊎ ((e ≡ Refusal.Damaged) ⊎ (e ≡ Refusal.Fault))) }
     ensures only_read { HasOnlyRead ⟦<D as Disk>⟧ disk.old disk.new }
     ensures faults { CountsFaultsAs ⟦<D as Disk>⟧ Refusal.Fault result disk.old disk.new }
@@ -148,7 +210,7 @@ fn read_shape<D: Disk>(disk: &mut D) -> Result<Shape, Refusal>
     }
     let mut body = [0u8; BODY_LEN];
     read_at(disk, 1, &mut body)?;
-    let Some(shape) = read_superblock(&body) else {
+    let Some(shape) = read_superblock(format, &body) else {
         return Err(Refusal::Damaged);
     };
     if disk.len() < shape.device_len() {
@@ -169,4 +231,33 @@ fn is_formatted<D: Disk>(disk: &mut D) -> Result<bool, Refusal>
         return Ok(false);
     }
     is_open(disk, 0)
+}
+
+// Whether the superblock's gate is open, and the letters behind it are those of a format.
+fn is_of_format<D: Disk>(disk: &mut D, format: Format) -> Result<bool, Refusal>
+    ensures letters { IfOk result (λ b. D.honest disk.new → (IsTrue b ↔ IsOfFormat format (D.seen disk.old))) }
+    ensures only { IfErr result (λ e. e ≡ Refusal.Fault) }
+    ensures only_read { HasOnlyRead ⟦<D as Disk>⟧ disk.old disk.new }
+    ensures faults { CountsFaults ⟦<D as Disk>⟧ result disk.old disk.new }
+{
+    if !is_formatted(disk)? {
+        return Ok(false);
+    }
+    let mut letters = [0u8; LETTERS_LEN];
+    read_at(disk, 1, &mut letters)?;
+    Ok(has_letters(format, &letters))
+}
+
+// The same after a sync, which alone moves the device on.
+fn is_synced_as<D: Disk>(disk: &mut D, format: Format) -> Result<bool, Refusal>
+    ensures letters { IfOk result (λ b. D.honest disk.new → (IsTrue b ↔ IsOfFormat format (D.seen disk.old))) }
+    ensures seen { D.seen disk.new ≡ D.seen disk.old }
+    ensures synced { OnOk result (D.unsynced disk.new ≡ []) }
+    ensures time { IsAtMostOneStep IsSync (history_of ⟦<D as Disk>⟧ disk.old) (history_of ⟦<D as Disk>⟧ disk.new) }
+    ensures only { IfErr result (λ e. e ≡ Refusal.Fault) }
+    ensures honest { D.honest disk.new → D.honest disk.old }
+    ensures faults { CountsFaultsAs ⟦<D as Disk>⟧ Refusal.Fault result disk.old disk.new }
+{
+    disk.sync()?;
+    is_of_format(disk, format)
 }

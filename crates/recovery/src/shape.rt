@@ -1,8 +1,9 @@
 //! The numbers that a store is made with, and where its parts lie on the device.
 ghost use Rattle.std.specs.Prelude.{◌≡◌, ◌+◌, ◌*◌, ◌<◌, ◌^◌, true};
 ghost use Rattle.recovery.specs.Shape.{is_between, is_in_range, layout_length};
-ghost use Rattle.recovery.specs.Found.{limits_of};
+ghost use Rattle.recovery.specs.Found.{limits_of, limits_in};
 
+use milestone::Format;
 use revision::Limits;
 
 /// How large a store is: how many parts of which size its device has, and how much it may hold.
@@ -61,13 +62,20 @@ impl Shape {
         requires { is_in_range self.now ≡ true }
         ensures { result ≡ limits_of self.now }
     {
-        Limits::new(
-            self.docs,
-            self.sources,
-            self.cell - 128,
-            self.slot - 19,
-            self.keep,
-        )
+        self.limits_in(Format::Two)
+    }
+
+    /// The same of a store whose device has this format: in the first one a further number of a source weighs nothing.
+    pub fn limits_in(&self, format: Format) -> Limits
+        requires { is_in_range self.now ≡ true }
+        ensures { result ≡ limits_in format self.now }
+    {
+        let (docs, sources) = (self.docs, self.sources);
+        let (weight, width) = (self.cell - 128, self.slot - 19);
+        match format {
+            Format::One => Limits::without_retries(docs, sources, weight, width, self.keep),
+            Format::Two => Limits::new(docs, sources, weight, width, self.keep),
+        }
     }
 }
 

@@ -62,7 +62,7 @@ impl<D: Disk> Store<D> {
     ghost use Rattle.disk.specs.Device.{Rose, IsAtMostOneStep, IsSync};
     ghost use Rattle.disk.specs.Crash.{LeavesOnly, MayLeaveNow, history_of};
     ghost use Rattle.revision.specs.State.{State as StateValue};
-    ghost use Rattle.recovery.specs.Layout.{IsFormatted};
+    ghost use Rattle.recovery.specs.Layout.{IsFormatted, IsOldFormat};
     ghost use Rattle.recovery.specs.Faults.{FailsAtFaults};
     ghost use Rattle.recovery.specs.Found.{Found, FoundAs};
     ghost use Rattle.revision.specs.Agree.{Agree};
@@ -71,9 +71,10 @@ impl<D: Disk> Store<D> {
     ghost use Rattle.recovery.specs.Open.{FitsSlot, IsOpen, IsUnchanged, IsCommittedNow, IsWithOrWithout, device_of, state_of, has_failed, has_room, kept_jobs, known_cells, known_marks, fits_newest_segment};
 
     /// Opens a formatted device, by the newer or the older cell of each document: syncs it, then reads, and writes nothing.
-    /// `NotFormatted` comes exactly when the superblock's gate is closed or the device has less than 64 bytes, `Damaged` exactly
-    /// when a formatted device's content represents no state by that pick, `Fault` exactly when a call of the device failed,
-    /// and `NoMemory`. The device comes back with the refusal, and its content is unchanged on every path.
+    /// `NotFormatted` comes exactly when the superblock's gate is closed or the device has less than 64 bytes, `OldFormat` exactly
+    /// when the device has the first format, `Damaged` exactly when any other formatted device's content represents no state by
+    /// that pick, `Fault` exactly when a call of the device failed, and `NoMemory`. The device comes back with the refusal, and
+    /// its content is unchanged on every path.
     pub fn open(alloc: Global, disk: D, pick: Pick) -> Result<Store<D>, OpenFault<D>>
         // What is read stands, by this pick, for the state that the store holds, and for no other.
         ensures found { IfOk result (λ store. D.honest (device_of store) → Found (D.seen disk) pick (state_of store)) }
@@ -100,16 +101,20 @@ impl<D: Disk> Store<D> {
         // When each refusal comes.
         ensures not_formatted { IfErr result (λ fault. fault.refusal ≡ Refusal.NotFormatted → D.honest fault.disk
             → ¬ IsFormatted (D.seen disk)) }
+        ensures old_format { IfErr result (λ fault. fault.refusal ≡ Refusal.OldFormat → D.honest fault.disk
+            → IsOldFormat (D.seen disk)) }
         ensures damaged { IfErr result (λ fault. fault.refusal ≡ Refusal.Damaged → D.honest fault.disk
             → IsFormatted (D.seen disk)
+            × ¬ IsOldFormat (D.seen disk)
             × ((state : StateValue) → ¬ Found (D.seen disk) pick state)) }
         ensures fault { IfErr result (λ fault. fault.refusal ≡ Refusal.Fault
             → Rose (D.faults disk) (D.faults fault.disk)) }
         ensures no_fault { IfErr result (λ fault. fault.refusal ≢ Refusal.Fault → D.faults fault.disk ≡ D.faults disk) }
         ensures good { IfOk result (λ store. D.faults (device_of store) ≡ D.faults disk) }
         ensures only { IfErr result (λ fault. (fault.refusal ≡ Refusal.NotFormatted)
+            ⊎ ((fault.refusal ≡ Refusal.OldFormat)
             ⊎ ((fault.refusal ≡ Refusal.Damaged)
-            ⊎ ((fault.refusal ≡ Refusal.NoMemory) ⊎ (fault.refusal ≡ Refusal.Fault)))) }
+            ⊎ ((fault.refusal ≡ Refusal.NoMemory) ⊎ (fault.refusal ≡ Refusal.Fault))))) }
 
         // The sync alone moves the device on: nothing is written.
         ensures time { IfOk result

@@ -2,7 +2,7 @@
 use Rattle.std.specs.Prelude.{ℕ, List, ◌++◌, codes}
 use Rattle.std.specs.Fmt.{decimal}
 use Rattle.refusal.specs.declared.Refusal.{Refusal}
-use Rattle.refusal.specs.declared.Refusal.TheVariants.{BadLine, BadMessage, BadOps, TooManyOps, NoHello, NoDocument, Exists, BadName, Gap, OldNumber, TooManySources, Future, TooOld, PastEnd, CutsPair, TooHeavy, TooWide, RevisionsSpent, NothingToUndo, TooManyDocuments, StoreFailed, NoMemory, LineTooLong, NoSeat, NotFormatted, AlreadyFormatted, Damaged, BadShape, Fault, StillNeeded, Stranger, JournalFull}
+use Rattle.refusal.specs.declared.Refusal.TheVariants.{BadLine, BadMessage, BadOps, TooManyOps, NoHello, NoDocument, Exists, BadName, Gap, OldNumber, TooManySources, Future, TooOld, PastEnd, CutsPair, TooHeavy, TooWide, RevisionsSpent, NothingToUndo, TooManyDocuments, StoreFailed, NoMemory, LineTooLong, NoSeat, NotFormatted, AlreadyFormatted, Damaged, BadShape, Fault, StillNeeded, Stranger, JournalFull, OldFormat, NotOld}
 
 -- its number
 abbrev pub number_of : Refusal → ℕ
@@ -38,6 +38,8 @@ number_of Fault = 34
 number_of StillNeeded = 35
 number_of Stranger = 36
 number_of JournalFull = 37
+number_of OldFormat = 38
+number_of NotOld = 39
 
 -- its name, as bytes
 abbrev pub name_of : Refusal → List ℕ
@@ -73,6 +75,8 @@ name_of Fault = codes "Fault"
 name_of StillNeeded = codes "StillNeeded"
 name_of Stranger = codes "Stranger"
 name_of JournalFull = codes "JournalFull"
+name_of OldFormat = codes "OldFormat"
+name_of NotOld = codes "NotOld"
 
 -- how it is printed, as `error 7 Exists`
 abbrev pub text_of : Refusal → List ℕ

@@ -104,10 +104,14 @@ pub enum Refusal {
     Stranger = 36,
     /// The journal has no room.
     JournalFull = 37,
+    /// The device has the first format, which has to be migrated.
+    OldFormat = 38,
+    /// The device has the second format already.
+    NotOld = 39,
 }
 
 impl Refusal {
-    /// The number, 1 to 37.
+    /// The number, 1 to 39.
     pub fn number(self) -> u8
         ensures { result ≡ number_of self }
     {
@@ -151,6 +155,8 @@ impl Refusal {
             Refusal::StillNeeded => "StillNeeded",
             Refusal::Stranger => "Stranger",
             Refusal::JournalFull => "JournalFull",
+            Refusal::OldFormat => "OldFormat",
+            Refusal::NotOld => "NotOld",
         }
     }
 }

@@ -1,5 +1,5 @@
 -- What the answers to edits and undos stand on: what a source has, and what is taken on a document.
-use Rattle.std.proofs.Common.{◌≡◌, ℕ, ◌+◌, ◌-◌, ◌*◌, ◌^◌, ◌<◌, ◌≤◌, ◌⊎◌, ◌↔◌, ⊎_elim, min, IfOk, inl, inr, Result, Ok, Err, Bool, true, false, cond, List, [], ◌∷◌, length, Some, None, refl, sym, ap, subst, ◌∙◌, arith}
+use Rattle.std.proofs.Common.{◌≡◌, ℕ, ◌+◌, ◌-◌, ◌*◌, ◌^◌, ◌<◌, ◌≤◌, ◌⊎◌, ◌↔◌, ⊎_elim, min, IfOk, inl, inr, Result, Ok, Err, Bool, true, false, cond, List, [], ◌∷◌, length, Option, Some, None, refl, sym, ap, subst, ◌∙◌, arith}
 use Rattle.std.specs.Prelude.{◌&&◌, ◌==◌, nat_le, nat_lt, unwrap_or}
 use Rattle.refusal.specs.declared.Refusal.{Refusal}
 use Rattle.refusal.specs.declared.Refusal.TheVariants.{PastEnd, CutsPair, TooHeavy, TooWide, Stranger, NoMemory}
@@ -18,32 +18,28 @@ use Rattle.revision.specs.declared.planning.Reply.TheVariants as replies
 use Rattle.revision.specs.declared.planning.Plan as program
 use Rattle.revision.specs.declared.planning.Plan.TheVariants as plans
 use Rattle.revision.proofs.Told.{parts_told}
-use Rattle.std.specs.FinMap.Entries.{find as entry_of}
-use Rattle.std.specs.Ordering.{eq_by_cmp}
 use Rattle.std.proofs.lemmas.Bool.{false≢true, and_parts, leb-true, ltb-true, lt-ltb, cases_lt, false_from_ne_true}
-use Rattle.attributes.specs.Map.{by_bytes, empty}
-use Rattle.revision.specs.Sources.{LastTaken, Sources, last_of, count_of, with_last}
+use Rattle.attributes.specs.Map.{get, empty}
+use Rattle.revision.specs.Window.{Window, nothing_taken, last_revision}
+use Rattle.revision.specs.Sources.{Sources, window_of, with_taken}
 use Rattle.revision.specs.Past.{newest}
 use Rattle.revision.specs.Width.{delta_width}
-use Rattle.revision.specs.State.{Limits, DocumentRecord, State, grows, grown, find, revision_of, units_of, sources_of, is_last_taken, are_sources, last_of_all, reaches_past, weight_after}
+use Rattle.revision.specs.State.{Limits, DocumentRecord, State, grows, grown, find, revision_of, units_of, sources_of, is_window, are_sources, last_of_all, reaches_past, weight_of_sources, weight_after}
 use Rattle.revision.specs.Invariants.{IsPast, IsState}
 use Rattle.revision.proofs.Taking.{found_at, taken_grows}
+use Rattle.revision.proofs.Windows.{last-within}
+use Rattle.revision.proofs.Keeping.{sources-found}
 
 -- what a source has came of a revision that is there
-entry_within : (revision : ℕ) (source : List ℕ) (entries : List (List ℕ × LastTaken)) → are_sources revision entries ≡ true
-    → (unwrap_or (entry_of by_bytes source entries) (record { number = 0; revision = 0 })).revision ≤ revision
-entry_within revision source [] are = omega arith
-entry_within revision source (first ∷ others) are =
-    let parts = and_parts (is_last_taken revision first.1) (are_sources revision others) are in
-    let here = and_parts (nat_le 1 first.1.number && nat_le first.1.number last_of_all && nat_le 1 first.1.revision) (nat_le first.1.revision revision) parts.0 in
-    elim (eq_by_cmp by_bytes source first.0) as (λ b. (unwrap_or (cond b (Some first.1) (entry_of by_bytes source others)) (record { number = 0; revision = 0 })).revision ≤ revision) [
-      | true ↦ leb-true first.1.revision revision here.1
-      | false ↦ entry_within revision source others parts.1
-    ]
+window_within : (revision : ℕ) (there : Option Window) → ((window : Window) → there ≡ Some window → is_window revision window ≡ true)
+    → last_revision (unwrap_or there nothing_taken) ≤ revision
+window_within revision None sound = omega arith
+window_within revision (Some window) sound = last-within revision window (sound window refl)
 
-pub last_within : (limits : Limits) (found : DocumentRecord) (source : List ℕ) → IsPast limits found.past → (last_of source (sources_of found)).revision ≤ newest found.past
+pub last_within : (limits : Limits) (found : DocumentRecord) (source : List ℕ) → IsPast limits found.past → last_revision (window_of source (sources_of found)) ≤ newest found.past
 last_within limits found source past =
-    entry_within (newest found.past) source (sources_of found).entries (past.each (newest found.past) (omega arith) (omega arith)).sources
+    let are : are_sources (newest found.past) (sources_of found).entries ≡ true = (past.each (newest found.past) (omega arith) (omega arith)).sources in
+    window_within (newest found.past) (get (sources_of found) source) (λ window is. sources-found (newest found.past) source (sources_of found).entries window are is)
 
 -- the past of a document that is found
 pub found_past : (state : State) (name : List ℕ) (number : ℕ) (found : DocumentRecord) → IsState state → find name 0 state.documents ≡ Some (number, found)
@@ -69,6 +65,10 @@ reaches_not delta units defined = false_from_ne_true _ (λ past. absurd (omega (
 parts_not : (delta : List Operation) (units : List Element) → ¬ (Cuts units (counted delta)) → parts_pair delta units ≡ false
 parts_not delta units whole = false_from_ne_true _ (λ cut. whole ((parts_told delta units).0 cut))
 
+both_sums : (first beside sum of_units of_sources units sources : ℕ) → first ≡ min of_units (2 ^ 64 - 1) → beside ≡ min of_sources (2 ^ 64 - 1)
+    → sum ≡ min (first + beside) (2 ^ 64 - 1) → units ≡ of_units → sources ≡ of_sources → sum ≡ min (units + sources) (2 ^ 64 - 1)
+both_sums first beside sum of_units of_sources units sources a b c d e = omega (arith, a, b, c, d, e)
+
 module _ (limits : Limits) (units : List Element) (sources : Sources) (asked : Taken) (source : List ℕ) (delta : List Operation) (width : ℕ) (is : IsAsked asked source delta width) where
   -- what the document refuses
   pub refused_by : (e : Refusal) → (refused_with e ≡ refused_with PastEnd) ↔ (¬ (IsDefined units (counted delta)))
@@ -90,9 +90,9 @@ module _ (limits : Limits) (units : List Element) (sources : Sources) (asked : T
 
   module _ (first : ℕ) (past_end : (weighed first ≡ refused_with PastEnd) ↔ (¬ (IsDefined units (counted delta))))
       (cuts : (weighed first ≡ refused_with CutsPair) ↔ (IsDefined units (counted delta) × Cuts units (counted delta)))
-      (count product sum : ℕ) (ok : first ≡ min (document.weight_of (apply units (counted delta))) (2 ^ 64 - 1))
-      (counts : (number revision : ℕ) → count ≡ min (count_of (with_last source number revision sources)) (2 ^ 64 - 1))
-      (times : product ≡ min (count * 64) (2 ^ 64 - 1)) (plus : sum ≡ min (first + product) (2 ^ 64 - 1)) (light : limits.weight < 2 ^ 32) where
+      (beside sum : ℕ) (ok : first ≡ min (document.weight_of (apply units (counted delta))) (2 ^ 64 - 1))
+      (weighs : (number revision : ℕ) → beside ≡ min (weight_of_sources limits (with_taken source number revision sources)) (2 ^ 64 - 1))
+      (plus : sum ≡ min (first + beside) (2 ^ 64 - 1)) (light : limits.weight < 2 ^ 32) where
     defined : IsDefined units (counted delta)
     defined = ⊎_elim (λ long. absurd (not_both first PastEnd (past_end.1 (λ d. omega (arith, d, long))))) (λ there. there) (cases_lt (length units) (units_below (counted delta)))
 
@@ -102,20 +102,22 @@ module _ (limits : Limits) (units : List Element) (sources : Sources) (asked : T
     cut : parts_pair asked.delta units ≡ false
     cut = ap (λ d. parts_pair d units) is.delta ∙ parts_not delta units (λ parted. not_both first CutsPair (cuts.1 (defined, parted)))
 
-    after : sum ≡ min (weight_after units sources asked) (2 ^ 64 - 1)
+    after : sum ≡ min (weight_after limits units sources asked) (2 ^ 64 - 1)
     after =
         let of_units : document.weight_of (apply units (counted asked.delta)) ≡ document.weight_of (apply units (counted delta)) = ap (λ d. document.weight_of (apply units (counted d))) is.delta in
-        let of_sources : count_of (with_last asked.source asked.number asked.revision sources) ≡ count_of (with_last source asked.number asked.revision sources) =
-        ap (λ s. count_of (with_last s asked.number asked.revision sources)) is.source in
-        omega (arith, ok, counts asked.number asked.revision, times, plus, of_units, of_sources)
+        let of_sources : weight_of_sources limits (with_taken asked.source asked.number asked.revision sources) ≡ weight_of_sources limits (with_taken source asked.number asked.revision sources) =
+        ap (λ s. weight_of_sources limits (with_taken s asked.number asked.revision sources)) is.source in
+        both_sums first beside sum (document.weight_of (apply units (counted delta))) (weight_of_sources limits (with_taken source asked.number asked.revision sources))
+        (document.weight_of (apply units (counted asked.delta))) (weight_of_sources limits (with_taken asked.source asked.number asked.revision sources))
+        ok (weighs asked.number asked.revision) plus of_units of_sources
 
     pub too_heavy : limits.weight < sum → take_on limits units sources asked ≡ Refuses TooHeavy
     too_heavy more =
-        let heavy : nat_lt limits.weight (weight_after units sources asked) ≡ true = lt-ltb _ _ (omega (arith, more, after)) in
+        let heavy : nat_lt limits.weight (weight_after limits units sources asked) ≡ true = lt-ltb _ _ (omega (arith, more, after)) in
         rw (past, cut, heavy) refl
 
-    light_enough : sum ≤ limits.weight → nat_lt limits.weight (weight_after units sources asked) ≡ false
-    light_enough within = false_from_ne_true _ (λ heavy. absurd (omega (arith, within, after, light, ltb-true limits.weight (weight_after units sources asked) heavy)))
+    light_enough : sum ≤ limits.weight → nat_lt limits.weight (weight_after limits units sources asked) ≡ false
+    light_enough within = false_from_ne_true _ (λ heavy. absurd (omega (arith, within, after, light, ltb-true limits.weight (weight_after limits units sources asked) heavy)))
 
     pub too_wide : sum ≤ limits.weight → limits.width < width → take_on limits units sources asked ≡ Refuses TooWide
     too_wide within more =
@@ -158,7 +160,7 @@ take_on_rests : (limits : Limits) (units : List Element) (sources : Sources) (ta
 take_on_rests limits units sources taken =
     either_rests (reaches_past taken.delta units) (Refuses PastEnd) _ refl
     (either_rests (parts_pair taken.delta units) (Refuses CutsPair) _ refl
-    (either_rests (nat_lt limits.weight (weight_after units sources taken)) (Refuses TooHeavy) _ refl
+    (either_rests (nat_lt limits.weight (weight_after limits units sources taken)) (Refuses TooHeavy) _ refl
     (either_rests (nat_lt limits.width (width_of taken)) (Refuses TooWide) (Takes taken) refl refl)))
 
 pub change_rests : (state : State) (number : ℕ) (found : DocumentRecord) (command : Command) (delta : List Operation) → (revision_of found == last_of_all) ≡ false

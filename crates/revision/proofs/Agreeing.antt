@@ -3,7 +3,7 @@ use Rattle.std.proofs.Common.{◌≡◌, ℕ, zero, suc, ◌+◌, ◌≤◌, max
 use Rattle.std.specs.Prelude.{◌==◌, ◌&&◌, not, nat_lt, nat_le, is_none, bytes_eq, slice_get}
 use Rattle.delta.specs.Element.{Element}
 use Rattle.revision.specs.Command.{Taken}
-use Rattle.revision.specs.Sources.{Sources, last_of}
+use Rattle.revision.specs.Sources.{Sources, window_of}
 use Rattle.revision.specs.Past.{Change, Past, newest, empty_past, from_floor, with_change}
 use Rattle.revision.specs.State.{Limits, DocumentRecord, State, revision_of, find, last_of_all, has_place, keeps, follows, begins, continues_by_name, change_of, record_by_name, record_after, has_room, grows, set_document, grown}
 use Rattle.revision.specs.Agree.{DocumentsAgree, PlacesAgree, Agree, AgreeSame, AgreeTurned, AgreeThrough, AgreeingContinue, AgreeingGrow, floor_of}
@@ -160,7 +160,7 @@ places-after keep (Some a) (Some b) taken (Some name) agree = documents-after ke
 follows_by : Limits → ℕ → List Element → Sources → Taken → Bool
 follows_by limits revision units sources taken =
     (taken.revision == revision + 1) && not (revision == last_of_all)
-    && (taken.number == (last_of taken.source sources).number + 1) && nat_le taken.number last_of_all
+    && (taken.number == (window_of taken.source sources).number + 1) && nat_le taken.number last_of_all
     && has_place limits taken.source sources && keeps limits units sources taken
 
 follows-same : (l m : Limits) (a b : DocumentRecord) (taken : Taken) → l ≡ m → DocumentsAgree a b → follows l a taken ≡ follows m b taken

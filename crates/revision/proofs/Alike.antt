@@ -8,11 +8,12 @@ use Rattle.attributes.specs.Map.{empty}
 use Rattle.delta.specs.Element.{Element}
 use Rattle.delta.specs.Operation.{Operation}
 use Rattle.revision.specs.Command.{Action, Create, Edit, Undo, Command}
-use Rattle.revision.specs.Sources.{LastTaken, Sources, last_of}
+use Rattle.revision.specs.Window.{Window, revision_in, last_revision}
+use Rattle.revision.specs.Sources.{Sources, window_of}
 use Rattle.revision.specs.Late.{late}
 use Rattle.revision.specs.Past.{way_back_late, Change, newest, deltas_of, deltas_above, undo_of}
 use Rattle.revision.specs.State.{Limits, DocumentRecord, State, revision_of, sources_of, last_of_all, has_place}
-use Rattle.revision.specs.Acceptance.{Answer, Repeats, Refuses, take_on, create_existing, change, edit, undo, by_number, answer_to}
+use Rattle.revision.specs.Acceptance.{Answer, Repeats, Refuses, take_on, create_existing, change, edit, undo, by_retry, by_number, answer_to}
 use Rattle.revision.specs.Agree.{DocumentsAgree, Agree, AgreeingAnswer, AgreeingAnswerHeld, StandsOnHeld}
 use Rattle.revision.proofs.Agreeing.{FoundAgree, lists-found, lists-length}
 
@@ -24,11 +25,15 @@ alike-unless : (b : Bool) (other x y : Answer) → Alike x y → Alike (cond b o
 alike-unless true other x y alike = inl refl
 alike-unless false other x y alike = alike
 
-alike-number : (last : LastTaken) (number : ℕ) (x y : Answer) → Alike x y → Alike (by_number last number x) (by_number last number y)
-alike-number last number x y alike =
-    alike-unless (nat_lt 0 last.number && (number == last.number)) (Repeats last.revision) _ _
-    (alike-unless (nat_lt number last.number) (Refuses OldNumber) _ _
-    (alike-unless (nat_lt (last.number + 1) number) (Refuses Gap) _ _ alike))
+alike-retry : (found : Option ℕ) (x y : Answer) → Alike x y → Alike (by_retry found x) (by_retry found y)
+alike-retry None x y alike = alike
+alike-retry (Some revision) x y alike = inl refl
+
+alike-number : (window : Window) (number : ℕ) (x y : Answer) → Alike x y → Alike (by_number window number x) (by_number window number y)
+alike-number window number x y alike =
+    alike-retry (revision_in number window) _ _
+    (alike-unless (nat_le number window.number) (Refuses OldNumber) _ _
+    (alike-unless (nat_lt (window.number + 1) number) (Refuses Gap) _ _ alike))
 
 -- where neither has let go of the revision they are equal
 alike-held : (old older : Bool) (x y : Answer) → (old ≡ false → older ≡ false → x ≡ y)
@@ -116,10 +121,10 @@ module _ (s t : State) (command : Command) (agree : Agree s t) where
         within-or-past x y = ⊎_elim (λ (h : x < y + 1). inl (omega (arith, h))) (λ (h : y + 1 ≤ x). inr h) (cases_lt x (y + 1))
 
     -- an undo, by what the source has
-    undo_by : DocumentRecord → State → ℕ → LastTaken → Answer
-    undo_by found state place last =
-        cond (last.number == 0) (Refuses NothingToUndo) (cond (nat_le last.revision found.past.floor) (Refuses TooOld)
-        (change state place found command (undo_of found.past.floor found.past.content.units (deltas_of found.past) last.revision)))
+    undo_by : DocumentRecord → State → ℕ → Window → Answer
+    undo_by found state place window =
+        cond (window.number == 0) (Refuses NothingToUndo) (cond (nat_le (last_revision window) found.past.floor) (Refuses TooOld)
+        (change state place found command (undo_of found.past.floor found.past.content.units (deltas_of found.past) (last_revision window))))
 
     undo-rest : (revision : ℕ) → a.past.floor < revision → b.past.floor < revision
         → change s n a command (undo_of a.past.floor a.past.content.units (deltas_of a.past) revision)
@@ -129,48 +134,48 @@ module _ (s t : State) (command : Command) (agree : Agree s t) where
     undo-alike : Alike (undo s n a command) (undo t m b command)
     unfolding undo_by
     undo-alike =
-        subst (λ last. Alike (undo s n a command) (undo_by b t m last)) (ap (last_of command.source) both.sources)
-        (alike-unless ((last_of command.source (sources_of a)).number == 0) (Refuses NothingToUndo) _ _
-        (alike-held (nat_le (last_of command.source (sources_of a)).revision a.past.floor) (nat_le (last_of command.source (sources_of a)).revision b.past.floor) _ _
-        (λ e f. undo-rest (last_of command.source (sources_of a)).revision (leb-false _ _ e) (leb-false _ _ f))))
+        subst (λ window. Alike (undo s n a command) (undo_by b t m window)) (ap (window_of command.source) both.sources)
+        (alike-unless ((window_of command.source (sources_of a)).number == 0) (Refuses NothingToUndo) _ _
+        (alike-held (nat_le (last_revision (window_of command.source (sources_of a))) a.past.floor) (nat_le (last_revision (window_of command.source (sources_of a))) b.past.floor) _ _
+        (λ e f. undo-rest (last_revision (window_of command.source (sources_of a))) (leb-false _ _ e) (leb-false _ _ f))))
 
-    undo-held : a.past.floor < (last_of command.source (sources_of a)).revision → b.past.floor < (last_of command.source (sources_of b)).revision
+    undo-held : a.past.floor < last_revision (window_of command.source (sources_of a)) → b.past.floor < last_revision (window_of command.source (sources_of b))
         → undo s n a command ≡ undo t m b command
     unfolding undo_by
     undo-held over other =
-        let last = ap (last_of command.source) both.sources in
-        let here : b.past.floor < (last_of command.source (sources_of a)).revision = subst (λ (l : LastTaken). b.past.floor < l.revision) (sym last) other in
-        subst (λ last. undo s n a command ≡ undo_by b t m last) last
-        (ap (cond ((last_of command.source (sources_of a)).number == 0) (Refuses NothingToUndo))
-        (same-held (nat_le (last_of command.source (sources_of a)).revision a.past.floor) (nat_le (last_of command.source (sources_of a)).revision b.past.floor) _ _
-        (lt-leb _ _ over) (lt-leb _ _ here) (undo-rest (last_of command.source (sources_of a)).revision over here)))
+        let window = ap (window_of command.source) both.sources in
+        let here : b.past.floor < last_revision (window_of command.source (sources_of a)) = subst (λ (w : Window). b.past.floor < last_revision w) (sym window) other in
+        subst (λ window. undo s n a command ≡ undo_by b t m window) window
+        (ap (cond ((window_of command.source (sources_of a)).number == 0) (Refuses NothingToUndo))
+        (same-held (nat_le (last_revision (window_of command.source (sources_of a))) a.past.floor) (nat_le (last_revision (window_of command.source (sources_of a))) b.past.floor) _ _
+        (lt-leb _ _ over) (lt-leb _ _ here) (undo-rest (last_revision (window_of command.source (sources_of a))) over here)))
 
     -- an action to the document that is found
     existing-same : create_existing a command ≡ create_existing b command
     existing-same =
-        let last = ap (last_of command.source) both.sources in
-        λ i. cond (nat_lt 0 (last i).number && (command.number == (last i).number)) (Repeats (last i).revision) (Refuses Exists)
+        let window = ap (window_of command.source) both.sources in
+        λ i. by_retry (revision_in command.number (window i)) (Refuses Exists)
 
-    by-last : (x y : Answer) → Alike x y → Alike (by_number (last_of command.source (sources_of a)) command.number x) (by_number (last_of command.source (sources_of b)) command.number y)
-    by-last x y alike =
-        subst (λ last. Alike (by_number (last_of command.source (sources_of a)) command.number x) (by_number last command.number y)) (ap (last_of command.source) both.sources)
-        (alike-number (last_of command.source (sources_of a)) command.number x y alike)
+    by-window : (x y : Answer) → Alike x y → Alike (by_number (window_of command.source (sources_of a)) command.number x) (by_number (window_of command.source (sources_of b)) command.number y)
+    by-window x y alike =
+        subst (λ window. Alike (by_number (window_of command.source (sources_of a)) command.number x) (by_number window command.number y)) (ap (window_of command.source) both.sources)
+        (alike-number (window_of command.source (sources_of a)) command.number x y alike)
 
     found-alike : (action : Action) → Alike (answer_to s command action (Some (n, a))) (answer_to t command action (Some (m, b)))
     found-alike (Create delta) = inl existing-same
-    found-alike (Edit base delta) = by-last _ _ (edit-alike base delta)
-    found-alike Undo = by-last _ _ undo-alike
+    found-alike (Edit base delta) = by-window _ _ (edit-alike base delta)
+    found-alike Undo = by-window _ _ undo-alike
 
     found-held : (action : Action) → StandsOnHeld command.source action a b → answer_to s command action (Some (n, a)) ≡ answer_to t command action (Some (m, b))
     found-held (Create delta) held = existing-same
     found-held (Edit base delta) held =
-        let last = ap (last_of command.source) both.sources in
+        let window = ap (window_of command.source) both.sources in
         let same = edit-same base delta held.0 held.1 in
-        λ i. by_number (last i) command.number (same i)
+        λ i. by_number (window i) command.number (same i)
     found-held Undo held =
-        let last = ap (last_of command.source) both.sources in
+        let window = ap (window_of command.source) both.sources in
         let same = undo-held held.0 held.1 in
-        λ i. by_number (last i) command.number (same i)
+        λ i. by_number (window i) command.number (same i)
 
   -- an action to a document that isn't there
   new-same : (action : Action) → answer_to s command action None ≡ answer_to t command action None

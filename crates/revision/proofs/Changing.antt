@@ -5,7 +5,7 @@ use Rattle.delta.specs.Element.{Element}
 use Rattle.delta.specs.Gaps.{counted, apply}
 use Rattle.document.specs.Outcome.{IsAccepted}
 use Rattle.compose.specs.Many.{applied}
-use Rattle.revision.specs.Sources.{Sources, with_last}
+use Rattle.revision.specs.Sources.{Sources, with_taken}
 use Rattle.revision.specs.Past.{StandInTurn, Change, Past, newest, deltas_of, sources_after, content_at, sources_at, from_floor, with_change}
 use Rattle.revision.specs.Floors.{longer, FromItself, FromTwice, FromNewest, FromLonger, ChangeMakes}
 use Rattle.revision.proofs.Floors.{newest-from, from-from, from-more}
@@ -57,13 +57,13 @@ applied-more units [] change = refl
 applied-more units (first ∷ others) change = applied-more (apply units (counted first.delta)) others change
 
 pub sources-more : (floor there : ℕ) (sources : Sources) (changes : List Change) (change : Change) → there ≡ floor + length changes
-    → sources_after floor sources (changes ++ change ∷ []) ≡ with_last change.source change.number (there + 1) (sources_after floor sources changes)
-sources-more floor there sources [] change is = ap (λ r. with_last change.source change.number (r + 1) sources) (sym (is ∙ none floor))
+    → sources_after floor sources (changes ++ change ∷ []) ≡ with_taken change.source change.number (there + 1) (sources_after floor sources changes)
+sources-more floor there sources [] change is = ap (λ r. with_taken change.source change.number (r + 1) sources) (sym (is ∙ none floor))
   where
     none : (n : ℕ) → n + 0 ≡ n
     none n = omega arith
 sources-more floor there sources (first ∷ others) change is =
-    sources-more (floor + 1) there (with_last first.source first.number (floor + 1) sources) others change (omega (arith, is))
+    sources-more (floor + 1) there (with_taken first.source first.number (floor + 1) sources) others change (omega (arith, is))
 
 module _ (past : Past) (change : Change) where
   pub newest-longer : newest (longer past change) ≡ newest past + 1
@@ -76,12 +76,12 @@ module _ (past : Past) (change : Change) where
       ∙ (applied-more past.content.units past.changes change
       ∙ ap (λ u. apply u (counted change.delta)) (sym (units-newest past))))
 
-  pub sources-longer : sources_at (longer past change) (newest past + 1) ≡ with_last change.source change.number (newest past + 1) (sources_at past (newest past))
+  pub sources-longer : sources_at (longer past change) (newest past + 1) ≡ with_taken change.source change.number (newest past + 1) (sources_at past (newest past))
   sources-longer =
       ap (sources_at (longer past change)) (sym newest-longer)
       ∙ (sources-newest (longer past change)
       ∙ (sources-more past.floor (newest past) past.sources past.changes change refl
-      ∙ ap (with_last change.source change.number (newest past + 1)) (sym (sources-newest past))))
+      ∙ ap (with_taken change.source change.number (newest past + 1)) (sym (sources-newest past))))
 
   -- at the revisions before it holds what it held
   pub units-before : (revision : ℕ) → past.floor ≤ revision → revision ≤ newest past → (content_at (longer past change) revision).units ≡ (content_at past revision).units
@@ -103,7 +103,7 @@ module _ (past : Past) (change : Change) where
     units-with_change = ap (λ (p : Past). p.content.units) (with_change-from (newest past + 1) (omega arith)) ∙ units-longer
 
     pub sources-with_change : sources_at (with_change keep past change) (newest past + 1)
-        ≡ with_last change.source change.number (newest past + 1) (sources_at past (newest past))
+        ≡ with_taken change.source change.number (newest past + 1) (sources_at past (newest past))
     sources-with_change = ap (λ (p : Past). p.sources) (with_change-from (newest past + 1) (omega arith)) ∙ sources-longer
 
     -- its deltas stand in turn where the change's stands on the newest units

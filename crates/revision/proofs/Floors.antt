@@ -6,7 +6,7 @@ use Rattle.delta.specs.Element.{Element}
 use Rattle.delta.specs.Operation.{Operation}
 use Rattle.delta.specs.Gaps.{counted, apply}
 use Rattle.compose.specs.Many.{applied}
-use Rattle.revision.specs.Sources.{Sources, with_last}
+use Rattle.revision.specs.Sources.{Sources, with_taken}
 use Rattle.revision.specs.Past.{Past, Change, newest, deltas_of, sources_after, content_at, deltas_above, from_floor, with_change, with_changes}
 
 -- the first deltas and some of those after them
@@ -31,7 +31,7 @@ sources-take (suc a) b revision sources [] =
     let sum : suc (a + b) ≡ suc a + b = omega arith in
     ap (sources_after (revision + suc a) sources) (take-nil b) ∙ ap (λ n. sources_after revision sources (take n [])) sum
 sources-take (suc a) b revision sources (first ∷ others) =
-    let next : Sources = with_last first.source first.number (revision + 1) sources in
+    let next : Sources = with_taken first.source first.number (revision + 1) sources in
     let later : revision + suc a ≡ (revision + 1) + a = omega arith in
     let sum : suc (a + b) ≡ suc a + b = omega arith in
     ap (λ n. sources_after n (sources_after (revision + 1) next (take a others)) (take b (drop a others))) later

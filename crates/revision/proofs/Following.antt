@@ -8,7 +8,7 @@ use Rattle.delta.specs.Gaps.{counted, apply}
 use Rattle.document.specs.Outcome.{IsAccepted}
 use Rattle.compose.specs.Many.{applied}
 use Rattle.revision.specs.Command.{Taken, is_kind}
-use Rattle.revision.specs.Sources.{Sources, Table, last_of, with_last}
+use Rattle.revision.specs.Sources.{Sources, Table, window_of, with_taken}
 use Rattle.revision.specs.Past.{Past, Prepared, Change, empty_past, newest, newest_units, deltas_in, sources_after, sources_at, content_at, with_change, with_changes, prepared_units, prepared_revision}
 use Rattle.revision.specs.State.{Limits, DocumentRecord, change_of, revision_of, units_of, sources_of, last_of_all, has_place, keeps, comes_next, begins, follows}
 use Rattle.revision.specs.Invariants.{IsLimits}
@@ -28,7 +28,7 @@ units-one keep past change =
     ap (λ n. (content_at (with_change keep past change) n).units) (newest-with_change past change keep) ∙ units-with_change past change keep
 
 sources-one : (keep : ℕ) (past : Past) (change : Change)
-    → newest_sources (with_change keep past change) ≡ with_last change.source change.number (newest past + 1) (newest_sources past)
+    → newest_sources (with_change keep past change) ≡ with_taken change.source change.number (newest past + 1) (newest_sources past)
 sources-one keep past change =
     ap (sources_at (with_change keep past change)) (newest-with_change past change keep) ∙ sources-with_change past change keep
 
@@ -50,7 +50,7 @@ module _ (prepared : Prepared) (change : Change) where
   units-more = applied-more (newest_units prepared.past) prepared.next change
 
   pub sources-prepared : prepared_sources (record prepared { next = prepared.next ++ change ∷ [] })
-      ≡ with_last change.source change.number (prepared_revision prepared + 1) (prepared_sources prepared)
+      ≡ with_taken change.source change.number (prepared_revision prepared + 1) (prepared_sources prepared)
   sources-prepared = sources-more (newest prepared.past) (prepared_revision prepared) (newest_sources prepared.past) prepared.next change refl
 
 -- a change follows the document with what is prepared
@@ -78,12 +78,12 @@ accepted_comes keep past units sources units_are sources_are = record {
 pub prepared_comes : (past : Prepared) (units after : List Element) (next : Option (List Element)) (sources : Table) (taken : Taken) → ComesOf past units next sources
     → after ≡ apply (prepared_units past) (counted taken.delta) → taken.revision ≡ prepared_revision past + 1
     → ComesOf (record past { next = past.next ++ change_of taken ∷ [] }) units (Some after)
-    (record sources { prepared = with_last taken.source taken.number taken.revision sources.prepared })
+    (record sources { prepared = with_taken taken.source taken.number taken.revision sources.prepared })
 prepared_comes past units after next sources taken comes after_is revision = record {
   newest = comes.newest;
   after = after_is ∙ sym (units-more past (change_of taken));
   held = comes.held;
-  prepared = ap₂ (with_last taken.source taken.number) revision comes.prepared ∙ sym (sources-prepared past (change_of taken));
+  prepared = ap₂ (with_taken taken.source taken.number) revision comes.prepared ∙ sym (sources-prepared past (change_of taken));
 }
 
 -- where nothing is prepared, the document is what it will be
@@ -99,7 +99,7 @@ module _ (limits : Limits) (d : PendingDocument) (taken : Taken) (is : IsLimits 
   next_revision =
       let found : DocumentRecord = with_prepared limits.keep d in
       let parts = six (taken.revision == revision_of found + 1) (not (revision_of found == last_of_all))
-      (taken.number == (last_of taken.source (sources_of found)).number + 1) (nat_le taken.number last_of_all)
+      (taken.number == (window_of taken.source (sources_of found)).number + 1) (nat_le taken.number last_of_all)
       (has_place limits taken.source (sources_of found)) (keeps limits (units_of found) (sources_of found) taken) comes in
       eqb-true _ _ parts.0 ∙ ap (λ n. n + 1) (newest-with_changes limits.keep d.past.past d.past.next)
 
@@ -107,7 +107,7 @@ module _ (limits : Limits) (d : PendingDocument) (taken : Taken) (is : IsLimits 
   next_accepted =
       let found : DocumentRecord = with_prepared limits.keep d in
       let parts = six (taken.revision == revision_of found + 1) (not (revision_of found == last_of_all))
-      (taken.number == (last_of taken.source (sources_of found)).number + 1) (nat_le taken.number last_of_all)
+      (taken.number == (window_of taken.source (sources_of found)).number + 1) (nat_le taken.number last_of_all)
       (has_place limits taken.source (sources_of found)) (keeps limits (units_of found) (sources_of found) taken) comes in
       let kept = kept-accepted limits (units_of found) (sources_of found) taken is parts.5 in
       let light = kept.1 in

@@ -11,15 +11,15 @@ use Rattle.std.specs.FinMap.Entries.{is_sorted, below_all}
 use Rattle.attributes.specs.Map.{by_bytes}
 use Rattle.attributes.specs.Table.{AllBefore, none_before, one_before}
 use Rattle.attributes.proofs.CallerLemmas.{same_name, here_at, free_at, free_end}
-use Rattle.revision.specs.Sources.{LastTaken}
+use Rattle.revision.specs.Window.{Window}
 use Rattle.revision.specs.steps.NameAt.{has_name}
 
 -- the two parts of a test
-T_parts : (a b : Bool) → T (a && b) → T a × T b
+pub T_parts : (a b : Bool) → T (a && b) → T a × T b
 T_parts true b h = (tt, h)
 T_parts false b h = absurd h
 
-less_from : (r : Ordering) → T (is_lt r) → r ≡ Less
+pub less_from : (r : Ordering) → T (is_lt r) → r ≡ Less
 less_from Less h = refl
 less_from Equal h = absurd h
 less_from Greater h = absurd h
@@ -85,9 +85,9 @@ free_between {X} name es low high sorted met within before above = by_place (sli
   by_place (inr past) = free_end name es low sorted before (omega (arith, past.0, met, within))
 
 -- where an entry is of the name, the name stands there
-pub here_named : (name : List ℕ) (es : List (List ℕ × LastTaken)) (i : ℕ) → T (is_sorted by_bytes es) → has_name name (slice_get es i) ≡ true → IsHere name es i
+pub here_named : (name : List ℕ) (es : List (List ℕ × Window)) (i : ℕ) → T (is_sorted by_bytes es) → has_name name (slice_get es i) ≡ true → IsHere name es i
 here_named name es i sorted named = by_place (slice_get_cases es i).1 where
-  by_place : ((x : List ℕ × LastTaken) × (i < length es) × (slice_get es i ≡ Some x) × (get_or es i x ≡ x)) ⊎ ((length es ≤ i) × (slice_get es i ≡ None)) → IsHere name es i
+  by_place : ((x : List ℕ × Window) × (i < length es) × (slice_get es i ≡ Some x) × (get_or es i x ≡ x)) ⊎ ((length es ≤ i) × (slice_get es i ≡ None)) → IsHere name es i
   by_place (inl there) =
       let e = there.0 in
       let ties : has_name name (Some e) ≡ true = sym (ap (has_name name) there.2) ∙ named in

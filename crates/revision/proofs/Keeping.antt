@@ -2,7 +2,8 @@
 use Rattle.std.proofs.Common.{◌≡◌, ◌⊎◌, inl, inr, ℕ, zero, suc, ◌+◌, ◌≤◌, ◌<◌, Bool, true, false, cond, List, [], ◌∷◌, ◌++◌, length, Option, Some, None, Less, Greater, Equal, refl, sym, ap, subst, ◌∙◌, ⊎_elim, length-append, arith}
 use Rattle.std.specs.Prelude.{◌&&◌, ◌||◌, ◌==◌, not, nat_lt, nat_le, is_none, is_some, bytes_eq, slice_get, unwrap_or}
 use Rattle.std.specs.Cmp.Lexicographic.{nat_list_cmp_total}
-use Rattle.std.specs.FinMap.Entries.{put, length-put, by_order}
+use Rattle.std.specs.Ordering.{eq_by_cmp}
+use Rattle.std.specs.FinMap.Entries.{find as entry_of, put, length-put, by_order}
 use Rattle.std.proofs.lemmas.Bool.{and_parts, and_from, both_ways, not-true, ltb-true, ltb-false, leb-true, eqb-true, eqb-false, le-leb, lt-ltb, cases_lt}
 use Rattle.std.proofs.lemmas.Option.{slice_get_within}
 use Rattle.std.proofs.lemmas.Slice.Eq.{bytes_eq-Decides}
@@ -12,13 +13,15 @@ use Rattle.delta.specs.Gaps.{counted, apply, units_below}
 use Rattle.document.specs.Outcome.{IsAccepted}
 use Rattle.document.specs.Places.{Cuts}
 use Rattle.revision.specs.Command.{Taken, width_of}
-use Rattle.revision.specs.Sources.{LastTaken, Sources, last_of, count_of, with_last}
+use Rattle.revision.specs.Window.{Window, nothing_taken, taken_as, taken_next}
+use Rattle.revision.specs.Sources.{Sources, window_of, count_of, with_taken}
 use Rattle.revision.specs.Parting.{parts_pair}
 use Rattle.revision.specs.Past.{StandInTurn, deltas_of, Content, Change, Past, empty_past, newest, content_at, sources_at, with_change}
-use Rattle.revision.specs.State.{Limits, DocumentRecord, State, grows, grown, all_grow, fold, revision_of, units_of, sources_of, find, last_of_all, reaches_past, weight_of, weight_after, has_place, keeps, begins, follows, continues_by_name, change_of, record_by_name, record_after, has_room, set_document, is_last_taken, are_sources, adopts, record_at}
+use Rattle.revision.specs.State.{Limits, DocumentRecord, State, grows, grown, all_grow, fold, revision_of, units_of, sources_of, find, last_of_all, reaches_past, weight_of, weight_after, has_place, keeps, begins, follows, continues_by_name, change_of, record_by_name, record_after, has_room, set_document, is_window, are_sources, adopts, record_at}
 use Rattle.revision.specs.Invariants.{IsLimits, KeepsAt, IsPast, IsRecord, IsState, EmptyIsState, GrowingKeeps, AdoptingKeeps, ContinuingKeeps}
 use Rattle.revision.proofs.Room.{weight-some}
 use Rattle.revision.proofs.Told.{parts_told}
+use Rattle.revision.proofs.Windows.{window-later, stays_window, first-window}
 use Rattle.revision.proofs.Changing.{units-newest, sources-newest, newest-with_change, with_change-from, units-with_change, sources-with_change, units-before, sources-before, stand-with_change, count-with_change}
 
 pub empty_is_state : EmptyIsState
@@ -44,59 +47,75 @@ six a b c d e f h =
     let first = four a b c d fifth.0 in
     (first.0, first.1, first.2, first.3, fifth.1, last.1)
 
--- what a source has at a revision it may have at later ones
-last-later : (revision later : ℕ) (last : LastTaken) → revision ≤ later → is_last_taken revision last ≡ true → is_last_taken later last ≡ true
-last-later revision later last le h =
-    let parts = and_parts (nat_le 1 last.number && nat_le last.number last_of_all && nat_le 1 last.revision) (nat_le last.revision revision) h in
-    and_from _ _ parts.0 (le-leb last.revision later (omega (arith, le, leb-true last.revision revision parts.1)))
-
-sources-later : (revision later : ℕ) (entries : List (List ℕ × LastTaken)) → revision ≤ later → are_sources revision entries ≡ true → are_sources later entries ≡ true
+-- what sources have at a revision they may have at later ones
+sources-later : (revision later : ℕ) (entries : List (List ℕ × Window)) → revision ≤ later → are_sources revision entries ≡ true → are_sources later entries ≡ true
 sources-later revision later [] le h = refl
 sources-later revision later (first ∷ others) le h =
-    let parts = and_parts (is_last_taken revision first.1) (are_sources revision others) h in
-    and_from _ _ (last-later revision later first.1 le parts.0) (sources-later revision later others le parts.1)
+    let parts = and_parts (is_window revision first.1) (are_sources revision others) h in
+    and_from _ _ (window-later revision later first.1 le parts.0) (sources-later revision later others le parts.1)
 
-sources-put : (revision : ℕ) (source : List ℕ) (last : LastTaken) (entries : List (List ℕ × LastTaken)) → is_last_taken revision last ≡ true
-    → are_sources revision entries ≡ true → are_sources revision (put by_bytes source last entries) ≡ true
-sources-put revision source last [] is h = and_from _ _ is refl
-sources-put revision source last (first ∷ others) is h =
-    let parts = and_parts (is_last_taken revision first.1) (are_sources revision others) h in
-    elim (by_bytes source first.0) as (λ o. are_sources revision (by_order o ((source, last) ∷ first ∷ others) ((first.0, last) ∷ others) (first ∷ put by_bytes source last others)) ≡ true) [
+sources-put : (revision : ℕ) (source : List ℕ) (window : Window) (entries : List (List ℕ × Window)) → is_window revision window ≡ true
+    → are_sources revision entries ≡ true → are_sources revision (put by_bytes source window entries) ≡ true
+sources-put revision source window [] is h = and_from _ _ is refl
+sources-put revision source window (first ∷ others) is h =
+    let parts = and_parts (is_window revision first.1) (are_sources revision others) h in
+    elim (by_bytes source first.0) as (λ o. are_sources revision (by_order o ((source, window) ∷ first ∷ others) ((first.0, window) ∷ others) (first ∷ put by_bytes source window others)) ≡ true) [
       | Less ↦ and_from _ _ is h
       | Equal ↦ and_from _ _ is parts.1
-      | Greater ↦ and_from _ _ parts.0 (sources-put revision source last others is parts.1)
+      | Greater ↦ and_from _ _ parts.0 (sources-put revision source window others is parts.1)
     ]
 
-sources-noted : (revision later number : ℕ) (source : List ℕ) (sources : Sources) → revision ≤ later → 1 ≤ later → 1 ≤ number → number ≤ last_of_all
-    → are_sources revision sources.entries ≡ true → are_sources later (with_last source number later sources).entries ≡ true
+-- a source that is found has what it may have
+pub sources-found : (revision : ℕ) (source : List ℕ) (entries : List (List ℕ × Window)) (window : Window) → are_sources revision entries ≡ true
+    → entry_of by_bytes source entries ≡ Some window → is_window revision window ≡ true
+sources-found revision source [] window h is = absurd (cc)
+sources-found revision source (first ∷ others) window h is =
+    let parts = and_parts (is_window revision first.1) (are_sources revision others) h in
+    elim (eq_by_cmp by_bytes source first.0) as (λ b. cond b (Some first.1) (entry_of by_bytes source others) ≡ Some window → is_window revision window ≡ true) [
+      | true ↦ λ here. subst (λ w. is_window revision w ≡ true) (window_is first.1 window here) parts.0
+      | false ↦ λ later. sources-found revision source others window parts.1 later
+    ] is
+  where
+    window_is : (x y : Window) → Some x ≡ Some y → x ≡ y
+    window_is x y h = ap (λ o. unwrap_or o x) h
+
+-- what a source has once its next number was taken
+noted-window : (revision later number : ℕ) (there : Option Window) → revision < later → number ≡ (unwrap_or there nothing_taken).number + 1 → number ≤ last_of_all
+    → ((window : Window) → there ≡ Some window → is_window revision window ≡ true) → is_window later (taken_as number later (unwrap_or there nothing_taken)) ≡ true
+noted-window revision later number None lt next bound sound =
+    subst (λ n. is_window later (taken_as n later nothing_taken) ≡ true) (sym next) (first-window later (omega (arith, lt)))
+noted-window revision later number (Some window) lt next bound sound =
+    subst (λ n. is_window later (taken_as n later window) ≡ true) (sym next) (stays_window revision later window lt (omega (arith, next, bound)) (sound window refl))
+
+sources-noted : (revision later number : ℕ) (source : List ℕ) (sources : Sources) → revision < later → number ≡ (window_of source sources).number + 1 → number ≤ last_of_all
+    → are_sources revision sources.entries ≡ true → are_sources later (with_taken source number later sources).entries ≡ true
 unfolding insert
-sources-noted revision later number source sources le some one bound h =
-    sources-put later source (record { number = number; revision = later }) sources.entries
-    (and_from _ _ (and_from _ _ (and_from _ _ (le-leb 1 number one) (le-leb number last_of_all bound)) (le-leb 1 later some)) (le-leb later later (omega arith)))
-    (sources-later revision later sources.entries le h)
+sources-noted revision later number source sources lt next bound h =
+    sources-put later source (taken_as number later (window_of source sources)) sources.entries
+    (noted-window revision later number (get sources source) lt next bound (λ window is. sources-found revision source sources.entries window h is))
+    (sources-later revision later sources.entries (omega (arith, lt)) h)
 
 -- where a source has its place, there are no more sources than there may be with it noted
 count-noted : (limits : Limits) (source : List ℕ) (number revision : ℕ) (sources : Sources) → has_place limits source sources ≡ true
-    → count_of sources ≤ limits.sources → count_of (with_last source number revision sources) ≤ limits.sources
+    → count_of sources ≤ limits.sources → count_of (with_taken source number revision sources) ≤ limits.sources
 unfolding insert
 count-noted limits source number revision sources place held =
-    let last : LastTaken = record { number = number; revision = revision } in
-    let count = length-put by_bytes nat_list_cmp_total source last sources.entries sources.ascending in
+    let count = length-put by_bytes nat_list_cmp_total source (taken_as number revision (window_of source sources)) sources.entries sources.ascending in
     subst (λ n. n ≤ limits.sources) (sym count) (by_entry (get sources source) place)
   where
-    by_entry : (there : Option LastTaken) → (not ((unwrap_or there (record { number = 0; revision = 0 })).number == 0) || nat_lt (count_of sources) limits.sources) ≡ true
+    by_entry : (there : Option Window) → (not ((unwrap_or there nothing_taken).number == 0) || nat_lt (count_of sources) limits.sources) ≡ true
         → cond (is_some there) (length sources.entries) (length sources.entries + 1) ≤ limits.sources
     by_entry None h = omega (arith, ltb-true (count_of sources) limits.sources h)
-    by_entry (Some last) h = held
+    by_entry (Some window) h = held
 
 -- a delta that keeps the limits is accepted
 pub kept-accepted : (limits : Limits) (units : List Element) (sources : Sources) (taken : Taken) → IsLimits limits → keeps limits units sources taken ≡ true
-    → IsAccepted units (counted taken.delta) × (weight_after units sources taken ≤ limits.weight)
+    → IsAccepted units (counted taken.delta) × (weight_after limits units sources taken ≤ limits.weight)
 kept-accepted limits units sources taken is h =
-    let parts = four (not (reaches_past taken.delta units)) (not (parts_pair taken.delta units)) (nat_le (weight_after units sources taken) limits.weight)
+    let parts = four (not (reaches_past taken.delta units)) (not (parts_pair taken.delta units)) (nat_le (weight_after limits units sources taken) limits.weight)
     (nat_le (width_of taken) limits.width) h in
     let there : units_below (counted taken.delta) ≤ length units = ltb-false _ _ (not-true _ parts.0) in
-    let light : weight_after units sources taken ≤ limits.weight = leb-true _ _ parts.2 in
+    let light : weight_after limits units sources taken ≤ limits.weight = leb-true _ _ parts.2 in
     let whole : ¬ (Cuts units (counted taken.delta)) =
     λ cut. both_ways (parts_pair taken.delta units) (not-true _ parts.1) ((parts_told taken.delta units).1 cut) in
     ((there, whole, omega (arith, light, is.weight, weight-some (apply units (counted taken.delta)))), light)
@@ -105,8 +124,8 @@ kept-accepted limits units sources taken is h =
 pub keeps-same : (limits : Limits) (a b : Past) (revision : ℕ) → (content_at b revision).units ≡ (content_at a revision).units → sources_at b revision ≡ sources_at a revision
     → KeepsAt limits a revision → KeepsAt limits b revision
 keeps-same limits a b revision units sources kept = record {
-  weight = subst (λ u. weight_of u (count_of (sources_at b revision)) ≤ limits.weight) (sym units)
-      (subst (λ s. weight_of (content_at a revision).units (count_of s) ≤ limits.weight) (sym sources) kept.weight);
+  weight = subst (λ u. weight_of limits u (sources_at b revision) ≤ limits.weight) (sym units)
+      (subst (λ s. weight_of limits (content_at a revision).units s ≤ limits.weight) (sym sources) kept.weight);
   count = subst (λ s. count_of s ≤ limits.sources) (sym sources) kept.count;
   sources = subst (λ (s : Sources). are_sources revision s.entries ≡ true) (sym sources) kept.sources;
 }
@@ -116,7 +135,8 @@ module _ (limits : Limits) (past : Past) (taken : Taken) (is : IsLimits limits)
     (stand : StandInTurn past.content.units (deltas_of past))
     (count : length past.changes ≤ limits.keep) (last : newest past + 1 ≤ last_of_all)
     (each : (revision : ℕ) → past.floor ≤ revision → revision ≤ newest past → KeepsAt limits past revision)
-    (next : taken.revision ≡ newest past + 1) (some : 1 ≤ taken.number) (bound : taken.number ≤ last_of_all)
+    (next : taken.revision ≡ newest past + 1) (following : taken.number ≡ (window_of taken.source (sources_at past (newest past))).number + 1)
+    (bound : taken.number ≤ last_of_all)
     (place : has_place limits taken.source (sources_at past (newest past)) ≡ true)
     (kept : keeps limits (content_at past (newest past)).units (sources_at past (newest past)) taken ≡ true) where
   change : Change
@@ -129,14 +149,14 @@ module _ (limits : Limits) (past : Past) (taken : Taken) (is : IsLimits limits)
       let sources = sources-with_change past (change_of taken) limits.keep in
       let before = sources_at past (newest past) in
       let light = (kept-accepted limits (content_at past (newest past)).units before taken is kept).1 in
-      let weight : weight_of (apply (content_at past (newest past)).units (counted taken.delta)) (count_of (with_last taken.source taken.number (newest past + 1) before)) ≤ limits.weight =
-      subst (λ r. weight_of (apply (content_at past (newest past)).units (counted taken.delta)) (count_of (with_last taken.source taken.number r before)) ≤ limits.weight) next light in
+      let weight : weight_of limits (apply (content_at past (newest past)).units (counted taken.delta)) (with_taken taken.source taken.number (newest past + 1) before) ≤ limits.weight =
+      subst (λ r. weight_of limits (apply (content_at past (newest past)).units (counted taken.delta)) (with_taken taken.source taken.number r before) ≤ limits.weight) next light in
       record {
-        weight = subst (λ u. weight_of u (count_of (sources_at (with_change limits.keep past (change_of taken)) (newest past + 1))) ≤ limits.weight) (sym units)
-            (subst (λ s. weight_of (apply (content_at past (newest past)).units (counted taken.delta)) (count_of s) ≤ limits.weight) (sym sources) weight);
+        weight = subst (λ u. weight_of limits u (sources_at (with_change limits.keep past (change_of taken)) (newest past + 1)) ≤ limits.weight) (sym units)
+            (subst (λ s. weight_of limits (apply (content_at past (newest past)).units (counted taken.delta)) s ≤ limits.weight) (sym sources) weight);
         count = subst (λ s. count_of s ≤ limits.sources) (sym sources) (count-noted limits taken.source taken.number (newest past + 1) before place here.count);
         sources = subst (λ (s : Sources). are_sources (newest past + 1) s.entries ≡ true) (sym sources)
-            (sources-noted (newest past) (newest past + 1) taken.number taken.source before (omega arith) (omega arith) some bound here.sources);
+            (sources-noted (newest past) (newest past + 1) taken.number taken.source before (omega arith) following bound here.sources);
       }
 
   keeps-each : (revision : ℕ) → (with_change limits.keep past (change_of taken)).floor ≤ revision → revision ≤ newest (with_change limits.keep past (change_of taken))
@@ -188,11 +208,11 @@ followed-past : (limits : Limits) (found : DocumentRecord) (taken : Taken) → I
     → IsPast limits (with_change limits.keep found.past (change_of taken))
 followed-past limits found taken is past h =
     let parts = six (taken.revision == revision_of found + 1) (not (revision_of found == last_of_all))
-    (taken.number == (last_of taken.source (sources_of found)).number + 1) (nat_le taken.number last_of_all)
+    (taken.number == (window_of taken.source (sources_of found)).number + 1) (nat_le taken.number last_of_all)
     (has_place limits taken.source (sources_of found)) (keeps limits (units_of found) (sources_of found) taken) h in
-    let number : taken.number ≡ (last_of taken.source (sources_of found)).number + 1 = eqb-true _ _ parts.2 in
+    let number : taken.number ≡ (window_of taken.source (sources_of found)).number + 1 = eqb-true _ _ parts.2 in
     past-after limits found.past taken is past.stand past.count (below (revision_of found) past.last (not-true _ parts.1)) past.each (eqb-true _ _ parts.0)
-    (omega (arith, number)) (leb-true _ _ parts.3) parts.4 parts.5
+    number (leb-true _ _ parts.3) parts.4 parts.5
   where
     below : (revision : ℕ) → revision ≤ last_of_all → (revision == last_of_all) ≡ false → revision + 1 ≤ last_of_all
     below revision le other = ⊎_elim (λ (h : revision < last_of_all). omega (arith, h)) (λ (h : last_of_all ≤ revision). absurd (eqb-false revision last_of_all other (omega (arith, le, h))))
@@ -312,13 +332,13 @@ growing_keeps state taken is h =
 
 -- a document that is adopted keeps the limits
 adopted-past : (limits : Limits) (content : Content) (revision : ℕ) (sources : Sources) → 1 ≤ revision → revision ≤ last_of_all
-    → count_of sources ≤ limits.sources → are_sources revision sources.entries ≡ true → weight_of content.units (count_of sources) ≤ limits.weight
+    → count_of sources ≤ limits.sources → are_sources revision sources.entries ≡ true → weight_of limits content.units sources ≤ limits.weight
     → IsPast limits (record { floor = revision; content = content; sources = sources; changes = [] })
 adopted-past limits content revision sources some bound count are light =
     let past : Past = record { floor = revision; content = content; sources = sources; changes = [] } in
     let here : KeepsAt limits past (newest past) = record {
-      weight = subst (λ u. weight_of u (count_of (sources_at past (newest past))) ≤ limits.weight) (sym (units-newest past))
-          (subst (λ s. weight_of content.units (count_of s) ≤ limits.weight) (sym (sources-newest past)) light);
+      weight = subst (λ u. weight_of limits u (sources_at past (newest past)) ≤ limits.weight) (sym (units-newest past))
+          (subst (λ s. weight_of limits content.units s ≤ limits.weight) (sym (sources-newest past)) light);
       count = subst (λ s. count_of s ≤ limits.sources) (sym (sources-newest past)) count;
       sources = subst (λ (s : Sources). are_sources (newest past) s.entries ≡ true) (sym (sources-newest past)) (sources-later revision (newest past) sources.entries (omega arith) are);
     } in
@@ -332,13 +352,13 @@ adopted-past limits content revision sources some bound count are light =
 
 -- one that may be adopted is light
 pub adopted-light : (state : State) (name : List ℕ) (content : Content) (revision : ℕ) (sources : Sources) → adopts state name content revision sources ≡ true
-    → weight_of content.units (count_of sources) ≤ state.limits.weight
+    → weight_of state.limits content.units sources ≤ state.limits.weight
 adopted-light state name content revision sources h = leb-true _ _ (and_parts _ _ h).1
 
 pub adopting_keeps : AdoptingKeeps
 adopting_keeps state name content revision sources is h =
     let light = and_parts (nat_lt (length state.documents) state.limits.docs && is_none (find name 0 state.documents) && nat_le 1 revision && nat_le revision last_of_all
-    && nat_le (count_of sources) state.limits.sources && are_sources revision sources.entries) (nat_le (weight_of content.units (count_of sources)) state.limits.weight) h in
+    && nat_le (count_of sources) state.limits.sources && are_sources revision sources.entries) (nat_le (weight_of state.limits content.units sources) state.limits.weight) h in
     let parts = six (nat_lt (length state.documents) state.limits.docs) (is_none (find name 0 state.documents)) (nat_le 1 revision) (nat_le revision last_of_all)
     (nat_le (count_of sources) state.limits.sources) (are_sources revision sources.entries) light.0 in
     let new : DocumentRecord = record_at name content revision sources in

@@ -8,7 +8,7 @@ use Rattle.delta.specs.Gaps.{counted, apply}
 use Rattle.compose.specs.Many.{applied}
 use Rattle.revision.specs.declared.kept_document.Kept.{Kept}
 use Rattle.revision.specs.Past.{IsKept, AreKept, sources_after, Change}
-use Rattle.revision.specs.Sources.{Sources, with_last}
+use Rattle.revision.specs.Sources.{Sources, with_taken}
 
 -- the first deltas, and then those after them
 pub applied-parts : (n m k : ℕ) (units : List Element) (deltas : List (List Operation)) → k ≡ n + m → applied (applied units (take n deltas)) (take m (drop n deltas)) ≡ applied units (take k deltas)
@@ -23,7 +23,7 @@ pub sources-parts : (n start end : ℕ) (sources : Sources) (changes : List Chan
 sources-parts zero start end sources changes e within = ap (λ i. sources_after i sources changes) (let same : end ≡ start = omega (arith, e) in same)
 sources-parts (suc n) start end sources [] e within = absurd (omega (arith, within))
 sources-parts (suc n) start end sources (c ∷ changes) e within =
-    sources-parts n (start + 1) end (with_last c.source c.number (start + 1) sources) changes (omega (arith, e)) (omega (arith, within))
+    sources-parts n (start + 1) end (with_taken c.source c.number (start + 1) sources) changes (omega (arith, e)) (omega (arith, within))
 
 -- one of them, those after some, and one more
 pub kept-at : (start count : ℕ) (units : List Element) (deltas : List (List Operation)) (kept : List Kept) (i : ℕ) (k : Kept) → AreKept start count units deltas kept

@@ -4,7 +4,7 @@ use Rattle.std.proofs.lemmas.List.{drop-take, drop-drop, take-take, length-drop,
 use Rattle.delta.specs.Element.{Element}
 use Rattle.delta.specs.Operation.{Operation}
 use Rattle.compose.specs.Many.{applied}
-use Rattle.revision.specs.Sources.{Sources, with_last}
+use Rattle.revision.specs.Sources.{Sources, with_taken}
 use Rattle.revision.specs.declared.taker.Taker.{Taker}
 use Rattle.revision.specs.Past.{Parts, AreParts, Past, Change, deltas_of, sources_at, sources_after, changes_by, whole_past, from_floor, seen}
 use Rattle.revision.proofs.Replays.{stand-drop}
@@ -39,10 +39,10 @@ changes-here (suc i) (u ∷ takers) (e ∷ deltas) taker delta same there t d =
 pub sources-here : (start i : ℕ) (sources : Sources) (takers : List Taker) (deltas : List (List Operation)) (taker : Taker) (delta : List Operation)
     → length takers ≡ length deltas → i < length deltas → taker ≡ get_or takers i taker → delta ≡ get_or deltas i delta
     → sources_after (start + i) sources (drop i (changes_by takers deltas))
-    ≡ sources_after (start + i + 1) (with_last taker.source taker.number (start + i + 1) sources) (drop (i + 1) (changes_by takers deltas))
+    ≡ sources_after (start + i + 1) (with_taken taker.source taker.number (start + i + 1) sources) (drop (i + 1) (changes_by takers deltas))
 sources-here start i sources takers deltas taker delta same there t d =
     ap (sources_after (start + i) sources) (changes-here i takers deltas taker delta same there t d)
-    ∙ ap (λ n. sources_after (start + i + 1) (with_last taker.source taker.number (start + i + 1) sources) (drop n (changes_by takers deltas))) (sym (add-one i))
+    ∙ ap (λ n. sources_after (start + i + 1) (with_taken taker.source taker.number (start + i + 1) sources) (drop n (changes_by takers deltas))) (sym (add-one i))
 
 -- the parts once the first changes are let go of
 abbrev pub later_parts : Parts → ℕ → Sources → ℕ → Parts

@@ -1,6 +1,7 @@
 mod Floors
 mod Parts
 mod Halves
+mod Weights
 mod ChangedAt
 mod Untouched
 mod Indexed
@@ -15,6 +16,8 @@ mod Beginnings
 mod LettingGo
 mod NewNames
 mod Raising
+pub mod Windows
+mod Cutting
 pub mod Sums
 pub mod Texts
 pub mod Taking

@@ -71,10 +71,10 @@ same_test x y m there back = by_tests (nat_le x m) (nat_le y m) refl refl where
       absurd (grind (arith, nat_tests))
 
 -- the sum as the program makes it is as large as the weight, as far as the limit goes
-pub light_sum : (weight count most sum w n beside : ℕ) → most < 2 ^ 32 → w ≡ min weight (2 ^ 64 - 1) → n ≡ min count (2 ^ 64 - 1)
-    → beside ≡ min (n * 64) (2 ^ 64 - 1) → sum ≡ min (w + beside) (2 ^ 64 - 1) → nat_le sum most ≡ nat_le (weight + 64 * count) most
-light_sum weight count most sum w n beside bound w_is n_is beside_is sum_is =
-    same_test sum (weight + 64 * count) most (λ le. omega arith) (λ le. omega arith)
+pub light_sum : (weight sources most sum w beside : ℕ) → most < 2 ^ 32 → w ≡ min weight (2 ^ 64 - 1) → beside ≡ min sources (2 ^ 64 - 1)
+    → sum ≡ min (w + beside) (2 ^ 64 - 1) → nat_le sum most ≡ nat_le (weight + sources) most
+light_sum weight sources most sum w beside bound w_is beside_is sum_is =
+    same_test sum (weight + sources) most (λ le. omega arith) (λ le. omega arith)
 
 pub kept_is : (far cut light : Bool) (other : Bool) → far ≡ false → cut ≡ false → light ≡ other → light ≡ (not far && not cut && other)
 kept_is far cut light other f c same = rw (f, c) same

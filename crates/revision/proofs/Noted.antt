@@ -1,48 +1,31 @@
 -- Sources after one of them was noted or dropped.
-use Rattle.std.proofs.Common.{◌≡◌, ℕ, zero, suc, ◌+◌, Bool, true, false, cond, List, [], ◌∷◌, length, drop, Option, Some, None, Result, Ok, Err, ◌++◌, refl, sym, ap, ◌∙◌}
+use Rattle.std.proofs.Common.{◌≡◌, ℕ, zero, suc, Bool, true, false, cond, List, [], ◌∷◌, drop, Option, Some, None, Result, Ok, Err, ◌++◌, refl, sym, ap, ◌∙◌}
 use Rattle.std.specs.Prelude.{◌||◌, is_some}
 use Rattle.std.specs.Result.{OnOk, OnErr}
 use Rattle.std.specs.Cmp.{eq_by_cmp_equiv}
 use Rattle.std.specs.Cmp.Lexicographic.{nat_list_cmp_total}
-use Rattle.std.specs.FinMap.Entries.{length-put}
-use Rattle.attributes.specs.Map.{by_bytes, get, insert}
+use Rattle.attributes.specs.Map.{get, insert}
 use Rattle.attributes.specs.Table.{is_name}
-use Rattle.attributes.proofs.CallerLemmas.{same_name_from, same_map, get-insert, get-remove, entries-insert}
-use Rattle.revision.specs.Sources.{Sources, LastTaken, count_of, with_last, with_entry, is_among, EqualBut}
+use Rattle.attributes.proofs.CallerLemmas.{same_name_from, same_map, get-insert, get-remove}
+use Rattle.revision.specs.Window.{Window}
+use Rattle.revision.specs.Sources.{Sources, with_entry, is_among, EqualBut}
 
--- how many there are once one was noted
-pub count-noted : (source : List ℕ) (number revision : ℕ) (sources : Sources)
-    → count_of (with_last source number revision sources) ≡ cond (is_some (get sources source)) (count_of sources) (count_of sources + 1)
-count-noted source number revision sources =
-    let last : LastTaken = record { number = number; revision = revision } in
-    ap length (entries-insert sources source last) ∙ length-put by_bytes nat_list_cmp_total source last sources.entries sources.ascending
-
-pub count-there : (source : List ℕ) (number revision : ℕ) (sources : Sources) (last : LastTaken) → get sources source ≡ Some last
-    → count_of (with_last source number revision sources) ≡ count_of sources
-count-there source number revision sources last is =
-    count-noted source number revision sources ∙ ap (λ found. cond (is_some found) (count_of sources) (count_of sources + 1)) is
-
-pub count-new : (source : List ℕ) (number revision : ℕ) (sources : Sources) → get sources source ≡ None
-    → count_of (with_last source number revision sources) ≡ count_of sources + 1
-count-new source number revision sources is =
-    count-noted source number revision sources ∙ ap (λ found. cond (is_some found) (count_of sources) (count_of sources + 1)) is
-
-chosen_twice : (b : Bool) (x y : Option LastTaken) (z : Option LastTaken) → cond b y (cond b x z) ≡ cond b y z
+chosen_twice : (b : Bool) (x y : Option Window) (z : Option Window) → cond b y (cond b x z) ≡ cond b y z
 chosen_twice true x y z = refl
 chosen_twice false x y z = refl
 
 -- one that is noted twice
-pub noted-twice : (source : List ℕ) (first second : LastTaken) (sources : Sources) → insert (insert sources source first) source second ≡ insert sources source second
+pub noted-twice : (source : List ℕ) (first second : Window) (sources : Sources) → insert (insert sources source first) source second ≡ insert sources source second
 noted-twice source first second sources =
     same_map _ _ (λ name. get-insert (insert sources source first) source second name
     ∙ (ap (cond (is_name name source) (Some second)) (get-insert sources source first name)
     ∙ (chosen_twice (is_name name source) (Some first) (Some second) (get sources name) ∙ sym (get-insert sources source second name))))
 
 -- what stands at a name once one was given or taken away
-get-entry : (source : List ℕ) (entry : Option LastTaken) (sources : Sources) (name : List ℕ)
+get-entry : (source : List ℕ) (entry : Option Window) (sources : Sources) (name : List ℕ)
     → get (with_entry source entry sources) name ≡ cond (is_name name source) entry (get sources name)
 get-entry source None sources name = get-remove sources source name
-get-entry source (Some last) sources name = get-insert sources source last name
+get-entry source (Some window) sources name = get-insert sources source window name
 
 same_here : (b : Bool) (one other : Sources) (first name : List ℕ) → is_name name first ≡ b → (b ≡ false → get one name ≡ get other name)
     → get one name ≡ cond b (get one first) (get other name)
@@ -54,17 +37,17 @@ neither false b p q = q
 neither true b p q = cc
 
 -- one that was noted is there, and is as it was once it's given what it had
-pub there-noted : (source : List ℕ) (last : LastTaken) (sources after : Sources) → after ≡ insert sources source last → is_some (get after source) ≡ true
-there-noted source last sources after is =
+pub there-noted : (source : List ℕ) (window : Window) (sources after : Sources) → after ≡ insert sources source window → is_some (get after source) ≡ true
+there-noted source window sources after is =
     ap (λ (m : Sources). is_some (get m source)) is
-    ∙ ap is_some (get-insert sources source last source ∙ ap (λ b. cond b (Some last) (get sources source)) ((eq_by_cmp_equiv nat_list_cmp_total).refl source))
+    ∙ ap is_some (get-insert sources source window source ∙ ap (λ b. cond b (Some window) (get sources source)) ((eq_by_cmp_equiv nat_list_cmp_total).refl source))
 
-pub put-back : (source : List ℕ) (last : LastTaken) (sources after : Sources) → after ≡ insert sources source last → with_entry source (get sources source) after ≡ sources
-put-back source last sources after is =
+pub put-back : (source : List ℕ) (window : Window) (sources after : Sources) → after ≡ insert sources source window → with_entry source (get sources source) after ≡ sources
+put-back source window sources after is =
     same_map _ _ (λ name. get-entry source (get sources source) after name
     ∙ (ap (λ (m : Sources). cond (is_name name source) (get sources source) (get m name)) is
-    ∙ (ap (cond (is_name name source) (get sources source)) (get-insert sources source last name)
-    ∙ (chosen_twice (is_name name source) (Some last) (get sources source) (get sources name)
+    ∙ (ap (cond (is_name name source) (get sources source)) (get-insert sources source window name)
+    ∙ (chosen_twice (is_name name source) (Some window) (get sources source) (get sources name)
     ∙ sym (same_here (is_name name source) sources sources source name refl (λ differs. refl))))))
 
 -- one of them made equal
@@ -131,13 +114,13 @@ but-there source names one other but differ name absent = (
 )
 
 -- the same but for those once one of them was noted or wasn't
-pub but-once_noted : {V E : Type 0} (source : List ℕ) (last : LastTaken) (names : List (List ℕ)) (one other after : Sources) (done : Result V E)
-    → OnOk done (after ≡ insert other source last) → OnErr done (after ≡ other)
+pub but-once_noted : {V E : Type 0} (source : List ℕ) (window : Window) (names : List (List ℕ)) (one other after : Sources) (done : Result V E)
+    → OnOk done (after ≡ insert other source window) → OnErr done (after ≡ other)
     → ((name : List ℕ) → is_among name names ≡ false → (is_among name (source ∷ []) ≡ false) × (get one name ≡ get other name)) → EqualBut names one after
-but-once_noted source last names one other after (Ok _) taken left but = λ name absent.
+but-once_noted source window names one other after (Ok _) taken left but = λ name absent.
     let parts = but name absent in
     parts.1
-    ∙ (sym (ap (λ b. cond b (Some last) (get other name)) (first_of_both (is_name name source) false parts.0))
-    ∙ (sym (get-insert other source last name) ∙ ap (λ (m : Sources). get m name) (sym taken)))
-but-once_noted source last names one other after (Err _) taken left but = λ name absent.
+    ∙ (sym (ap (λ b. cond b (Some window) (get other name)) (first_of_both (is_name name source) false parts.0))
+    ∙ (sym (get-insert other source window name) ∙ ap (λ (m : Sources). get m name) (sym taken)))
+but-once_noted source window names one other after (Err _) taken left but = λ name absent.
     (but name absent).1 ∙ ap (λ (m : Sources). get m name) (sym left)

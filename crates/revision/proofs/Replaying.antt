@@ -6,7 +6,7 @@ use Rattle.delta.specs.Operation.{Operation, base_of}
 use Rattle.delta.specs.Gaps.{counted, apply}
 use Rattle.delta.proofs.CallerLemmas.{units_below-counted}
 use Rattle.compose.specs.Many.{applied}
-use Rattle.revision.specs.Sources.{Sources, with_last}
+use Rattle.revision.specs.Sources.{Sources, with_taken}
 use Rattle.revision.specs.declared.taker.Taker.{Taker}
 use Rattle.revision.specs.Past.{Past, Prepared, Parts, AreParts, StandInTurn, newest, content_at, sources_at, sources_after, changes_by, whole_past, seen}
 use Rattle.revision.proofs.Floors.{from-from}
@@ -23,7 +23,7 @@ at_itself (suc i) (delta ∷ deltas) there = at_itself i deltas (omega (arith, t
 -- the sources after the change at a place, and after those that come after it
 pub noted-here : (start i : ℕ) (sources : Sources) (takers : List Taker) (deltas : List (List Operation)) (taker : Taker) → length takers ≡ length deltas
     → i < length takers → taker ≡ get_or takers i taker
-    → sources_after (start + i + 1) (with_last taker.source taker.number (start + i + 1) sources) (drop (i + 1) (changes_by takers deltas))
+    → sources_after (start + i + 1) (with_taken taker.source taker.number (start + i + 1) sources) (drop (i + 1) (changes_by takers deltas))
     ≡ sources_after (start + i) sources (drop i (changes_by takers deltas))
 noted-here start i sources takers deltas taker same there is =
     let within : i < length deltas = omega (arith, same, there) in

@@ -8,11 +8,12 @@ use Rattle.delta.specs.Element.{Element}
 use Rattle.delta.specs.Operation.{Operation}
 use Rattle.revision.specs.Command.{Taken, width_of, Action, Create, Edit, Undo, Command}
 use Rattle.revision.specs.State.{reaches_past, Limits, DocumentRecord, State, find, revision_of, units_of, sources_of, last_of_all, weight_after, has_place, keeps, follows, continues, grows}
-use Rattle.revision.specs.Sources.{LastTaken, Sources, last_of}
+use Rattle.revision.specs.Window.{Window, revision_in, last_revision}
+use Rattle.revision.specs.Sources.{Sources, window_of}
 use Rattle.revision.specs.Parting.{parts_pair}
 use Rattle.revision.specs.Late.{late}
 use Rattle.revision.specs.Past.{undo_of, deltas_of, deltas_above}
-use Rattle.revision.specs.Acceptance.{Answer, Takes, Repeats, Refuses, take_on, creation, create_new, next_revision, change, edit, undo, by_number, answer_to, TakenGrows}
+use Rattle.revision.specs.Acceptance.{Answer, Takes, Repeats, Refuses, take_on, creation, create_new, next_revision, change, edit, undo, by_retry, create_existing, by_number, answer_to, TakenGrows}
 
 -- where a test answers otherwise, what is taken is not stopped by it
 passed : (b : Bool) (other next : Answer) (taken : Taken) → (other ≡ Takes taken → ⊥) → cond b other next ≡ Takes taken → (b ≡ false) × (next ≡ Takes taken)
@@ -35,7 +36,7 @@ taken_kept : (limits : Limits) (units : List Element) (sources : Sources) (asked
 taken_kept limits units sources asked taken h =
     let past = passed (reaches_past asked.delta units) (Refuses PastEnd) _ taken (λ e. cc) h in
     let cut = passed (parts_pair asked.delta units) (Refuses CutsPair) _ taken (λ e. cc) past.1 in
-    let heavy = passed (nat_lt limits.weight (weight_after units sources asked)) (Refuses TooHeavy) _ taken (λ e. cc) cut.1 in
+    let heavy = passed (nat_lt limits.weight (weight_after limits units sources asked)) (Refuses TooHeavy) _ taken (λ e. cc) cut.1 in
     let wide = passed (nat_lt limits.width (width_of asked)) (Refuses TooWide) _ taken (λ e. cc) heavy.1 in
     record { same = cc; kept = all_four _ _ _ _ _ _ past.0 cut.0 heavy.0 wide.0 }
 
@@ -65,9 +66,9 @@ new_grows state command delta taken fresh h =
     let one : grows state asked ≡ true = both_hold _ _ (has_room_holds _ _ (find command.name 0 state.documents) fresh docs.0) begun in
     ap (grows state) (sym kept.same) ∙ one
 
-existing_takes : (b : Bool) (revision : ℕ) (taken : Taken) → cond b (Repeats revision) (Refuses Exists) ≡ Takes taken → ⊥
-existing_takes true revision taken h = cc
-existing_takes false revision taken h = cc
+existing_takes : (found : Option ℕ) (taken : Taken) → by_retry found (Refuses Exists) ≡ Takes taken → ⊥
+existing_takes None taken h = cc
+existing_takes (Some revision) taken h = cc
 
 -- the number and the record that were found
 abbrev number_of : Option (ℕ × DocumentRecord) → ℕ
@@ -102,16 +103,20 @@ found_at name documents number found h =
     rw place stands.2
 
 -- the number is the source's next one
-number_next : (last : LastTaken) (number : ℕ) (next : Answer) (taken : Taken) → 1 ≤ number → by_number last number next ≡ Takes taken
-    → (number ≡ last.number + 1) × (next ≡ Takes taken)
-number_next last number next taken some h =
-    let again = passed (nat_lt 0 last.number && (number == last.number)) (Repeats last.revision) _ taken (λ e. cc) h in
-    let old = passed (nat_lt number last.number) (Refuses OldNumber) _ taken (λ e. cc) again.1 in
-    let gap = passed (nat_lt (last.number + 1) number) (Refuses Gap) _ taken (λ e. cc) old.1 in
-    (next_of last.number number some again.0 old.0 gap.0, gap.1)
+not_again : (found : Option ℕ) (next : Answer) (taken : Taken) → by_retry found next ≡ Takes taken → next ≡ Takes taken
+not_again None next taken h = h
+not_again (Some revision) next taken h = absurd (cc)
+
+number_next : (window : Window) (number : ℕ) (next : Answer) (taken : Taken) → by_number window number next ≡ Takes taken
+    → (number ≡ window.number + 1) × (next ≡ Takes taken)
+number_next window number next taken h =
+    let new = not_again (revision_in number window) _ taken h in
+    let old = passed (nat_le number window.number) (Refuses OldNumber) _ taken (λ e. cc) new in
+    let gap = passed (nat_lt (window.number + 1) number) (Refuses Gap) _ taken (λ e. cc) old.1 in
+    (next_of window.number number old.0 gap.0, gap.1)
   where
-    next_of : (n number : ℕ) → 1 ≤ number → (nat_lt 0 n && (number == n)) ≡ false → nat_lt number n ≡ false → nat_lt (n + 1) number ≡ false → number ≡ n + 1
-    next_of n number some again old gap = grind (arith, nat_tests)
+    next_of : (n number : ℕ) → nat_le number n ≡ false → nat_lt (n + 1) number ≡ false → number ≡ n + 1
+    next_of n number old gap = grind (arith, nat_tests)
 
 follows_holds : (revision number last : ℕ) (spent place kept : Bool) → number ≡ last + 1 → number < 2 ^ 53 → spent ≡ false → place ≡ true → kept ≡ true
     → ((revision + 1 == revision + 1) && not spent && (number == last + 1) && nat_le number last_of_all && place && kept) ≡ true
@@ -126,20 +131,20 @@ holds_of true h = refl
 holds_of false h = cc
 
 module _ (state : State) (number : ℕ) (found : DocumentRecord) (command : Command) (taken : Taken)
-    (there : find command.name 0 state.documents ≡ Some (number, found)) (some : 1 ≤ command.number) (bound : command.number < 2 ^ 53) where
+    (there : find command.name 0 state.documents ≡ Some (number, found)) (bound : command.number < 2 ^ 53) where
   change_grows : (delta : List Operation) → has_place state.limits command.source (sources_of found) ≡ true
-      → command.number ≡ (last_of command.source (sources_of found)).number + 1
+      → command.number ≡ (window_of command.source (sources_of found)).number + 1
       → change state number found command delta ≡ Takes taken → grows state taken ≡ true
   change_grows delta place next h =
       let asked : Taken = next_revision number found command delta in
       let spent = passed (revision_of found == last_of_all) (Refuses RevisionsSpent) _ taken (λ e. cc) h in
       let kept = taken_kept state.limits (units_of found) (sources_of found) asked taken spent.1 in
       let one : follows state.limits found asked ≡ true =
-      follows_holds (revision_of found) command.number (last_of command.source (sources_of found)).number _ _ _ next bound spent.0 place kept.kept in
+      follows_holds (revision_of found) command.number (window_of command.source (sources_of found)).number _ _ _ next bound spent.0 place kept.kept in
       let continued : continues state.limits (slice_get state.documents number) asked ≡ true = rw (found_at command.name state.documents number found there) one in
       ap (grows state) (sym kept.same) ∙ continued
 
-  edit_grows : (base : ℕ) (delta : List Operation) → command.number ≡ (last_of command.source (sources_of found)).number + 1
+  edit_grows : (base : ℕ) (delta : List Operation) → command.number ≡ (window_of command.source (sources_of found)).number + 1
       → edit state number found command base delta ≡ Takes taken → grows state taken ≡ true
   edit_grows base delta next h =
       let full = passed (not (has_place state.limits command.source (sources_of found))) (Refuses TooManySources) _ taken (λ e. cc) h in
@@ -147,24 +152,24 @@ module _ (state : State) (number : ℕ) (found : DocumentRecord) (command : Comm
       let old = passed (nat_lt base found.past.floor) (Refuses TooOld) _ taken (λ e. cc) future.1 in
       change_grows (late delta (deltas_above found.past base)) (holds_of _ full.0) next old.1
 
-  undo_grows : command.number ≡ (last_of command.source (sources_of found)).number + 1 → undo state number found command ≡ Takes taken → grows state taken ≡ true
+  undo_grows : command.number ≡ (window_of command.source (sources_of found)).number + 1 → undo state number found command ≡ Takes taken → grows state taken ≡ true
   undo_grows next h =
-      let last : LastTaken = last_of command.source (sources_of found) in
-      let none = passed (last.number == 0) (Refuses NothingToUndo) _ taken (λ e. cc) h in
-      let old = passed (nat_le last.revision found.past.floor) (Refuses TooOld) _ taken (λ e. cc) none.1 in
-      change_grows (undo_of found.past.floor found.past.content.units (deltas_of found.past) last.revision)
-      (place_of (last.number == 0) _ none.0) next old.1
+      let window : Window = window_of command.source (sources_of found) in
+      let none = passed (window.number == 0) (Refuses NothingToUndo) _ taken (λ e. cc) h in
+      let old = passed (nat_le (last_revision window) found.past.floor) (Refuses TooOld) _ taken (λ e. cc) none.1 in
+      change_grows (undo_of found.past.floor found.past.content.units (deltas_of found.past) (last_revision window))
+      (place_of (window.number == 0) _ none.0) next old.1
     where
       place_of : (fresh room : Bool) → fresh ≡ false → (not fresh || room) ≡ true
       place_of fresh room is = rw is refl
 
   found_grows : (action : Action) → answer_to state command action (Some (number, found)) ≡ Takes taken → grows state taken ≡ true
-  found_grows (Create delta) h = absurd (existing_takes _ _ taken h)
+  found_grows (Create delta) h = absurd (existing_takes _ taken h)
   found_grows (Edit base delta) h =
-      let next = number_next (last_of command.source (sources_of found)) command.number (edit state number found command base delta) taken some h in
+      let next = number_next (window_of command.source (sources_of found)) command.number (edit state number found command base delta) taken h in
       edit_grows base delta next.0 next.1
   found_grows Undo h =
-      let next = number_next (last_of command.source (sources_of found)) command.number (undo state number found command) taken some h in
+      let next = number_next (window_of command.source (sources_of found)) command.number (undo state number found command) taken h in
       undo_grows next.0 next.1
 
 fresh_grows : (state : State) (command : Command) (taken : Taken) (action : Action) → find command.name 0 state.documents ≡ None
@@ -179,4 +184,4 @@ taken_grows state command taken some bound h = by_found (find command.name 0 sta
     by_found : (there : Option (ℕ × DocumentRecord)) → find command.name 0 state.documents ≡ there
         → answer_to state command command.action there ≡ Takes taken → grows state taken ≡ true
     by_found None is h = fresh_grows state command taken command.action is h
-    by_found (Some found) is h = found_grows state found.0 found.1 command taken is some bound command.action h
+    by_found (Some found) is h = found_grows state found.0 found.1 command taken is bound command.action h

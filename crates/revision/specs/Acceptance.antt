@@ -6,7 +6,8 @@ use Rattle.attributes.specs.Map.{empty}
 use Rattle.delta.specs.Element.{Element}
 use Rattle.delta.specs.Operation.{Operation}
 use Rattle.revision.specs.Command.{Action, Create, Edit, Undo, Command, Taken, width_of}
-use Rattle.revision.specs.Sources.{LastTaken, Sources, last_of}
+use Rattle.revision.specs.Window.{Window, revision_in, last_revision}
+use Rattle.revision.specs.Sources.{Sources, window_of}
 use Rattle.revision.specs.Parting.{parts_pair}
 use Rattle.revision.specs.Late.{late}
 use Rattle.revision.specs.Past.{undo_of, deltas_of, deltas_above}
@@ -25,15 +26,18 @@ abbrev pub take_on : Limits → List Element → Sources → Taken → Answer
 take_on limits units sources taken =
     if reaches_past taken.delta units then Refuses PastEnd
     else if parts_pair taken.delta units then Refuses CutsPair
-    else if nat_lt limits.weight (weight_after units sources taken) then Refuses TooHeavy
+    else if nat_lt limits.weight (weight_after limits units sources taken) then Refuses TooHeavy
     else if nat_lt limits.width (width_of taken) then Refuses TooWide
     else Takes taken
 
--- a creation of a document that is there: the source's last number sent again, or one document too many of that name
+-- where a number made a revision it is a retry, else what comes next decides
+abbrev pub by_retry : Option ℕ → Answer → Answer
+by_retry None next = next
+by_retry (Some revision) next = Repeats revision
+
+-- a creation of a document that is there: one of the source's last numbers sent again, or one document too many of that name
 abbrev pub create_existing : DocumentRecord → Command → Answer
-create_existing found command =
-    let last = last_of command.source (sources_of found) in
-    if nat_lt 0 last.number && (command.number == last.number) then Repeats last.revision else Refuses Exists
+create_existing found command = by_retry (revision_in command.number (window_of command.source (sources_of found))) (Refuses Exists)
 
 -- what is added where a document is created
 abbrev pub creation : State → Command → List Operation → Taken
@@ -79,18 +83,18 @@ edit state number found command base delta =
 -- an undo of the source's last change, whose revision has to be held with the one before it
 abbrev pub undo : State → ℕ → DocumentRecord → Command → Answer
 undo state number found command =
-    let last = last_of command.source (sources_of found) in
-    if last.number == 0 then Refuses NothingToUndo
-    else if nat_le last.revision found.past.floor then Refuses TooOld
-    else change state number found command (undo_of found.past.floor found.past.content.units (deltas_of found.past) last.revision)
+    let window = window_of command.source (sources_of found) in
+    if window.number == 0 then Refuses NothingToUndo
+    else if nat_le (last_revision window) found.past.floor then Refuses TooOld
+    else change state number found command (undo_of found.past.floor found.past.content.units (deltas_of found.past) (last_revision window))
 
 -- the number alone decides whether a command is a retry, and whether it is the source's next one
-abbrev pub by_number : LastTaken → ℕ → Answer → Answer
-by_number last number next =
-    if nat_lt 0 last.number && (number == last.number) then Repeats last.revision
-    else if nat_lt number last.number then Refuses OldNumber
-    else if nat_lt (last.number + 1) number then Refuses Gap
-    else next
+abbrev pub by_number : Window → ℕ → Answer → Answer
+by_number window number next =
+    by_retry (revision_in number window)
+    (if nat_le number window.number then Refuses OldNumber
+    else if nat_lt (window.number + 1) number then Refuses Gap
+    else next)
 
 -- the first case that holds
 abbrev pub answer_to : State → Command → Action → Option (ℕ × DocumentRecord) → Answer
@@ -98,10 +102,10 @@ answer_to state command (Create delta) None = create_new state command delta
 answer_to state command (Create delta) (Some found) = create_existing found.1 command
 answer_to state command (Edit base delta) None = Refuses NoDocument
 answer_to state command (Edit base delta) (Some found) =
-    by_number (last_of command.source (sources_of found.1)) command.number (edit state found.0 found.1 command base delta)
+    by_number (window_of command.source (sources_of found.1)) command.number (edit state found.0 found.1 command base delta)
 answer_to state command Undo None = Refuses NoDocument
 answer_to state command Undo (Some found) =
-    by_number (last_of command.source (sources_of found.1)) command.number (undo state found.0 found.1 command)
+    by_number (window_of command.source (sources_of found.1)) command.number (undo state found.0 found.1 command)
 
 -- the answer to a command
 abbrev pub answer : State → Command → Answer

@@ -8,7 +8,8 @@ use Rattle.attributes.specs.Attributes.{Changes, changed_by, reverted_by}
 use Rattle.attributes.specs.Scalar.{flag_scalar}
 use Rattle.delta.specs.Element.{Element, letters}
 use Rattle.delta.specs.Operation.{Operation, insert_text, retain, delete}
-use Rattle.revision.specs.Sources.{Sources, with_last}
+use Rattle.revision.specs.Window.{Window}
+use Rattle.revision.specs.Sources.{Sources}
 use Rattle.revision.specs.Past.{Content}
 use Rattle.revision.specs.Command.{Action, Create, Edit, Undo, Command}
 use Rattle.revision.specs.State.{DocumentRecord, State, adopts, adopted}
@@ -26,11 +27,11 @@ text us = letters us empty
 
 -- an empty store whose slots and cells have 256 bytes
 abbrev small : State
-small = record { limits = record { docs = 2; sources = 4; weight = 128; width = 237; keep = 2 }; documents = [] }
+small = record { limits = record { docs = 2; sources = 4; weight = 128; width = 237; keep = 2; retry = 8 }; documents = [] }
 
 -- one of which the documents may be heavier
 abbrev roomy : State
-roomy = record { limits = record { docs = 2; sources = 4; weight = 1000; width = 237; keep = 2 }; documents = [] }
+roomy = record { limits = record { docs = 2; sources = 4; weight = 1000; width = 237; keep = 2; retry = 8 }; documents = [] }
 
 -- a source's command to the document "d", by the letter of its name
 abbrev ask : ℕ → ℕ → Action → Command
@@ -111,13 +112,41 @@ second_again : reply_after small edited (ask ann 2 (Edit 1 [])) ≡ AgainAt 2
 unfolding insert
 second_again = refl
 
-first_is_old : reply_after small edited (ask ann 1 (Edit 1 [])) ≡ Refused OldNumber
+first_again : reply_after small edited (ask ann 1 (Edit 1 [])) ≡ AgainAt 1
 unfolding insert
-first_is_old = refl
+first_again = refl
 
 fourth_leaves_a_gap : reply_after small edited (ask ann 4 (Edit 1 [])) ≡ Refused Gap
 unfolding insert
 fourth_leaves_a_gap = refl
+
+-- a document at revision 17 with a source that has taken 17 numbers, so its window has the last 16
+abbrev last_sixteen : List ℕ
+last_sixteen = 2 ∷ 3 ∷ 4 ∷ 5 ∷ 6 ∷ 7 ∷ 8 ∷ 9 ∷ 10 ∷ 11 ∷ 12 ∷ 13 ∷ 14 ∷ 15 ∷ 16 ∷ 17 ∷ []
+
+abbrev after_17 : State
+after_17 = adopted roomy (100 ∷ []) (record { units = [] }) 17 (insert empty (ann ∷ []) (record { number = 17; revisions = last_sixteen }))
+
+-- the second number is the lowest of the window; after 18 numbers it is too old
+second_of_17 : reply_after after_17 [] (ask ann 2 (Edit 1 [])) ≡ AgainAt 2
+unfolding insert
+second_of_17 = refl
+
+first_of_17 : reply_after after_17 [] (ask ann 1 (Edit 1 [])) ≡ Refused OldNumber
+unfolding insert
+first_of_17 = refl
+
+creation_after_17 : reply_after after_17 [] (ask ann 1 (Create [])) ≡ Refused Exists
+unfolding insert
+creation_after_17 = refl
+
+second_of_18 : reply_after after_17 (ask ann 18 (Edit 17 []) ∷ []) (ask ann 2 (Edit 1 [])) ≡ Refused OldNumber
+unfolding insert
+second_of_18 = refl
+
+third_of_18 : reply_after after_17 (ask ann 18 (Edit 17 []) ∷ []) (ask ann 3 (Edit 1 [])) ≡ AgainAt 3
+unfolding insert
+third_of_18 = refl
 
 -- keep 2, revision 4, floor 2: base 5 is yet to come, base 1 is too old, base 2 is taken as 5 and the floor becomes 3
 abbrev four : List Command
@@ -138,11 +167,11 @@ base_too_old : reply_after small four (ask bob 1 (Edit 1 [])) ≡ Refused TooOld
 unfolding insert
 base_too_old = refl
 
-base_is_held : reply_after small four (ask bob 1 (Edit 2 [])) ≡ TakenAt 5
+base_is_held : reply_after roomy four (ask bob 1 (Edit 2 [])) ≡ TakenAt 5
 unfolding insert
 base_is_held = refl
 
-floor_of_five : floors (after_all small (four ++ ask bob 1 (Edit 2 []) ∷ [])) ≡ 3 ∷ []
+floor_of_five : floors (after_all roomy (four ++ ask bob 1 (Edit 2 []) ∷ [])) ≡ 3 ∷ []
 unfolding insert
 floor_of_five = refl
 
@@ -154,6 +183,11 @@ five_letters = refl
 six_letters : reply_after small [] (ask ann 1 (Create (ins (codes "abcdef") ∷ []))) ≡ Refused TooHeavy
 unfolding utf16_chars encode_utf8 insert
 six_letters = refl
+
+-- a second number weighs 8 more, so an edit that does nothing is too heavy behind the five letters
+five_letters_and_no_more : reply_after small (ask ann 1 (Create (ins (codes "abcde") ∷ [])) ∷ []) (ask ann 2 (Edit 1 [])) ≡ Refused TooHeavy
+unfolding utf16_chars encode_utf8 insert
+five_letters_and_no_more = refl
 
 -- ann creates "ab" (1), and edits [ret 1, del 1] (2); bob edits [ins "q"] of base 2 (3); ann's undo 3 gives "qab" (4), her
 -- undo 4 gives "qa" (5); carl has nothing to undo
@@ -216,15 +250,18 @@ revision_to_come : document_at (after_all small four) (100 ∷ []) 5 ≡ Err Fut
 unfolding insert
 revision_to_come = refl
 
+abbrev window_of_one : ℕ → ℕ → Window
+window_of_one number revision = record { number = number; revisions = revision ∷ [] }
+
 -- a document with two sources is added at revision 7, without its past
 abbrev sevens : Sources
-sevens = with_last (ann ∷ []) 3 7 (with_last (bob ∷ []) 1 2 empty)
+sevens = insert (insert empty (bob ∷ []) (window_of_one 1 2)) (ann ∷ []) (window_of_one 3 7)
 
 abbrev no_units : Content
 no_units = record { units = [] }
 
 abbrev after_adoption : State
-after_adoption = adopted small (100 ∷ []) no_units 7 sevens
+after_adoption = adopted roomy (100 ∷ []) no_units 7 sevens
 
 is_adopted : adopts small (100 ∷ []) no_units 7 sevens ≡ true
 unfolding insert

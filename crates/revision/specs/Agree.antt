@@ -4,7 +4,8 @@
 use Rattle.std.specs.Prelude.{◌≡◌, ◌⊎◌, ◌≤◌, ◌<◌, ℕ, max, List, Option, Some, None, slice_get}
 use Rattle.refusal.specs.declared.Refusal.TheVariants.{TooOld}
 use Rattle.revision.specs.Command.{Taken, Action, Create, Edit, Undo, Command}
-use Rattle.revision.specs.Sources.{last_of}
+use Rattle.revision.specs.Window.{last_revision}
+use Rattle.revision.specs.Sources.{window_of}
 use Rattle.revision.specs.Past.{from_floor}
 use Rattle.revision.specs.State.{Limits, DocumentRecord, State, revision_of, content_of, sources_of, find, all_grow, fold, all_continue, record_after_all}
 use Rattle.revision.specs.Acceptance.{answer, Refuses}
@@ -71,7 +72,7 @@ abbrev pub StandsOnHeld : List ℕ → Action → DocumentRecord → DocumentRec
 StandsOnHeld source (Create delta) a b = Unit {0}
 StandsOnHeld source (Edit base delta) a b = (a.past.floor ≤ base) × (b.past.floor ≤ base)
 StandsOnHeld source Undo a b =
-    (a.past.floor < (last_of source (sources_of a)).revision) × (b.past.floor < (last_of source (sources_of b)).revision)
+    (a.past.floor < last_revision (window_of source (sources_of a))) × (b.past.floor < last_revision (window_of source (sources_of b)))
 
 -- They answer all commands alike that stand on what both hold.
 abbrev pub AgreeingAnswerHeld : Type 0

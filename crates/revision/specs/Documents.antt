@@ -15,9 +15,9 @@ unprepared state = record { before = state; after = state }
 
 abbrev pub limits_code : Coded Limits
 limits_code =
-    code_by (ℕ × (ℕ × (ℕ × (ℕ × ℕ)))) (coded× coded_ℕ (coded× coded_ℕ (coded× coded_ℕ (coded× coded_ℕ coded_ℕ))))
-    (λ l. (l.docs, (l.sources, (l.weight, (l.width, l.keep)))))
-    (λ p. record { docs = p.0; sources = p.1.0; weight = p.1.1.0; width = p.1.1.1.0; keep = p.1.1.1.1 }) (λ _. refl)
+    code_by (ℕ × (ℕ × (ℕ × (ℕ × (ℕ × ℕ))))) (coded× coded_ℕ (coded× coded_ℕ (coded× coded_ℕ (coded× coded_ℕ (coded× coded_ℕ coded_ℕ)))))
+    (λ l. (l.docs, (l.sources, (l.weight, (l.width, (l.keep, l.retry))))))
+    (λ p. record { docs = p.0; sources = p.1.0; weight = p.1.1.0; width = p.1.1.1.0; keep = p.1.1.1.1.0; retry = p.1.1.1.1.1 }) (λ _. refl)
 
 abbrev pub document_code : Coded DocumentRecord
 document_code =

@@ -1,7 +1,7 @@
 -- A past from higher floors on, and with changes more: what comes of one in whichever order.
 use Rattle.std.specs.Prelude.{◌≡◌, ℕ, ◌+◌, ◌≤◌, max, min, List, [], ◌∷◌, ◌++◌}
 use Rattle.delta.specs.Gaps.{counted, apply}
-use Rattle.revision.specs.Sources.{with_last}
+use Rattle.revision.specs.Sources.{with_taken}
 use Rattle.revision.specs.State.{DocumentRecord}
 use Rattle.revision.specs.Past.{Change, Past, newest, content_at, sources_at, from_floor, with_change}
 
@@ -41,4 +41,4 @@ abbrev pub ChangeMakes : Type 0
 ChangeMakes = (keep : ℕ) (past : Past) (change : Change) → (newest (with_change keep past change) ≡ newest past + 1)
     × ((content_at (with_change keep past change) (newest past + 1)).units ≡ apply (content_at past (newest past)).units (counted change.delta))
     × (sources_at (with_change keep past change) (newest past + 1)
-    ≡ with_last change.source change.number (newest past + 1) (sources_at past (newest past)))
+    ≡ with_taken change.source change.number (newest past + 1) (sources_at past (newest past)))

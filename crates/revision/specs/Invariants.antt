@@ -15,10 +15,11 @@ pub record IsLimits (limits : Limits) : Type 0 where
   pub width : limits.width < 2 ^ 32
   pub some_revision : 1 ≤ limits.keep
   pub keep : limits.keep ≤ 65536
+  pub retry : limits.retry ≤ 8
 
 -- what a past keeps at a revision that it holds
 pub record KeepsAt (limits : Limits) (past : Past) (revision : ℕ) : Type 0 where
-  pub weight : weight_of (content_at past revision).units (count_of (sources_at past revision)) ≤ limits.weight
+  pub weight : weight_of limits (content_at past revision).units (sources_at past revision) ≤ limits.weight
   pub count : count_of (sources_at past revision) ≤ limits.sources
   pub sources : are_sources revision (sources_at past revision).entries ≡ true
 

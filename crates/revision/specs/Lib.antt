@@ -3,6 +3,7 @@ pub mod Spellable
 pub mod Width
 pub mod Command
 pub mod State
+pub mod Retries
 pub mod Floors
 pub mod Agree
 pub mod Acceptance
@@ -11,6 +12,7 @@ pub mod Past
 pub mod Replay
 pub mod Pending
 pub mod Parting
+pub mod Window
 pub mod Sources
 pub mod Documents
 pub mod Readings

@@ -11,7 +11,7 @@ use Rattle.document.specs.Outcome.{IsAccepted}
 use Rattle.compose.specs.Inverse.{inverse}
 use Rattle.compose.specs.Many.{applied}
 use Rattle.revision.specs.Late.{late}
-use Rattle.revision.specs.Sources.{Sources, sources_code, with_last}
+use Rattle.revision.specs.Sources.{Sources, sources_code, with_taken}
 use Rattle.revision.specs.declared.kept_document.Kept.{Kept}
 use Rattle.revision.specs.declared.taker.Taker.{Taker}
 
@@ -80,7 +80,7 @@ deltas_of past = deltas_in past.changes
 abbrev pub sources_after : ℕ → Sources → List Change → Sources
 sources_after revision sources [] = sources
 sources_after revision sources (first ∷ others) =
-    sources_after (revision + 1) (with_last first.source first.number (revision + 1) sources) others
+    sources_after (revision + 1) (with_taken first.source first.number (revision + 1) sources) others
 
 -- the content, and the sources, at a revision that is held
 abbrev pub content_at : Past → ℕ → Content

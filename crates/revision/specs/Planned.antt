@@ -8,7 +8,7 @@ use Rattle.revision.specs.declared.planning.Plan.TheVariants as plans
 use Rattle.revision.specs.declared.planning.Reply as replied
 use Rattle.revision.specs.declared.planning.Reply.TheVariants as replies
 use Rattle.revision.specs.Command.{Action, Create, Edit, Undo, Command, Taken, width_of}
-use Rattle.revision.specs.Sources.{LastTaken}
+use Rattle.revision.specs.Window.{Window}
 use Rattle.revision.specs.State.{State, grows}
 use Rattle.revision.specs.Acceptance.{Answer, Takes, Repeats, Refuses, by_number, Reply, TakenAt, AgainAt, Refused, decide}
 
@@ -42,10 +42,10 @@ may_want_memory (Edit base delta) due = rests_on_delta due
 may_want_memory Undo due = rests_on_delta due
 
 -- whether a number is a retry, the source's next one, or refused
-abbrev pub IsTurn : Result (Option ℕ) Refusal → LastTaken → ℕ → Type 0
-IsTurn (Ok (Some revision)) last number = (next : Answer) → by_number last number next ≡ Repeats revision
-IsTurn (Ok None) last number = (next : Answer) → by_number last number next ≡ next
-IsTurn (Err refusal) last number = (next : Answer) → by_number last number next ≡ Refuses refusal
+abbrev pub IsTurn : Result (Option ℕ) Refusal → Window → ℕ → Type 0
+IsTurn (Ok (Some revision)) window number = (next : Answer) → by_number window number next ≡ Repeats revision
+IsTurn (Ok None) window number = (next : Answer) → by_number window number next ≡ next
+IsTurn (Err refusal) window number = (next : Answer) → by_number window number next ≡ Refuses refusal
 
 -- what is to be taken: by this source and this delta, with an entry of so many bytes
 pub record IsAsked (taken : Taken) (by : List ℕ) (change : List Operation) (bytes : ℕ) : Type 0 where

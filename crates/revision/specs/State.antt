@@ -6,18 +6,20 @@ use Rattle.delta.specs.Operation.{Operation}
 use Rattle.delta.specs.Gaps.{counted, apply, units_below}
 use Rattle.document.specs.Weight as document
 use Rattle.revision.specs.Command.{Taken, width_of}
-use Rattle.revision.specs.Sources.{LastTaken, Sources, last_of, count_of, with_last}
+use Rattle.revision.specs.Window.{longest, Window, ascend}
+use Rattle.revision.specs.Sources.{Sources, window_of, count_of, total_of, with_taken}
 use Rattle.revision.specs.Parting.{parts_pair}
 use Rattle.revision.specs.Past.{Content, Change, Past, empty_past, newest, content_at, sources_at, with_change}
 
 -- How much a state may hold: documents, sources of a document, a document's weight, the bytes of a command's entry in the journal,
--- and how many revisions below the newest one are held.
+-- and how many revisions below the newest one are held; and what each number of a window weighs.
 pub record Limits : Type 0 where
   pub docs : ℕ
   pub sources : ℕ
   pub weight : ℕ
   pub width : ℕ
   pub keep : ℕ
+  pub retry : ℕ
 
 -- A record of a document: its name, and its past, from which all else comes.
 pub record DocumentRecord : Type 0 where
@@ -60,24 +62,31 @@ last_of_all = 2 ^ 53 - 1
 abbrev pub reaches_past : List Operation → List Element → Bool
 reaches_past delta units = nat_lt (length units) (units_below (counted delta))
 
--- the weight of the document, and 64 for each source
-abbrev pub weight_of : List Element → ℕ → ℕ
-weight_of units sources = document.weight_of units + 64 * sources
+-- A source with one number weighs 64, and each further number of its window weighs more.
+abbrev pub window_weight : Limits → Window → ℕ
+window_weight limits window = 64 - limits.retry + limits.retry * length window.revisions
 
--- the weight of a document after a command of units and sources before it
-abbrev pub weight_after : List Element → Sources → Taken → ℕ
-weight_after units sources taken =
-    weight_of (apply units (counted taken.delta)) (count_of (with_last taken.source taken.number taken.revision sources))
+abbrev pub weight_of_sources : Limits → Sources → ℕ
+weight_of_sources limits sources = total_of (window_weight limits) sources.entries
+
+-- the weight of the document's units, and of its sources
+abbrev pub weight_of : Limits → List Element → Sources → ℕ
+weight_of limits units sources = document.weight_of units + weight_of_sources limits sources
+
+-- the weight of a document after a command on units and sources before it
+abbrev pub weight_after : Limits → List Element → Sources → Taken → ℕ
+weight_after limits units sources taken =
+    weight_of limits (apply units (counted taken.delta)) (with_taken taken.source taken.number taken.revision sources)
 
 -- a source has its place in a document: it is there, or there is room for one more
 abbrev pub has_place : Limits → List ℕ → Sources → Bool
-has_place limits source sources = not ((last_of source sources).number == 0) || nat_lt (count_of sources) limits.sources
+has_place limits source sources = not ((window_of source sources).number == 0) || nat_lt (count_of sources) limits.sources
 
 -- a delta is defined on these units, parts no pair, and leaves a document that is no heavier than it may be
 abbrev pub stays_light : Limits → List Element → Sources → Taken → Bool
 stays_light limits units sources taken =
     not (reaches_past taken.delta units) && not (parts_pair taken.delta units)
-    && nat_le (weight_after units sources taken) limits.weight
+    && nat_le (weight_after limits units sources taken) limits.weight
 
 -- what a delta keeps that is taken on these units and sources: it leaves a light document, and its entry is as short as it has to be
 abbrev pub keeps : Limits → List Element → Sources → Taken → Bool
@@ -91,7 +100,7 @@ begins limits taken = (taken.revision == 1) && (taken.number == 1) && keeps limi
 abbrev pub comes_next : Limits → ℕ → Sources → Taken → Bool
 comes_next limits revision sources taken =
     (taken.revision == revision + 1) && not (revision == last_of_all)
-    && (taken.number == (last_of taken.source sources).number + 1) && nat_le taken.number last_of_all
+    && (taken.number == (window_of taken.source sources).number + 1) && nat_le taken.number last_of_all
     && has_place limits taken.source sources
 
 -- a change follows the newest revision of a document: it is the next one, and keeps the limits
@@ -171,14 +180,16 @@ abbrev pub fold : State → List Taken → State
 fold state [] = state
 fold state (first ∷ others) = fold (grown state first) others
 
--- what a source may have in a document at a revision: a number, with a revision that it may have come to
-abbrev pub is_last_taken : ℕ → LastTaken → Bool
-is_last_taken revision last =
-    nat_le 1 last.number && nat_le last.number last_of_all && nat_le 1 last.revision && nat_le last.revision revision
+-- what a source may have in a document at a revision: as many numbers as a window may have, no more than there are up to its last one,
+-- with revisions that they may have come to
+abbrev pub is_window : ℕ → Window → Bool
+is_window revision window =
+    nat_le 1 (length window.revisions) && nat_le (length window.revisions) longest && nat_le (length window.revisions) window.number
+    && nat_le window.number last_of_all && ascend 0 revision window.revisions
 
-abbrev pub are_sources : ℕ → List (List ℕ × LastTaken) → Bool
+abbrev pub are_sources : ℕ → List (List ℕ × Window) → Bool
 are_sources revision [] = true
-are_sources revision (first ∷ others) = is_last_taken revision first.1 && are_sources revision others
+are_sources revision (first ∷ others) = is_window revision first.1 && are_sources revision others
 
 -- A document may be added at a revision, without the past before it, with its sources: the limits are kept, its name is new, and
 -- the revision and the sources are such as can be.
@@ -187,7 +198,7 @@ adopts state name content revision sources =
     nat_lt (length state.documents) state.limits.docs && is_none (find name 0 state.documents)
     && nat_le 1 revision && nat_le revision last_of_all
     && nat_le (count_of sources) state.limits.sources && are_sources revision sources.entries
-    && nat_le (weight_of content.units (count_of sources)) state.limits.weight
+    && nat_le (weight_of state.limits content.units sources) state.limits.weight
 
 -- a document whose past begins at a revision
 abbrev pub record_at : List ℕ → Content → ℕ → Sources → DocumentRecord

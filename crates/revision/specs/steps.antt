@@ -5,6 +5,7 @@ pub mod TakenView
 pub mod LimitsView
 pub mod PastView
 pub mod Preparing
+pub mod Weighing
 pub mod Index
 pub mod ChangedAt
 pub mod DocumentsView

@@ -1,13 +1,14 @@
 //! A document is added with what stands in it, without the past before.
-ghost use Rattle.std.specs.Prelude.{◌≡◌, ◌↔◌, ◌⊎◌, false, nat_le, IfErr, OnOk, OnErr, IsErrOf};
-ghost use Rattle.revision.specs.Sources.{count_of};
-ghost use Rattle.revision.specs.State.{adopts, adopted, are_sources as spec_are_sources, is_last_taken as spec_is_last_taken, weight_of};
+ghost use Rattle.std.specs.Prelude.{◌≡◌, ◌↔◌, ◌⊎◌, ◌&&◌, false, nat_lt, nat_le, IfErr, OnOk, OnErr, IsErrOf};
+ghost use Rattle.revision.specs.Window.{ascend};
+ghost use Rattle.revision.specs.State.{adopts, adopted, are_sources as spec_are_sources, is_window as spec_is_window, weight_of};
 
 use crate::doc_state::DocState;
 use crate::limits::Limits;
 use crate::name::Name;
-use crate::sources::{LastTaken, Sources};
+use crate::sources::Sources;
 use crate::state::State;
+use crate::window::Window;
 use document::Document;
 use refusal::Refusal;
 use std::alloc::Global;
@@ -19,8 +20,9 @@ impl State {
     /// Adds a document at a revision with what stands in it and with its sources, of which no past is held.
     ///
     /// Refused with `Stranger` just where there are `docs` documents, one of this name is there, the revision isn't 1 to
-    /// 2^53 - 1, there are more than `sources` sources, one of them has a number that isn't 1 to 2^53 - 1 or a revision that
-    /// isn't 1 to the document's, or the weight with them is above the limit: this is told before memory is taken. Refused
+    /// 2^53 - 1, there are more than `sources` sources, the last number of one of them isn't 1 to 2^53 - 1, its window has no number
+    /// or more than there are up to the last, the revisions there don't ascend strictly from 1 on up to the document's, or the weight
+    /// with them is above the limit: this is told before memory is taken. Refused
     /// else for want of memory alone (`NoMemory`). A refusal leaves the state unchanged, and what was given is dropped.
     pub fn adopt(
         &mut self,
@@ -61,27 +63,51 @@ impl State {
 }
 
 // whether each source has what it may have at a revision
-fn are_sources(revision: u64, entries: &[(Name, LastTaken)]) -> bool
+fn are_sources(revision: u64, entries: &[(Name, Window)]) -> bool
     ensures { result ≡ spec_are_sources revision entries.now }
 {
-    for (_, last) in entries {
-        if !is_last_taken(revision, *last) {
+    for (_, window) in entries {
+        if !is_window(revision, window) {
             return false;
         }
     }
     true
 }
 
-fn is_last_taken(revision: u64, last: LastTaken) -> bool
-    ensures { result ≡ spec_is_last_taken revision last }
+fn is_window(revision: u64, window: &Window) -> bool
+    ensures { result ≡ spec_is_window revision window.now }
 {
-    1 <= last.number && last.number <= LAST && 1 <= last.revision && last.revision <= revision
+    let count = window.revisions().len();
+    1 <= count
+        && count as u64 <= window.number()
+        && window.number() <= LAST
+        && ascend_to(revision, window.revisions())
+}
+
+// whether revisions ascend strictly, from 1 on up to this one
+fn ascend_to(last: u64, revisions: &[u64]) -> bool
+    ensures { result ≡ ascend 0 last revisions.now }
+{
+    let mut low = 0;
+    for &revision in revisions {
+        if !is_between(low, revision, last) {
+            return false;
+        }
+        low = revision;
+    }
+    true
+}
+
+fn is_between(low: u64, revision: u64, last: u64) -> bool
+    ensures { result ≡ (nat_lt low revision && nat_le revision last) }
+{
+    low < revision && revision <= last
 }
 
 // whether a document with these sources is no heavier than it may be
 fn is_light(limits: Limits, document: &Document, sources: &Sources) -> bool
-    ensures { result ≡ nat_le (weight_of document.now (count_of sources.now)) limits.weight }
+    ensures { result ≡ nat_le (weight_of limits document.now sources.now) limits.weight }
 {
-    let beside = (sources.count() as u64).saturating_mul(64);
+    let beside = sources.weight(limits);
     document.weight().saturating_add(beside) <= u64::from(limits.weight())
 }

@@ -1,5 +1,5 @@
 //! A document as a state holds it.
-ghost use Rattle.std.specs.Prelude.{◌≡◌, ◌&&◌, ◌+◌, ◌≤◌, ◌<◌, ◌^◌, ◌⊎◌, ◌∷◌, ◌++◌, true, false, [], length, is_some, IfOk, IfErr, OnOk, OnErr, IsErrOf, IsOkUnless};
+ghost use Rattle.std.specs.Prelude.{◌≡◌, ◌&&◌, ◌+◌, ◌≤◌, ◌<◌, ◌^◌, ◌⊎◌, ◌∷◌, ◌++◌, true, false, [], length, is_some, unwrap_or, IfOk, IfErr, OnOk, OnErr, IsErrOf, IsOkUnless};
 ghost use Rattle.delta.specs.Operation.{base_of, out_of};
 ghost use Rattle.delta.specs.Gaps.{counted, apply};
 ghost use Rattle.revision.specs.Floors.{raised};
@@ -11,7 +11,8 @@ ghost use Rattle.revision.specs.Replay.{IsReplay};
 ghost use Rattle.revision.specs.Invariants.{IsLimits};
 ghost use Rattle.attributes.specs.Map.{get};
 ghost use Rattle.revision.specs.Name.{is_source_name};
-ghost use Rattle.revision.specs.Sources.{last_of, with_last};
+ghost use Rattle.revision.specs.Window.{nothing_taken};
+ghost use Rattle.revision.specs.Sources.{window_of, with_taken};
 ghost use Rattle.revision.specs.State.{revision_of, units_of, sources_of, begins as spec_begins, comes_next as spec_comes_next, follows, keeps as spec_keeps, stays_light as spec_stays_light, change_of};
 ghost use Rattle.revision.specs.Pending.{record_of, with_prepared};
 
@@ -19,8 +20,9 @@ use crate::limits::Limits;
 use crate::name::Name;
 use crate::past::{Past, Replay};
 use crate::source_table::SourceTable;
-use crate::sources::{LastTaken, Sources};
+use crate::sources::{Sources, window_in};
 use crate::taken::Taken;
+use crate::window::Window;
 use delta::Delta;
 use document::Document;
 use refusal::Refusal;
@@ -242,11 +244,11 @@ impl DocState {
         self.sources.accepted()
     }
 
-    /// What a source has at the newest revision, 0 and 0 where it isn't there.
-    pub fn last(&self, source: &Name) -> LastTaken
-        ensures { result ≡ last_of source.now (sources_of (record_of self.now)) }
+    /// A source's window at the newest revision, the empty one where it isn't there.
+    pub fn window(&self, source: &Name) -> Window
+        ensures { result ≡ window_of source.now (sources_of (record_of self.now)) }
     {
-        self.sources().last(source)
+        self.sources().window(source)
     }
 
     /// The deltas after a revision that is held. It takes no memory.
@@ -356,9 +358,9 @@ fn follows_at(
         && spec_keeps limits document.now sources.now taken.now) }
 {
     let found = sources.look_up(taken.source());
-    let last = found.last;
-    if comes_next(limits, revision, sources, last, taken)
-        && keeps(limits, document, sources, last, taken)
+    let window = &found.window;
+    if comes_next(limits, revision, sources, window, taken)
+        && keeps(limits, document, sources, window, taken)
     {
         return Some(found.place);
     }
@@ -370,23 +372,20 @@ fn comes_next(
     limits: Limits,
     revision: u64,
     sources: &Sources,
-    found: Option<LastTaken>,
+    found: &Option<Window>,
     taken: &Taken,
 ) -> bool
     requires revision { revision < 2 ^ 53 }
-    requires found { found ≡ get sources.now taken.now.source }
+    requires found { found.now ≡ get sources.now taken.now.source }
     ensures { result ≡ spec_comes_next limits revision sources.now taken.now }
 {
-    let last = found.unwrap_or(LastTaken {
-        number: 0,
-        revision: 0,
-    });
+    let last = window_in(found).number();
     taken.revision() == revision + 1
         && revision != LAST
         && taken.number() >= 1
-        && taken.number() - 1 == last.number
+        && taken.number() - 1 == last
         && taken.number() <= LAST
-        && (last.number != 0 || sources.count() < limits.sources() as usize)
+        && (last != 0 || sources.count() < limits.sources() as usize)
 }
 
 // whether a change keeps the limits: what it leaves is no heavier than it may be, and its entry is as short as it has to be
@@ -394,10 +393,10 @@ fn keeps(
     limits: Limits,
     document: &Document,
     sources: &Sources,
-    found: Option<LastTaken>,
+    found: &Option<Window>,
     taken: &Taken,
 ) -> bool
-    requires { found ≡ get sources.now taken.now.source }
+    requires { found.now ≡ get sources.now taken.now.source }
     ensures { result ≡ spec_keeps limits document.now sources.now taken.now }
 {
     stays_light(limits, document, sources, found, taken)
@@ -409,13 +408,13 @@ fn stays_light(
     limits: Limits,
     document: &Document,
     sources: &Sources,
-    found: Option<LastTaken>,
+    found: &Option<Window>,
     taken: &Taken,
 ) -> bool
-    requires { found ≡ get sources.now taken.now.source }
+    requires { found.now ≡ get sources.now taken.now.source }
     ensures { result ≡ spec_stays_light limits document.now sources.now taken.now }
 {
-    let beside = sources.count_with(found).saturating_mul(64);
+    let beside = sources.weight_with(limits, found);
     match document.weigh(taken.delta()) {
         Ok(units) => units.saturating_add(beside) <= u64::from(limits.weight()),
         Err(_) => false,
@@ -434,24 +433,22 @@ fn after_taken(alloc: Global, document: &Document, taken: &Delta) -> Result<Docu
     }
 }
 
-// Prepares a change in the past, and gives its source with what that has from then on. Refused for want of memory alone, and then the
-// past is unchanged. What lies below the floor is let go of, as far as memory goes.
-fn add_to(alloc: Global, past: &mut Past, taken: Taken) -> Result<(Name, LastTaken), Refusal>
+// Prepares a change in the past, and gives its source. Refused for want of memory alone, and then the past is unchanged. What lies
+// below the floor is let go of, as far as memory goes.
+fn add_to(alloc: Global, past: &mut Past, taken: Taken) -> Result<Name, Refusal>
     requires accepted { IsAccepted (prepared_units past.old) (counted taken.delta) }
     requires short { length (apply (prepared_units past.old) (counted taken.delta)) ≤ 2 ^ 29 }
     requires revision { prepared_revision past.old + 1 < 2 ^ 53 }
     ensures past { OnOk result (past.new ≡ record past.old { next = past.old.next ++ change_of taken ∷ [] }) }
-    ensures source { IfOk result (λ added. added.0 ≡ taken.source) }
-    ensures named { IfOk result (λ added. is_source_name added.0 ≡ true) }
-    ensures last { IfOk result (λ added. added.1 ≡ record { number = taken.number; revision = taken.revision }) }
+    ensures source { IfOk result (λ source. source ≡ taken.source) }
+    ensures named { IfOk result (λ source. is_source_name source ≡ true) }
     ensures unchanged { OnErr result (past.new ≡ past.old) }
     ensures only { IsOkUnless result Refusal.NoMemory }
 {
     past.let_go(alloc);
-    let revision = taken.revision();
     let (source, number, delta) = taken.into_change();
     past.prepare(source.copy(alloc)?, number, delta)?;
-    Ok((source, LastTaken { number, revision }))
+    Ok(source)
 }
 
 // Prepares a change in the past and in the table of sources, where its source is looked for first at a place. Refused for want of
@@ -469,14 +466,15 @@ fn note(
     ensures past { OnOk result (past.new ≡ record past.old { next = past.old.next ++ change_of taken ∷ [] }) }
     ensures sources { OnOk result (sources.new
         ≡ record sources.old {
-          prepared = with_last taken.source taken.number taken.revision sources.old.prepared;
+          prepared = with_taken taken.source taken.number taken.revision sources.old.prepared;
         }) }
     ensures past_unchanged { OnErr result (past.new ≡ past.old) }
     ensures sources_unchanged { OnErr result (sources.new ≡ sources.old) }
     ensures only { IsOkUnless result Refusal.NoMemory }
 {
-    let (source, last) = add_to(alloc, past, taken)?;
-    let noted = sources.prepare(alloc, &source, last, near);
+    let (number, revision) = (taken.number(), taken.revision());
+    let source = add_to(alloc, past, taken)?;
+    let noted = sources.prepare(alloc, &source, number, revision, near);
     if noted.is_err() {
         past.take_back();
     }
@@ -500,15 +498,24 @@ fn note_on(
     ensures past { OnOk result (past.new ≡ record past.old { next = past.old.next ++ change_of taken ∷ [] }) }
     ensures sources { OnOk result (sources.new
         ≡ record sources.old {
-          prepared = with_last taken.source taken.number taken.revision sources.old.prepared;
+          prepared = with_taken taken.source taken.number taken.revision sources.old.prepared;
         }) }
     ensures next_unchanged { OnErr result (next.new ≡ next.old) }
     ensures past_unchanged { OnErr result (past.new ≡ past.old) }
     ensures sources_unchanged { OnErr result (sources.new ≡ sources.old) }
     ensures only { IsOkUnless result Refusal.NoMemory }
 {
-    let (source, last) = add_to(alloc, past, taken)?;
-    let noted = sources.prepare_with(alloc, &source, last, near, past.prepared_delta(), next);
+    let (number, revision) = (taken.number(), taken.revision());
+    let source = add_to(alloc, past, taken)?;
+    let noted = sources.prepare_with(
+        alloc,
+        &source,
+        number,
+        revision,
+        near,
+        past.prepared_delta(),
+        next,
+    );
     if noted.is_err() {
         past.take_back();
     }

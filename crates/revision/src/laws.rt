@@ -9,6 +9,7 @@ ghost use Rattle.revision.specs.Replay.{PartsStand};
 ghost use Rattle.revision.specs.Agree.{AgreeSame, AgreeTurned, AgreeThrough, AgreeingContinue, AgreeingGrow, AgreeingAnswer, AgreeingAnswerHeld};
 ghost use Rattle.revision.specs.Invariants.{EmptyIsState, GrowingKeeps, AdoptingKeeps, ContinuingKeeps};
 ghost use Rattle.revision.specs.Floors.{FromItself, FromTwice, FromNewest, FromLonger, ChangeMakes};
+ghost use Rattle.revision.specs.Retries.{AgainInWindow, NoneOutside, Shifts, StaysWindow, OneRevision, AgainForLong, TakenOrHad, FromNothing, CutStays, CutWeighs};
 ghost use Rattle.revision.specs.Late.{InsertedStay, LightInserts, RoomForCommands, RoomForUndo};
 
 /// What the rule of acceptance takes continues the state.
@@ -69,6 +70,25 @@ pub fn states_stay()
     ensures grow { GrowingKeeps }
     ensures adopt { AdoptingKeeps }
     ensures documents { ContinuingKeeps }
+{}
+
+/// Each number of a window has a revision, and no other one has; and what becomes of windows and of their numbers as commands are
+/// taken.
+pub fn windows()
+    ensures again { AgainInWindow }
+    ensures outside { NoneOutside }
+    ensures shift { Shifts }
+    ensures stay { StaysWindow }
+    ensures one { OneRevision }
+    ensures long { AgainForLong }
+    ensures had { TakenOrHad }
+    ensures nothing { FromNothing }
+{}
+
+/// Sources with their last numbers alone are what they may be at a revision, and weigh 64 each.
+pub fn last_numbers()
+    ensures stay { CutStays }
+    ensures weigh { CutWeighs }
 {}
 
 /// A past from higher floors on, and with a change more.

@@ -55,6 +55,7 @@ mod state;
 mod taken;
 mod taker;
 mod widths;
+mod window;
 
 pub use command::{Action, Command};
 pub use doc_state::DocState;
@@ -62,8 +63,9 @@ pub use limits::Limits;
 pub use name::Name;
 pub use past::{Past, Replay};
 pub use planning::{Plan, Reply};
-pub use sources::{LastTaken, Sources};
+pub use sources::Sources;
 pub use state::{PreparedState, State, Unprepared};
 pub use taken::Taken;
 pub use taker::Taker;
 pub use widths::delta_width;
+pub use window::{LONGEST, Window};

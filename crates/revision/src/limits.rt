@@ -12,6 +12,7 @@ pub struct Limits {
     weight: u32,
     width: u32,
     keep: u32,
+    retry: u32,
 }
 
 impl Model for Limits {
@@ -30,11 +31,13 @@ impl Model for Limits {
 
 impl Limits {
     /// Limits in their ranges: 1 to 65,536 documents, 1 to 4,096 sources of a document, the weight of a document (that of its
-    /// units, `Document::weight`, and 64 for each source), the bytes of a command's entry in the journal, and how many
-    /// revisions below the newest one are held, 1 to 65,536.
+    /// units, `Document::weight`, and of each source 56 and 8 for each number of its window), the bytes of a command's entry in the
+    /// journal, and how many revisions below the newest one are held, 1 to 65,536.
     pub fn new(docs: u32, sources: u32, weight: u32, width: u32, keep: u32) -> Limits
-        requires { IsLimits (record { docs = docs; sources = sources; weight = weight; width = width; keep = keep }) }
-        ensures { result ≡ record { docs = docs; sources = sources; weight = weight; width = width; keep = keep } }
+        requires { IsLimits
+            (record { docs = docs; sources = sources; weight = weight; width = width; keep = keep; retry = 8 }) }
+        ensures { result
+            ≡ record { docs = docs; sources = sources; weight = weight; width = width; keep = keep; retry = 8 } }
     {
         Limits {
             docs,
@@ -42,6 +45,24 @@ impl Limits {
             weight,
             width,
             keep,
+            retry: 8,
+        }
+    }
+
+    /// The same where a source weighs 64 with any number of numbers in its window.
+    pub fn without_retries(docs: u32, sources: u32, weight: u32, width: u32, keep: u32) -> Limits
+        requires { IsLimits
+            (record { docs = docs; sources = sources; weight = weight; width = width; keep = keep; retry = 0 }) }
+        ensures { result
+            ≡ record { docs = docs; sources = sources; weight = weight; width = width; keep = keep; retry = 0 } }
+    {
+        Limits {
+            docs,
+            sources,
+            weight,
+            width,
+            keep,
+            retry: 0,
         }
     }
 
@@ -60,7 +81,7 @@ impl Limits {
         self.sources
     }
 
-    /// The weight of a document: that of its units, and 64 for each source.
+    /// The weight of a document: that of its units and of its sources.
     pub fn weight(&self) -> u32
         ensures { result ≡ self.now.weight }
     {
@@ -79,5 +100,13 @@ impl Limits {
         ensures { result ≡ self.now.keep }
     {
         self.keep
+    }
+
+    /// What each number of a source's window weighs, 0 to 8. A source with one number weighs 64.
+    pub fn retry(&self) -> u32
+        ensures retry { result ≡ self.now.retry }
+        ensures bound { result ≤ 8 }
+    {
+        self.retry
     }
 }

@@ -10,7 +10,6 @@ ghost use Rattle.revision.specs.Late.{late as late_edit, all_inserted, HasComman
 ghost use Rattle.revision.specs.Past.{Change, StandInTurn, IsKept, AreKept, newest, newest_units, content_at, deltas_of, deltas_above, undo_of, way_back, way_back_late, with_changes, prepared_units, prepared_revision, without_last, sources_after, sources_at, changes_by};
 ghost use Rattle.revision.specs.Name.{is_source_name};
 ghost use Rattle.revision.specs.Replay.{IsReplay};
-ghost use Rattle.revision.specs.Sources.{with_last};
 
 use crate::kept_document::Kept;
 use crate::late::{late, past_all};
@@ -624,8 +623,7 @@ fn noted_all(
     let mut noted = sources.copy(alloc)?;
     for i in 0..takers.len() {
         let taker = &takers[i];
-        let source = taker.source.copy(alloc)?;
-        noted.set(source, taker.number, start + i as u64 + 1)?;
+        noted.note(alloc, &taker.source, taker.number, start + i as u64 + 1, 0)?;
     }
     Ok(noted)
 }

@@ -4,7 +4,7 @@ ghost use Rattle.revision.specs.Acceptance.{answer, by_number, take_on, create_e
 ghost use Rattle.revision.specs.Command.{Taken as Change, IsShortDelta};
 ghost use Rattle.revision.specs.Invariants.{IsPast};
 ghost use Rattle.revision.specs.Pending.{record_of};
-ghost use Rattle.revision.specs.Sources.{last_of};
+ghost use Rattle.revision.specs.Sources.{window_of};
 ghost use Rattle.revision.specs.State.{revision_of, sources_of, last_of_all, has_place as spec_has_place};
 ghost use Rattle.revision.specs.Planned.{Gives, IsTurn, IsAsked, IsDecided, PlanGrows, takes_command, rests_on_delta, may_want_memory};
 
@@ -12,9 +12,10 @@ use crate::command::{Action, Command};
 use crate::doc_state::DocState;
 use crate::limits::Limits;
 use crate::name::Name;
-use crate::sources::{LastTaken, Sources};
+use crate::sources::Sources;
 use crate::state::State;
 use crate::taken::{Taken, creation_width, edit_width};
+use crate::window::Window;
 use delta::Delta;
 use document::Document;
 use refusal::Refusal;
@@ -44,9 +45,9 @@ pub enum Reply {
 impl State {
     /// The answer to a command, which leaves the state as it is. The first that holds decides.
     ///
-    /// Of a creation: where the document is there, the source's last number is answered with `Again`, and any other is refused
+    /// Of a creation: where the document is there, a number of the source's window is answered with `Again`, and any other is refused
     /// with `Exists`; `Gap` for a number above 1, `TooManyDocuments` where there are `docs` documents. Of an edit or an undo:
-    /// `NoDocument`; `Again` for the source's last number, `OldNumber` for one below it, `Gap` for one above the next. Then of
+    /// `NoDocument`; `Again` for a number of the source's window, `OldNumber` for one below it, `Gap` for one above the next. Then of
     /// an edit: `TooManySources` where the source isn't there and `sources` others are, `Future` for a base above the newest
     /// revision, `TooOld` for one below the floor. Of an undo: `NothingToUndo` where the source has no change, `TooOld` where
     /// its last one isn't held with the revision before it. Of both: `RevisionsSpent` where the newest revision is 2^53 - 1.
@@ -119,11 +120,9 @@ fn plan_existing(found: &DocState, command: &Command) -> Result<Plan, Refusal>
     ensures due { Gives result (create_existing (record_of found.now) command.now) }
     ensures no_memory { ¬ (IsErrOf result Refusal.NoMemory) }
 {
-    let last = found.last(command.source());
-    if 0 < last.number && command.number() == last.number {
-        Ok(Plan::Again { rev: last.revision })
-    } else {
-        Err(Refusal::Exists)
+    match found.window(command.source()).revision_of(command.number()) {
+        Some(rev) => Ok(Plan::Again { rev }),
+        None => Err(Refusal::Exists),
     }
 }
 
@@ -172,19 +171,19 @@ fn plan_edit(
     requires past { IsPast state.now.limits (record_of found.now).past }
     requires short { IsShortDelta delta.now }
     ensures due { Gives result
-        (by_number (last_of command.now.source (sources_of (record_of found.now))) command.now.number
+        (by_number (window_of command.now.source (sources_of (record_of found.now))) command.now.number
         (edit state.now number (record_of found.now) command.now base delta.now)) }
     ensures memory { IsErrOf result Refusal.NoMemory → rests_on_delta
-        (by_number (last_of command.now.source (sources_of (record_of found.now))) command.now.number
+        (by_number (window_of command.now.source (sources_of (record_of found.now))) command.now.number
         (edit state.now number (record_of found.now) command.now base delta.now)) ≡ true }
 {
-    let last_taken = found.last(command.source());
-    match turn(last_taken, command.number()) {
+    let window = found.window(command.source());
+    match turn(&window, command.number()) {
         Ok(None) => {}
         Ok(Some(rev)) => return Ok(Plan::Again { rev }),
         Err(refusal) => return Err(refusal),
     }
-    if !has_place(state.limits(), found.sources(), last_taken) {
+    if !has_place(state.limits(), found.sources(), window.number()) {
         return Err(Refusal::TooManySources);
     }
     if base > found.revision() {
@@ -209,28 +208,29 @@ fn plan_undo(
 ) -> Result<Plan, Refusal>
     requires past { IsPast state.now.limits (record_of found.now).past }
     ensures due { Gives result
-        (by_number (last_of command.now.source (sources_of (record_of found.now))) command.now.number
+        (by_number (window_of command.now.source (sources_of (record_of found.now))) command.now.number
         (undo state.now number (record_of found.now) command.now)) }
     ensures memory { IsErrOf result Refusal.NoMemory → rests_on_delta
-        (by_number (last_of command.now.source (sources_of (record_of found.now))) command.now.number
+        (by_number (window_of command.now.source (sources_of (record_of found.now))) command.now.number
         (undo state.now number (record_of found.now) command.now)) ≡ true }
 {
-    let last = found.last(command.source());
-    match turn(last, command.number()) {
+    let own = found.window(command.source());
+    match turn(&own, command.number()) {
         Ok(None) => {}
         Ok(Some(rev)) => return Ok(Plan::Again { rev }),
         Err(refusal) => return Err(refusal),
     }
-    if last.number == 0 {
+    if own.number() == 0 {
         return Err(Refusal::NothingToUndo);
     }
-    if last.revision <= found.floor() {
+    let last = own.last_revision();
+    if last <= found.floor() {
         return Err(Refusal::TooOld);
     }
     if found.revision() == LAST {
         return Err(Refusal::RevisionsSpent);
     }
-    let delta = found.undo(alloc, last.revision)?;
+    let delta = found.undo(alloc, last)?;
     plan_change(alloc, state, number, found, command, delta)
 }
 
@@ -269,27 +269,28 @@ fn plan_change(
 }
 
 // Whether a number is a retry, of which the revision comes back, or the source's next one; else it is refused.
-fn turn(last: LastTaken, number: u64) -> Result<Option<u64>, Refusal>
-    ensures turn { IsTurn result last number }
+fn turn(window: &Window, number: u64) -> Result<Option<u64>, Refusal>
+    ensures turn { IsTurn result window.now number }
     ensures no_memory { IfErr result (λ e. e ≢ Refusal.NoMemory) }
 {
-    if 0 < last.number && number == last.number {
-        return Ok(Some(last.revision));
+    if let Some(rev) = window.revision_of(number) {
+        return Ok(Some(rev));
     }
-    if number < last.number {
+    if number <= window.number() {
         return Err(Refusal::OldNumber);
     }
-    if number - last.number > 1 {
+    if number - window.number() > 1 {
         return Err(Refusal::Gap);
     }
     Ok(None)
 }
 
-// a source that has this is there, or there is room for one more
-fn has_place(limits: Limits, sources: &Sources, last: LastTaken) -> bool
-    ensures { (source : List ℕ) → last ≡ last_of source sources.now → result ≡ spec_has_place limits source sources.now }
+// a source with this last number is there, or there is room for one more
+fn has_place(limits: Limits, sources: &Sources, last: u64) -> bool
+    ensures { (source : List ℕ) → last ≡ (window_of source sources.now).number
+        → result ≡ spec_has_place limits source sources.now }
 {
-    last.number != 0 || (sources.count() as u64) < u64::from(limits.sources())
+    last != 0 || (sources.count() as u64) < u64::from(limits.sources())
 }
 
 // Whether a delta is taken on a document with these sources, where its entry has so many bytes.
@@ -312,8 +313,7 @@ fn admit(
         Ok(weight) => weight,
         Err(refusal) => return Err(refusal),
     };
-    let count = sources.count_after(source);
-    let weight = weight.saturating_add(count.saturating_mul(64));
+    let weight = weight.saturating_add(sources.weight_after(limits, source));
     if weight > u64::from(limits.weight()) {
         return Err(Refusal::TooHeavy);
     }

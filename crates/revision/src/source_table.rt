@@ -4,12 +4,13 @@ ghost use Rattle.attributes.specs.Map.{empty};
 ghost use Rattle.delta.specs.Gaps.{counted, apply};
 ghost use Rattle.document.specs.Outcome.{IsAccepted};
 ghost use Rattle.revision.specs.Name.{is_source_name};
-ghost use Rattle.revision.specs.Sources.{with_last, with_entry, is_among, EqualBut};
+ghost use Rattle.revision.specs.Sources.{with_taken, with_entry, is_among, EqualBut};
 ghost use Rattle.attributes.specs.Map.{get};
 
 use crate::name::Name;
 use crate::past::apply_taken;
-use crate::sources::{LastTaken, Sources};
+use crate::sources::Sources;
+use crate::window::Window;
 use delta::Delta;
 use document::Document;
 use refusal::Refusal;
@@ -110,12 +111,13 @@ impl SourceTable {
         &mut self,
         alloc: Global,
         source: &Name,
-        last: LastTaken,
+        number: u64,
+        revision: u64,
         near: usize,
     ) -> Result<(), Refusal>
         requires { is_source_name source.now ≡ true }
         ensures ok { OnOk result (self.new
-            ≡ record self.old { prepared = with_last source.now last.number last.revision self.old.prepared }) }
+            ≡ record self.old { prepared = with_taken source.now number revision self.old.prepared }) }
         ensures only { IsOkUnless result Refusal.NoMemory }
         ensures unchanged { OnErr result (self.new ≡ self.old) }
     {
@@ -137,7 +139,7 @@ impl SourceTable {
             source,
             near,
         )?;
-        self.ahead.note(alloc, source, last, near)?;
+        self.ahead.note(alloc, source, number, revision, near)?;
         Ok(())
     }
 
@@ -147,7 +149,8 @@ impl SourceTable {
         &mut self,
         alloc: Global,
         source: &Name,
-        last: LastTaken,
+        number: u64,
+        revision: u64,
         near: usize,
         delta: &Delta,
         document: &mut Document,
@@ -155,7 +158,7 @@ impl SourceTable {
         requires named { is_source_name source.now ≡ true }
         requires accepted { IsAccepted document.old (counted delta.now) }
         ensures ok { OnOk result (self.new
-            ≡ record self.old { prepared = with_last source.now last.number last.revision self.old.prepared }) }
+            ≡ record self.old { prepared = with_taken source.now number revision self.old.prepared }) }
         ensures document { OnOk result (document.new ≡ apply document.old (counted delta.now)) }
         ensures only { IsOkUnless result Refusal.NoMemory }
         ensures unchanged { OnErr result (self.new ≡ self.old) }
@@ -179,7 +182,16 @@ impl SourceTable {
             source,
             near,
         )?;
-        note_with(alloc, &mut self.ahead, source, last, near, delta, document)
+        note_with(
+            alloc,
+            &mut self.ahead,
+            source,
+            number,
+            revision,
+            near,
+            delta,
+            document,
+        )
     }
 
     /// Accepts what is prepared. It takes no memory, and isn't refused.
@@ -226,7 +238,7 @@ fn mark(
     Ok(())
 }
 
-fn is_same(one: Option<LastTaken>, other: Option<LastTaken>) -> bool
+fn is_same(one: Option<Window>, other: Option<Window>) -> bool
     ensures { IsTrue result ↔ (one ≡ other) }
 {
     one == other
@@ -238,20 +250,21 @@ fn note_with(
     alloc: Global,
     sources: &mut Sources,
     source: &Name,
-    last: LastTaken,
+    number: u64,
+    revision: u64,
     near: usize,
     delta: &Delta,
     document: &mut Document,
 ) -> Result<(), Refusal>
     requires named { is_source_name source.now ≡ true }
     requires accepted { IsAccepted document.old (counted delta.now) }
-    ensures sources { OnOk result (sources.new ≡ with_last source.now last.number last.revision sources.old) }
+    ensures sources { OnOk result (sources.new ≡ with_taken source.now number revision sources.old) }
     ensures document { OnOk result (document.new ≡ apply document.old (counted delta.now)) }
     ensures only { IsOkUnless result Refusal.NoMemory }
     ensures unchanged { OnErr result (sources.new ≡ sources.old) }
     ensures document_unchanged { OnErr result (document.new ≡ document.old) }
 {
-    let before = sources.note(alloc, source, last, near)?;
+    let before = sources.note(alloc, source, number, revision, near)?;
     match apply_taken(alloc, document, delta) {
         Ok(()) => Ok(()),
         Err(refusal) => {
@@ -294,9 +307,7 @@ fn align(
 {
     let source = &changed.source;
     match accepted.find_near(source, changed.near) {
-        Some(last) => {
-            ahead.note(alloc, source, last, changed.near)?;
-        }
+        Some(window) => ahead.put_near(alloc, source, window, changed.near)?,
         None => ahead.remove(source),
     }
     Ok(())

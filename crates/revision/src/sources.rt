@@ -1,25 +1,23 @@
 //! The sources of a document.
-ghost use Rattle.std.specs.Prelude.{◌≡◌, ◌-◌, ◌^◌, ℕ, T, true, None, List, min, is_some, slice_get, MatchOption, MatchResult, IfOk, OnOk, OnErr, OnSome, IsOkUnless, length};
+ghost use Rattle.std.specs.Prelude.{◌≡◌, ◌≤◌, ◌-◌, ◌^◌, ℕ, T, true, false, None, List, min, map, is_some, unwrap_or, slice_get, MatchResult, IfOk, OnOk, OnErr, OnSome, IsOkUnless, length};
 ghost use Rattle.std.specs.FinMap.Entries.{is_sorted};
 ghost use Rattle.attributes.specs.Map.{by_bytes, empty, get, insert, remove};
 ghost use Rattle.attributes.specs.Place.{IsHere, IsFree};
 ghost use Rattle.revision.specs.Name.{is_source_name};
-ghost use Rattle.revision.specs.Sources.{are_named, count_of, last_of, with_last, with_entry};
+ghost use Rattle.revision.specs.Window.{nothing_taken};
+ghost use Rattle.revision.specs.Sources.{are_named, count_of, cut, total_of, window_of, with_taken, with_entry};
+ghost use Rattle.revision.specs.State.{weight_of_sources, window_weight};
+ghost use Rattle.revision.specs.steps.Weighing.{more_weight, Fits};
 ghost use Rattle.revision.specs.steps.NameAt.{has_name};
 ghost use lib.Dec.{T_prop};
 
+use crate::limits::Limits;
 use crate::name::Name;
+use crate::window::Window;
 use refusal::Refusal;
 use std::alloc::Global;
 use std::cmp::Ordering;
 use std::marker::Model;
-
-/// What a source has in a document: the number of its last command that was taken, and the revision that came of it.
-#[derive(Clone, Copy, Debug, PartialEq, Eq)]
-pub struct LastTaken {
-    pub number: u64,
-    pub revision: u64,
-}
 
 /// What a source has, where it is there, and the place at which it stands or would stand.
 ///
@@ -27,14 +25,14 @@ pub struct LastTaken {
 /// it is wrong the source is searched for, so nothing rests on it, and no clause speaks of it.
 #[derive(Drop)]
 pub(crate) struct Found {
-    pub(crate) last: Option<LastTaken>,
+    pub(crate) window: Option<Window>,
     pub(crate) place: usize,
 }
 
-/// The sources of a document with what each has, in the order of the bytes of their names, which have 1 to 32 characters.
+/// The sources of a document with their windows, in the order of the bytes of their names, which have 1 to 32 characters.
 #[derive(Drop)]
 pub struct Sources {
-    list: Vec<(Name, LastTaken)>,
+    list: Vec<(Name, Window)>,
     ghost ascending: { T (is_sorted by_bytes list.items) } by { T_prop _ },
 }
 
@@ -63,7 +61,7 @@ impl Sources {
     }
 
     /// The sources in order.
-    pub fn entries(&self) -> &[(Name, LastTaken)]
+    pub fn entries(&self) -> &[(Name, Window)]
         ensures entries { result.now ≡ self.now.entries }
         ensures named { are_named self.now.entries ≡ true }
     {
@@ -114,142 +112,166 @@ impl Sources {
         }
     }
 
-    /// What a source has, 0 and 0 where it isn't there.
-    pub fn last(&self, source: &Name) -> LastTaken
-        ensures { result ≡ last_of source.now self.now }
+    /// A source's window, the empty one where it isn't there.
+    pub fn window(&self, source: &Name) -> Window
+        ensures { result ≡ window_of source.now self.now }
     {
         match self.place(source.as_str()) {
-            Ok(i) => self.list[i].1,
-            Err(_) => LastTaken {
-                number: 0,
-                revision: 0,
-            },
+            Ok(i) => self.list[i].1.copy(),
+            Err(_) => Window::new(),
         }
     }
 
-    /// What a source has, where it is there.
-    pub fn find(&self, source: &Name) -> Option<LastTaken>
-        ensures last { result ≡ get self.now source.now }
+    /// A source's window, where it is there.
+    pub fn find(&self, source: &Name) -> Option<Window>
+        ensures window { result ≡ get self.now source.now }
         ensures named { OnSome result (is_source_name source.now ≡ true) }
     {
         match self.place(source.as_str()) {
-            Ok(i) => Some(self.list[i].1),
+            Ok(i) => Some(self.list[i].1.copy()),
             Err(_) => None,
         }
     }
 
-    /// What a source has, where it is there, with its place.
+    /// A source's window, where it is there, with its place.
     pub(crate) fn look_up(&self, source: &Name) -> Found
-        ensures { result.last ≡ get self.now source.now }
+        ensures { result.window ≡ get self.now source.now }
     {
         match self.place(source.as_str()) {
             Ok(place) => Found {
-                last: Some(self.list[place].1),
+                window: Some(self.list[place].1.copy()),
                 place,
             },
-            Err(place) => Found { last: None, place },
+            Err(place) => Found {
+                window: None,
+                place,
+            },
         }
     }
 
-    /// What a source has, as `find` tells. One place is tried first.
-    pub(crate) fn find_near(&self, source: &Name, near: usize) -> Option<LastTaken>
-        ensures last { result ≡ get self.now source.now }
+    /// A source's window, as `find` tells. One place is tried first.
+    pub(crate) fn find_near(&self, source: &Name, near: usize) -> Option<Window>
+        ensures window { result ≡ get self.now source.now }
         ensures named { OnSome result (is_source_name source.now ≡ true) }
     {
         match self.place_near(source.as_str(), near) {
-            Ok(i) => Some(self.list[i].1),
+            Ok(i) => Some(self.list[i].1.copy()),
             Err(_) => None,
         }
     }
 
-    /// How many there are once a command of this source was taken; 2^64 - 1 where there are more.
-    pub fn count_after(&self, source: &Name) -> u64
-        ensures { (number revision : ℕ)
-            → result ≡ min (count_of (with_last source.now number revision self.now)) (2 ^ 64 - 1) }
+    /// What they weigh; 2^64 - 1 where it is more.
+    pub(crate) fn weight(&self, limits: Limits) -> u64
+        ensures { result ≡ min (weight_of_sources limits self.now) (2 ^ 64 - 1) }
     {
-        self.count_with(self.find(source))
+        weight_of_all(limits, self.entries())
     }
 
-    /// How many there are once a command was taken of a source that has this; 2^64 - 1 where there are more.
-    pub(crate) fn count_with(&self, found: Option<LastTaken>) -> u64
-        ensures { (source : List ℕ) (number revision : ℕ) → found ≡ get self.now source
-            → result ≡ min (count_of (with_last source number revision self.now)) (2 ^ 64 - 1) }
+    /// What they weigh once a command of this source was taken; 2^64 - 1 where it is more.
+    pub(crate) fn weight_after(&self, limits: Limits, source: &Name) -> u64
+        ensures { (number revision : ℕ) → result
+            ≡ min (weight_of_sources limits (with_taken source.now number revision self.now)) (2 ^ 64 - 1) }
     {
-        let count = self.count() as u64;
-        match found {
-            Some(_) => count,
-            None => count.saturating_add(1),
-        }
+        self.weight_with(limits, &self.find(source))
     }
 
-    /// Notes the last command of a source, whose name has 1 to 32 characters. Refused for want of memory alone, and then unchanged;
-    /// where the source is there it takes none.
-    pub fn set(&mut self, source: Name, number: u64, revision: u64) -> Result<(), Refusal>
+    /// What they weigh once a command was taken of a source that has this; 2^64 - 1 where it is more.
+    pub(crate) fn weight_with(&self, limits: Limits, found: &Option<Window>) -> u64
+        ensures { (source : List ℕ) (number revision : ℕ) → found.now ≡ get self.now source → result
+            ≡ min (weight_of_sources limits (with_taken source number revision self.now)) (2 ^ 64 - 1) }
+    {
+        self.weight(limits)
+            .saturating_add(weight_more(limits, found))
+    }
+
+    /// Gives a source, whose name has 1 to 32 characters, its window. Refused for want of memory alone, and then unchanged; where the
+    /// source is there it takes none.
+    pub fn put(&mut self, source: Name, window: Window) -> Result<(), Refusal>
         requires { is_source_name source ≡ true }
-        ensures ok { OnOk result (self.new ≡ with_last source number revision self.old) }
+        ensures ok { OnOk result (self.new ≡ insert self.old source window) }
         ensures unchanged { OnErr result (self.new ≡ self.old) }
         ensures only { IsOkUnless result Refusal.NoMemory }
     {
-        let last = LastTaken { number, revision };
         match self.place(source.as_str()) {
             Ok(i) => {
-                self.list[i].1 = last;
+                self.list[i].1 = window;
                 Ok(())
             }
             Err(i) => {
-                self.list.insert(i, (source, last))?;
+                self.list.insert(i, (source, window))?;
                 Ok(())
             }
         }
     }
 
-    /// Gives a source that is there what it has from now on, and gives back what it had. One place is tried first. It takes no memory.
-    pub(crate) fn renew(&mut self, source: &Name, last: LastTaken, near: usize) -> Option<LastTaken>
+    /// Gives a source that is there another window, and tells whether it is there. One place is tried first. It takes no memory.
+    pub(crate) fn renew(&mut self, source: &Name, window: Window, near: usize) -> bool
         requires { is_source_name source.now ≡ true }
-        ensures before { result ≡ get self.old source.now }
-        ensures after { MatchOption result (self.new ≡ self.old) (λ _. self.new ≡ insert self.old source.now last) }
+        ensures there { result ≡ is_some (get self.old source.now) }
+        ensures renewed { result ≡ true → self.new ≡ insert self.old source.now window }
+        ensures unchanged { result ≡ false → self.new ≡ self.old }
     {
         match self.place_near(source.as_str(), near) {
             Ok(i) => {
-                let before = self.list[i].1;
-                self.list[i].1 = last;
-                Some(before)
+                self.list[i].1 = window;
+                true
             }
-            Err(_) => None,
+            Err(_) => false,
         }
     }
 
-    /// Notes the last command of a source as `set` does, and gives back what it had, where it was there. One place is tried first. Its
-    /// name is copied only where it is new.
+    /// Gives a source its window as `put` does. One place is tried first. Its name is copied only where it is new.
+    pub(crate) fn put_near(
+        &mut self,
+        alloc: Global,
+        source: &Name,
+        window: Window,
+        near: usize,
+    ) -> Result<(), Refusal>
+        requires { is_source_name source.now ≡ true }
+        ensures ok { OnOk result (self.new ≡ insert self.old source.now window) }
+        ensures unchanged { OnErr result (self.new ≡ self.old) }
+        ensures only { IsOkUnless result Refusal.NoMemory }
+    {
+        if self.renew(source, window.copy(), near) {
+            return Ok(());
+        }
+        self.put(source.copy(alloc)?, window)
+    }
+
+    /// Notes a command of a source, whose name has 1 to 32 characters, and gives back the window that it had, where it was there. One
+    /// place is tried first. Refused for want of memory alone, and then unchanged; where the source is there it takes none.
     pub(crate) fn note(
         &mut self,
         alloc: Global,
         source: &Name,
-        last: LastTaken,
+        number: u64,
+        revision: u64,
         near: usize,
-    ) -> Result<Option<LastTaken>, Refusal>
+    ) -> Result<Option<Window>, Refusal>
         requires { is_source_name source.now ≡ true }
-        ensures ok { OnOk result (self.new ≡ insert self.old source.now last) }
+        ensures ok { OnOk result (self.new ≡ with_taken source.now number revision self.old) }
         ensures before { IfOk result (λ before. before ≡ get self.old source.now) }
         ensures unchanged { OnErr result (self.new ≡ self.old) }
         ensures only { IsOkUnless result Refusal.NoMemory }
     {
-        if let Some(before) = self.renew(source, last, near) {
-            return Ok(Some(before));
-        }
-        self.set(source.copy(alloc)?, last.number, last.revision)?;
-        Ok(None)
+        let before = self.find_near(source, near);
+        let mut window = window_in(&before);
+        window.take(number, revision);
+        self.put_near(alloc, source, window, near)?;
+        Ok(before)
     }
 
-    /// Gives a source that is there what it had before, and drops it where it had nothing. One place is tried first. It takes no memory.
-    pub(crate) fn put_back(&mut self, source: &Name, before: Option<LastTaken>, near: usize)
+    /// Gives a source that is there the window that it had before, and drops it where it had none. One place is tried first. It takes no
+    /// memory.
+    pub(crate) fn put_back(&mut self, source: &Name, before: Option<Window>, near: usize)
         requires named { is_source_name source.now ≡ true }
         requires there { is_some (get self.old source.now) ≡ true }
         ensures { self.new ≡ with_entry source.now before self.old }
     {
         match before {
-            Some(last) => {
-                let _ = self.renew(source, last, near);
+            Some(window) => {
+                let _ = self.renew(source, window, near);
             }
             None => self.remove(source),
         }
@@ -273,6 +295,16 @@ impl Sources {
             list: copy_of(alloc, self.entries())?,
         })
     }
+
+    /// The same sources, each with its last number alone. Refused for want of memory alone.
+    pub fn with_last_numbers(&self, alloc: Global) -> Result<Sources, Refusal>
+        ensures cut { IfOk result (λ sources. sources.entries ≡ map cut self.now.entries) }
+        ensures only { IsOkUnless result Refusal.NoMemory }
+    {
+        Ok(Sources {
+            list: last_numbers_of(alloc, self.entries())?,
+        })
+    }
 }
 
 impl PartialEq for Sources {
@@ -288,6 +320,22 @@ impl PartialEq for Sources {
     }
 }
 
+// Sources with their last numbers alone, in order.
+fn last_numbers_of(
+    alloc: Global,
+    entries: &[(Name, Window)],
+) -> Result<Vec<(Name, Window)>, Refusal>
+    ensures cut { IfOk result (λ list. list.items ≡ map cut entries.now) }
+    ensures only { IsOkUnless result Refusal.NoMemory }
+{
+    let mut list = Vec::new(alloc);
+    for (source, window) in entries {
+        let last = Window::of_one(window.number(), window.last_revision());
+        list.push((source.copy(alloc)?, last))?;
+    }
+    Ok(list)
+}
+
 // How two names stand to each other in the order of their bytes. They are compared byte by byte, which for such short texts takes a
 // third of what comparing them as texts takes.
 #[tactic(auto, using(crate::proofs::Halves::bytes_compared))]
@@ -300,13 +348,48 @@ fn order(name: &str, other: &str) -> Ordering
     }
 }
 
-fn copy_of(alloc: Global, entries: &[(Name, LastTaken)]) -> Result<Vec<(Name, LastTaken)>, Refusal>
+/// The window that was found, the empty one where there is none.
+pub(crate) fn window_in(found: &Option<Window>) -> Window
+    ensures { result ≡ unwrap_or found.now nothing_taken }
+{
+    match found {
+        Some(window) => window.copy(),
+        None => Window::new(),
+    }
+}
+
+// What sources weigh; 2^64 - 1 where it is more.
+fn weight_of_all(limits: Limits, entries: &[(Name, Window)]) -> u64
+    ensures { result ≡ min (total_of (window_weight limits) entries.now) (2 ^ 64 - 1) }
+{
+    let mut weight = 0u64;
+    for (_, window) in entries {
+        weight = weight.saturating_add(window.weight(limits));
+    }
+    weight
+}
+
+// What a number more of a source that has this adds to the weight: a source that is new, a number by which its window is longer, or
+// nothing where the lowest number of the window goes.
+fn weight_more(limits: Limits, found: &Option<Window>) -> u64
+    ensures more { result ≡ more_weight limits found.now }
+    ensures fits { Fits found.now }
+    ensures retry { limits.retry ≤ 8 }
+{
+    let retry = u64::from(limits.retry());
+    match found {
+        Some(window) => { if window.is_short() { retry } else { 0 } }
+        None => 64,
+    }
+}
+
+fn copy_of(alloc: Global, entries: &[(Name, Window)]) -> Result<Vec<(Name, Window)>, Refusal>
     ensures same { IfOk result (λ list. list.items ≡ entries.now) }
     ensures only { IsOkUnless result Refusal.NoMemory }
 {
     let mut list = Vec::new(alloc);
-    for (source, last) in entries {
-        list.push((source.copy(alloc)?, *last))?;
+    for (source, window) in entries {
+        list.push((source.copy(alloc)?, window.copy()))?;
     }
     Ok(list)
 }

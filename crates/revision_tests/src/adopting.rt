@@ -4,7 +4,7 @@ use crate::asking::{Row, What, after, doc, roomy};
 use crate::steps::{Step, delta_of};
 use document::Document;
 use refusal::Refusal;
-use revision::{Name, Sources, State};
+use revision::{Name, Sources, State, Window};
 use std::process::Abort;
 
 const X: What = What::Edit(4, &[Step::Plain("x")]);
@@ -37,7 +37,7 @@ fn adopt(
     let document = Document::from_delta(rt.alloc(), &delta).expect(rt, "a document");
     let mut sources = Sources::new(rt.alloc());
     let ann = Name::source(rt.alloc(), "ann").expect(rt, "a source");
-    sources.set(ann, 2, 3).expect(rt, "memory");
+    sources.put(ann, Window::of_one(2, 3)).expect(rt, "memory");
     state.adopt(rt.alloc(), doc(rt, name), document, revision, sources)
 }
 

@@ -7,6 +7,7 @@ ghost use Rattle.revision.specs.Agree.{Agree};
 ghost use Rattle.history.specs.Cell.{Pair};
 ghost use Rattle.history.specs.declared.pick.Pick as pick;
 ghost use Rattle.history.specs.Found.{StandFor};
+ghost use Rattle.history.specs.Shown.{Order};
 ghost use Rattle.history.specs.Running.{Runs};
 
 use history::laws;
@@ -29,7 +30,7 @@ pub fn revision_for(alloc: Global, state: &mut State, command: &Command) -> Resu
 
 /// Whichever cells the documents of a running store are read from, what is found agrees.
 pub fn either_cell()
-    ensures { (order : List Taken) (cells : List Pair) (entries : List Taken)
+    ensures { (order : Order) (cells : List Pair) (entries : List Taken)
         (state one other : spec.State) (a b : pick.Pick)
         → Runs order cells entries state → StandFor state.limits cells entries a one
         → StandFor state.limits cells entries b other → Agree one other }

@@ -1,6 +1,6 @@
 //! Edits and undos: which revision comes of them, and what stands in the document then.
 use crate::asking::Answer::{Again, Not, Now};
-use crate::asking::{Row, What, after, holds, made, roomy, small, taken_as};
+use crate::asking::{Row, What, after, asked, holds, made, roomy, small, taken_as};
 use crate::steps::Step;
 use refusal::Refusal;
 use std::process::Abort;
@@ -123,17 +123,44 @@ const NUMBERS: [Row; 11] = [
     ("a", "d", 2, Y, Now(2)),
     ("a", "d", 2, Y, Again(2)),
     ("a", "d", 2, What::Undo, Again(2)),
-    ("a", "d", 1, Y, Not(Refusal::OldNumber)),
+    ("a", "d", 1, Y, Again(1)),
     ("a", "d", 4, Y, Not(Refusal::Gap)),
     ("a", "d", 4, What::Undo, Not(Refusal::Gap)),
     ("a", "d", 2, Z, Again(2)),
-    ("a", "d", 1, Z, Not(Refusal::Exists)),
+    ("a", "d", 1, Z, Again(1)),
 ];
 
 #[test]
 fn numbers_of_one_source(rt: HostRuntime) {
     let state = after(&rt, small(&rt), &NUMBERS);
     holds(&rt, &state, "d 2 0\n");
+}
+
+/// Once 17 numbers of a source are taken its window has the last 16.
+const OF_17: [Row; 4] = [
+    ("a", "d", 2, Y, Again(2)),
+    ("a", "d", 17, Y, Again(17)),
+    ("a", "d", 1, Y, Not(Refusal::OldNumber)),
+    ("a", "d", 1, Z, Not(Refusal::Exists)),
+];
+
+/// Once one more is taken it has the second no longer.
+const OF_18: [Row; 4] = [
+    ("a", "d", 18, Y, Now(18)),
+    ("a", "d", 2, Y, Not(Refusal::OldNumber)),
+    ("a", "d", 3, Y, Again(3)),
+    ("a", "d", 18, Y, Again(18)),
+];
+
+#[test]
+fn a_window_has_16_numbers(rt: HostRuntime) {
+    let mut state = after(&rt, roomy(&rt, true), &[("a", "d", 1, Z, Now(1))]);
+    for number in 2..18u64 {
+        let row = ("a", "d", number, Y, Now(number));
+        asked(&rt, &mut state, &row);
+    }
+    let state = after(&rt, state, &OF_17);
+    after(&rt, state, &OF_18);
 }
 
 /// A letter is deleted, another inserted in front, the deletion taken back, and that taken back; at the end the other letter.

@@ -8,7 +8,7 @@ const Z: What = What::Create(&[Step::Plain("z")]);
 
 const Y: What = What::Edit(1, &[Step::Plain("y")]);
 
-/// One source writes: there is room for four units more, and for no second source.
+/// One source writes: there is room for a second number and three units more, and for no second source.
 const HEAVY: [Row; 4] = [
     ("a", "d", 1, Z, Now(1)),
     ("b", "d", 1, Y, Not(Refusal::TooHeavy)),
@@ -16,16 +16,24 @@ const HEAVY: [Row; 4] = [
         "a",
         "d",
         2,
-        What::Edit(1, &[Step::Plain("abcde")]),
+        What::Edit(1, &[Step::Plain("abcd")]),
         Not(Refusal::TooHeavy),
     ),
-    ("a", "d", 2, What::Edit(1, &[Step::Plain("abcd")]), Now(2)),
+    ("a", "d", 2, What::Edit(1, &[Step::Plain("abc")]), Now(2)),
+];
+
+/// Five units leave no room for a second number, also of an edit that changes nothing.
+const FULL: [Row; 2] = [
+    ("a", "d", 1, What::Create(&[Step::Plain("abcde")]), Now(1)),
+    ("a", "d", 2, What::Edit(1, &[]), Not(Refusal::TooHeavy)),
 ];
 
 #[test]
 fn an_edit_keeps_the_weight(rt: HostRuntime) {
     let state = after(&rt, small(&rt), &HEAVY);
     holds(&rt, &state, "d 2 0\n");
+    let state = after(&rt, small(&rt), &FULL);
+    holds(&rt, &state, "d 1 0\n");
 }
 
 /// Removals of names of ten bytes, and of one more; and how wide the edit's entry is.

@@ -75,10 +75,8 @@ fn replayed(rt: &(impl Abort + AllocGlobal), state: &State, revision: u64, steps
     }
     is_made(rt, &document, steps);
     let mut noted = 0;
-    for (_, last) in replay.sources.entries() {
-        if last.revision > noted {
-            noted = last.revision;
-        }
+    for (_, window) in replay.sources.entries() {
+        noted = noted.max(window.last_revision());
     }
     assert_eq!(rt; noted, revision);
 }

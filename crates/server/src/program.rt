@@ -5,6 +5,7 @@ use crate::deltas::print_answer;
 use crate::documents::dump;
 use clap::error::ErrorKind;
 use disk::{Fault, FileDisk};
+use migration::Old;
 use recovery::{OpenFault, Pick, Shape, Store};
 use refusal::Refusal;
 use server_threads::{serve_on, serve_streams};
@@ -110,11 +111,32 @@ fn invoke<
             let mut stream = Stream::new(output);
             dump(rt.alloc(), store.state(), &mut stream)
         }
+        Invocation::Migrate { old, new } => migrate(rt, old, new),
         Invocation::Delta(task) => {
             let mut stream = Stream::new(output);
             print_answer(rt.alloc(), task, &mut stream)
         }
     }
+}
+
+// Brings a store over. The new file is made where it is missing, once the old store is read.
+fn migrate<R: Files<File = File> + AllocGlobal>(
+    rt: &R,
+    old: &str,
+    new: &str,
+) -> Result<(), Failure> {
+    let mut from = FileDisk::open(rt, old)?;
+    let mut there = None;
+    if is_there(rt, new)? {
+        there = Some(FileDisk::open(rt, new)?);
+    }
+    let read = Old::read(rt.alloc(), &mut from)?;
+    let mut to = match there {
+        Some(disk) => disk,
+        None => FileDisk::create(rt, new, read.device_len())?,
+    };
+    read.put_on(rt.alloc(), &mut to)?;
+    Ok(())
 }
 
 // The numbers that the words leave out have their defaults.

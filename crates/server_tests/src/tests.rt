@@ -3,6 +3,7 @@ mod edits;
 mod files;
 mod going_on;
 mod lines;
+mod migrating;
 mod news;
 mod refusals;
 mod stops;

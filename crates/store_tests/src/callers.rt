@@ -18,7 +18,7 @@ ghost use Rattle.recovery.specs.Open.{FitsSlot, IsOpen, IsWithOrWithout, device_
 
 use disk::{Disk, Fault};
 use journal::{Area, Record};
-use milestone::{Cells, Job, Milestone, ReadCells, Uncomposed, compose_job};
+use milestone::{Cells, Format, Job, Milestone, ReadCells, Uncomposed, compose_job};
 use recovery::{Receipt, Store};
 use refusal::Refusal;
 use revision::Taken;
@@ -106,7 +106,7 @@ pub fn put_where_closed<D: Disk>(
     ensures synced { IfOk result (λ answer. OnSome answer (D.unsynced disk.new ≡ [])) }
     ensures both { IfOk result (λ answer. IfNone answer (HasOnlyRead ⟦<D as Disk>⟧ disk.old disk.new)) }
 {
-    let mut read = Cells::read_both(alloc, disk, place, size, number)?;
+    let mut read = Cells::read_both(alloc, disk, Format::Two, place, size, number)?;
     if read.first.is_some() && read.second.is_some() {
         return Ok(None);
     }

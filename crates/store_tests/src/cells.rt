@@ -8,44 +8,46 @@ use recovery::Pick;
 use std::process::Abort;
 
 /// A cell of document 0: its first revision, by the source a.
-const CELL: [u8; 57] = [
-    0xa5, 52, 0, 0, 0, // the gate, and the length of the body
+const CELL: [u8; 59] = [
+    0xa5, 54, 0, 0, 0, // the gate, and the length of the body
     0, 0, 0, 0, // document 0
     1, 0, b'd', // its name
     1, 0, 0, 0, 0, 0, 0, 0, // revision 1
+    1, // there is a document
     1, 0, 0, 0, 1, 1, 0, 0, 0, b'z', // one operation, an insert of the text z
     0, 0, 0, 0, // no attributes
     1, 0, 0, 0, // one source
     1, 0, b'a', // its name
     1, 0, 0, 0, 0, 0, 0, 0, // its last number
+    1, // one number in its window
     1, 0, 0, 0, 0, 0, 0, 0, // the revision of that one
 ];
 
 /// A cell of an empty document at revision 1, of two sources.
-const TWO_SOURCES: [u8; 66] = [
-    0xa5, 61, 0, 0, 0, // the gate, and the length of the body
+const TWO_SOURCES: [u8; 69] = [
+    0xa5, 64, 0, 0, 0, // the gate, and the length of the body
     0, 0, 0, 0, 1, 0, b'd', // document 0, d
-    1, 0, 0, 0, 0, 0, 0, 0, // revision 1
+    1, 0, 0, 0, 0, 0, 0, 0, 1, // revision 1
     0, 0, 0, 0, // no operations
     2, 0, 0, 0, // two sources
-    1, 0, b'a', 1, 0, 0, 0, 0, 0, 0, 0, 1, 0, 0, 0, 0, 0, 0, 0, //
-    1, 0, b'b', 1, 0, 0, 0, 0, 0, 0, 0, 1, 0, 0, 0, 0, 0, 0, 0, //
+    1, 0, b'a', 1, 0, 0, 0, 0, 0, 0, 0, 1, 1, 0, 0, 0, 0, 0, 0, 0, //
+    1, 0, b'b', 1, 0, 0, 0, 0, 0, 0, 0, 1, 1, 0, 0, 0, 0, 0, 0, 0, //
 ];
 
 /// A cell of document 0 whose text has five letters. With its source they weigh 124, of the 128 that are allowed.
-const LIGHT: [u8; 61] = [
-    0xa5, 56, 0, 0, 0, // the gate, and the length of the body
-    0, 0, 0, 0, 1, 0, b'd', 1, 0, 0, 0, 0, 0, 0, 0, // document 0, d, revision 1
+const LIGHT: [u8; 63] = [
+    0xa5, 58, 0, 0, 0, // the gate, and the length of the body
+    0, 0, 0, 0, 1, 0, b'd', 1, 0, 0, 0, 0, 0, 0, 0, 1, // document 0, d, revision 1
     1, 0, 0, 0, 1, 5, 0, 0, 0, b'a', b'b', b'c', b'd', b'e', 0, 0, 0, 0, // its text
-    1, 0, 0, 0, 1, 0, b'a', 1, 0, 0, 0, 0, 0, 0, 0, 1, 0, 0, 0, 0, 0, 0, 0, // its source
+    1, 0, 0, 0, 1, 0, b'a', 1, 0, 0, 0, 0, 0, 0, 0, 1, 1, 0, 0, 0, 0, 0, 0, 0, // its source
 ];
 
 /// The same with six letters, which weigh 136.
-const HEAVY: [u8; 62] = [
-    0xa5, 57, 0, 0, 0, //
-    0, 0, 0, 0, 1, 0, b'd', 1, 0, 0, 0, 0, 0, 0, 0, //
+const HEAVY: [u8; 64] = [
+    0xa5, 59, 0, 0, 0, //
+    0, 0, 0, 0, 1, 0, b'd', 1, 0, 0, 0, 0, 0, 0, 0, 1, //
     1, 0, 0, 0, 1, 6, 0, 0, 0, b'a', b'b', b'c', b'd', b'e', b'f', 0, 0, 0, 0, //
-    1, 0, 0, 0, 1, 0, b'a', 1, 0, 0, 0, 0, 0, 0, 0, 1, 0, 0, 0, 0, 0, 0, 0, //
+    1, 0, 0, 0, 1, 0, b'a', 1, 0, 0, 0, 0, 0, 0, 0, 1, 1, 0, 0, 0, 0, 0, 0, 0, //
 ];
 
 /// Where the superblock has the number of sources that are allowed.
@@ -58,11 +60,15 @@ const NAME: usize = 11;
 
 const REVISION: usize = 12;
 
-const TEXT: usize = 29;
+const MARK: usize = 20;
 
-const SOURCE_NUMBER: usize = 41;
+const TEXT: usize = 30;
 
-const SOURCE_REVISION: usize = 49;
+const SOURCE_NUMBER: usize = 42;
+
+const COUNT: usize = 50;
+
+const SOURCE_REVISION: usize = 51;
 
 /// The batch that puts x behind the z, as slot 0 holds it: a segment of number 1 with this record alone.
 const SLOT_HEAD: [u8; 14] = [0xa5, 1, 0, 0, 0, 0, 0, 0, 0, 0xa5, 55, 0, 0, 0];
@@ -93,11 +99,11 @@ fn with_edit(rt: &(impl Abort + AllocGlobal)) -> Vec<u8> {
 }
 
 /// Where a cell of document 0 has other bytes, and what the device is then opened as.
-const ROWS: [(usize, &[u8], &str); 11] = [
+const ROWS: [(usize, &[u8], &str); 15] = [
     (0, &[0xa5], "d 1 z\n"),
     (0, &[0x3c], ""),
-    (1, &[51], DAMAGED),
     (1, &[53], DAMAGED),
+    (1, &[55], DAMAGED),
     (NUMBER, &[1], DAMAGED),
     (REVISION, &[0], DAMAGED),
     (REVISION, &[0, 0, 0, 0, 0, 0, 32], DAMAGED),
@@ -106,7 +112,11 @@ const ROWS: [(usize, &[u8], &str); 11] = [
         &[255, 255, 255, 255, 255, 255, 31],
         "d 9007199254740991 z\n",
     ),
+    (MARK, &[0], DAMAGED),
+    (MARK, &[2], DAMAGED),
     (SOURCE_NUMBER, &[0], DAMAGED),
+    (COUNT, &[0], DAMAGED),
+    (COUNT, &[2], DAMAGED),
     (SOURCE_REVISION, &[2], DAMAGED),
     (TEXT, &[0xff], DAMAGED),
 ];
@@ -123,8 +133,8 @@ fn a_cell_is_read_as_it_is_spelled(rt: HostRuntime) {
 fn sources_of_a_cell_are_in_order(rt: HostRuntime) {
     let device = with_bytes_at(&rt, &empty(&rt), 64, &TWO_SOURCES);
     is_opened_as(&rt, &device, "d 1 \n");
-    is_opened_as(&rt, &with_bytes_at(&rt, &device, 64 + 30, b"b"), DAMAGED);
-    is_opened_as(&rt, &with_bytes_at(&rt, &device, 64 + 30, b"c"), DAMAGED);
+    is_opened_as(&rt, &with_bytes_at(&rt, &device, 64 + 31, b"b"), DAMAGED);
+    is_opened_as(&rt, &with_bytes_at(&rt, &device, 64 + 31, b"c"), DAMAGED);
 }
 
 // Of two open cells the picked one alone has to keep the limit of weight.

@@ -15,7 +15,7 @@ const SEEDS: [u64; 2] = [5, 6];
 // The last number of a source in a document.
 fn number_of(rt: &(impl Abort + AllocGlobal), record: &DocState, source: &str) -> u64 {
     let source = Name::source(rt.alloc(), source).expect(rt, "a source");
-    record.last(&source).number
+    record.window(&source).number()
 }
 
 // A document as a line of its name, its revision, its text, and the last numbers of the sources a and b.

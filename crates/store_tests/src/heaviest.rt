@@ -10,11 +10,11 @@ use revision::{Command, Name};
 use std::process::Abort;
 
 /// The cell of document 0, whose text is abcd with a bold a.
-const HEAVIEST: [u8; 76] = [
-    0xa5, 71, 0, 0, 0, // the gate, and the length of the body
+const HEAVIEST: [u8; 78] = [
+    0xa5, 73, 0, 0, 0, // the gate, and the length of the body
     0, 0, 0, 0, // document 0
     1, 0, b'd', // its name
-    1, 0, 0, 0, 0, 0, 0, 0, // revision 1
+    1, 0, 0, 0, 0, 0, 0, 0, 1, // revision 1, and it is there
     2, 0, 0, 0, // two operations
     1, 1, 0, 0, 0, b'a', // an insert of the text a
     1, 0, 0, 0, 4, 0, b'b', b'o', b'l', b'd', 2, // one attribute, true
@@ -23,7 +23,7 @@ const HEAVIEST: [u8; 76] = [
     1, 0, 0, 0, // one source
     1, 0, b'a', // its name
     1, 0, 0, 0, 0, 0, 0, 0, // its last number
-    1, 0, 0, 0, 0, 0, 0, 0, // the revision of that one
+    1, 1, 0, 0, 0, 0, 0, 0, 0, // one number in its window, and its revision
 ];
 
 // An insert of a text.

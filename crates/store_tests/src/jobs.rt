@@ -10,7 +10,7 @@ use disk::{Disk, Left};
 use milestone::{Job, Milestone, compose_job};
 use recovery::{Pick, Store};
 use refusal::Refusal;
-use revision::{LastTaken, Name};
+use revision::{Name, Window};
 use std::process::Abort;
 
 // Asks for a job.
@@ -43,11 +43,11 @@ pub fn inserts(delta: &Delta, wanted: &str) -> bool {
 }
 
 // The only source is `a`, whose last number made the revision of that number.
-fn is_only_source(rt: &impl Abort, sources: &[(Name, LastTaken)], revision: u64) {
+fn is_only_source(rt: &impl Abort, sources: &[(Name, Window)], revision: u64) {
     assert_eq!(rt; sources.len(), 1);
-    for (name, last) in sources {
+    for (name, window) in sources {
         is_text(rt, name.as_str(), "a");
-        assert!(rt; last.number == revision && last.revision == revision);
+        assert!(rt; window.number() == revision && window.last_revision() == revision);
     }
 }
 
@@ -112,7 +112,7 @@ fn a_job_has_the_sources_of_its_revision(rt: HostRuntime) {
     }
     has_documents(&rt, store.state(), "d 3 qxz\n");
     has_jobs(&rt, &mut store, &JOBS);
-    change(&rt, &mut store, &(4, 3, "w", "taken 4"));
+    change(&rt, &mut store, &(4, 3, "", "taken 4"));
     has_jobs(&rt, &mut store, &JOBS_BEHIND);
 }
 

@@ -17,7 +17,7 @@ use crate::stores::{
 };
 use crate::upkeep::DELETION;
 use disk::{Disk, FaultDisk, FaultPlan, Left, MemDisk};
-use milestone::{Cells, Composed, Job, Milestone, ReadCells, compose_job};
+use milestone::{Cells, Composed, Format, Job, Milestone, ReadCells, compose_job};
 use recovery::{Pick, Store};
 use refusal::Refusal;
 use std::process::Abort;
@@ -171,7 +171,7 @@ fn cells_of(rt: &(impl Abort + AllocGlobal), disk: &mut MemDisk) -> ReadCells
     ensures known { IsReadAs 64 256 0 result }
     ensures same { bytes_of disk.new ≡ bytes_of disk.old }
 {
-    match Cells::read_both(rt.alloc(), disk, 64, 256, 0) {
+    match Cells::read_both(rt.alloc(), disk, Format::Two, 64, 256, 0) {
         Ok(read) => read,
         Err(refusal) => panic!(rt; "{refusal}"),
     }
@@ -219,7 +219,7 @@ fn a_milestone_is_put_where_a_cell_is_closed(rt: HostRuntime) {
 const EDITS_BEHIND: [EditRow; 3] = [
     (4, 1, "w", "error 13 TooOld"),
     (4, 4, "w", "error 12 Future"),
-    (4, 2, "w", "taken 4"),
+    (4, 2, "", "taken 4"),
 ];
 
 #[test]
@@ -235,7 +235,7 @@ fn edits_behind_a_milestone(rt: HostRuntime) {
     for row in &EDITS_BEHIND {
         change(&rt, &mut store, row);
     }
-    has_documents(&rt, store.state(), "d 4 qwxz\n");
+    has_documents(&rt, store.state(), "d 4 qxz\n");
 }
 
 // Both cells are open, and the put goes wrong at a call of it, counted from 0.

@@ -9,7 +9,7 @@ use std::process::Abort;
 
 /// The places 0 to 32 of a small device: the gate, the letters, and the six numbers.
 const SUPERBLOCK: [u8; 33] = [
-    0xa5, b'Q', b'D', b'S', b'T', b'O', b'R', b'E', b'1', 2, 0, 0, 0, 0, 1, 0, 0, 2, 0, 0, 0, 0, 1,
+    0xa5, b'Q', b'D', b'S', b'T', b'O', b'R', b'E', b'2', 2, 0, 0, 0, 0, 1, 0, 0, 2, 0, 0, 0, 0, 1,
     0, 0, 4, 0, 0, 0, 2, 0, 0, 0,
 ];
 
@@ -20,6 +20,10 @@ fn a_store_begins_without_documents(rt: HostRuntime) {
     differ_by(&rt, bytes, &[0; 1_600], 0, &SUPERBLOCK);
     is_opened_as(&rt, bytes, "");
     is_opened_as(&rt, &[0; 1_600], "error 30 NotFormatted");
+    // The first format, whatever stands behind its letters.
+    is_opened_with(&rt, bytes, 8, b"1", "error 38 OldFormat");
+    is_opened_with(&rt, bytes, 8, b"1\0\0\0\0", "error 38 OldFormat");
+    is_opened_with(&rt, bytes, 8, b"3", "error 32 Damaged");
     // The last byte is missing, and there is one more.
     is_opened_as(&rt, part(&rt, bytes, 0, 1_599), "error 32 Damaged");
     is_opened_with(&rt, bytes, 1_600, &[0xa5], "");

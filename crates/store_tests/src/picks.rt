@@ -5,21 +5,21 @@ use recovery::Pick;
 use std::process::Abort;
 
 // The source "a" created "d" with "z": the cell's gate, the body's length, the body.
-pub const FIRST: [u8; 57] = [
-    0xa5, 52, 0, 0, 0, // the gate, the length
-    0, 0, 0, 0, 1, 0, b'd', 1, 0, 0, 0, 0, 0, 0, 0, // the document, its name, the revision
+pub const FIRST: [u8; 59] = [
+    0xa5, 54, 0, 0, 0, // the gate, the length
+    0, 0, 0, 0, 1, 0, b'd', 1, 0, 0, 0, 0, 0, 0, 0, 1, // the document, its name, the revision
     1, 0, 0, 0, 1, 1, 0, 0, 0, b'z', 0, 0, 0, 0, // the content
     1, 0, 0, 0, 1, 0, b'a', // the count of sources, a name
-    1, 0, 0, 0, 0, 0, 0, 0, 1, 0, 0, 0, 0, 0, 0, 0, // its number and its revision
+    1, 0, 0, 0, 0, 0, 0, 0, 1, 1, 0, 0, 0, 0, 0, 0, 0, // its number, and its window: one revision
 ];
 
-// It then appended "x".
-pub const SECOND: [u8; 58] = [
-    0xa5, 53, 0, 0, 0, //
-    0, 0, 0, 0, 1, 0, b'd', 2, 0, 0, 0, 0, 0, 0, 0, //
+// It then appended "x". Its window has both numbers.
+pub const SECOND: [u8; 68] = [
+    0xa5, 63, 0, 0, 0, //
+    0, 0, 0, 0, 1, 0, b'd', 2, 0, 0, 0, 0, 0, 0, 0, 1, //
     1, 0, 0, 0, 1, 2, 0, 0, 0, b'z', b'x', 0, 0, 0, 0, //
     1, 0, 0, 0, 1, 0, b'a', //
-    2, 0, 0, 0, 0, 0, 0, 0, 2, 0, 0, 0, 0, 0, 0, 0,
+    2, 0, 0, 0, 0, 0, 0, 0, 2, 1, 0, 0, 0, 0, 0, 0, 0, 2, 0, 0, 0, 0, 0, 0, 0,
 ];
 
 // The gate and the number of slot 0, and the gate and the length of the record, whose body is the edit.
@@ -41,14 +41,14 @@ const ROWS: [(usize, &[u8], &str, &str); 12] = [
     (320, &[0], "d 2 zx\n", "d 2 zx\n"),
     (1_088, &[0], "d 2 zx\n", "d 1 z\n"),
     // What the newer cell has is seen by the newer pick alone.
-    (350, b"y", "d 2 zy\n", "d 2 zx\n"),
+    (351, b"y", "d 2 zy\n", "d 2 zx\n"),
     // The entry doesn't follow what the older cell knows of the source.
-    (105, &[7], "d 2 zx\n", "error 32 Damaged"),
+    (106, &[7], "d 2 zx\n", "error 32 Damaged"),
     // No milestone of this document: a length, a number, a revision of 0, and a source's that is above it.
-    (65, &[53], "error 32 Damaged", "error 32 Damaged"),
+    (65, &[55], "error 32 Damaged", "error 32 Damaged"),
     (69, &[1], "error 32 Damaged", "error 32 Damaged"),
     (76, &[0], "error 32 Damaged", "error 32 Damaged"),
-    (113, &[2], "error 32 Damaged", "error 32 Damaged"),
+    (115, &[2], "error 32 Damaged", "error 32 Damaged"),
     // A name with a blank, and a gate that is open over nothing.
     (75, b" ", "error 32 Damaged", "error 32 Damaged"),
     (576, &[0xa5], "error 32 Damaged", "error 32 Damaged"),

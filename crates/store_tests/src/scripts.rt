@@ -10,12 +10,12 @@ use recovery::{Shape, Store, StoreStep};
 use refusal::Refusal;
 use std::process::Abort;
 
-/// A shape of 3,904 bytes: three slots, of which each takes two to five batches.
+/// A shape of 4,672 bytes: three slots, of which each takes two to five batches.
 const SHAPE: Shape = Shape {
     slots: 3,
     slot: 256,
     docs: 3,
-    cell: 512,
+    cell: 640,
     sources: 2,
     keep: 2,
 };
@@ -73,7 +73,7 @@ impl Numbers {
 
 /// A formatted device for scripts, of which no call was made.
 pub fn script_device(rt: &(impl Abort + AllocGlobal)) -> MemDisk {
-    device_of(rt, formatted_device(rt, 3_904, SHAPE).bytes())
+    device_of(rt, formatted_device(rt, 4_672, SHAPE).bytes())
 }
 
 // A change's entry in its batch, byte for byte.

@@ -75,8 +75,8 @@ fn run<D: Disk + Drop>(
 // The last change of a document is number 5 of its source.
 fn is_last_of(rt: &(impl Abort + AllocGlobal), record: &DocState) {
     let source = Name::source(rt.alloc(), "a").expect(rt, "a source");
-    let last = record.last(&source);
-    assert!(rt; last.number == 5 && last.revision == 5);
+    let window = record.window(&source);
+    assert!(rt; window.number() == 5 && window.last_revision() == 5);
 }
 
 // By a pick the document's last change is number 5 of its source.

@@ -10,7 +10,7 @@ use std::env::{self, Env};
 use std::io;
 
 /// The version of the program, which `richd --version` prints behind its name.
-const VERSION: &str = "0.1.0";
+const VERSION: &str = "0.2.0";
 
 /// What the words ask for.
 #[derive(Clone, Copy, Debug, PartialEq, Eq)]
@@ -33,6 +33,11 @@ pub enum Invocation<'a> {
     Dump {
         path: &'a str,
         older: bool,
+    },
+    /// To bring the store of the first format in one file over to another file.
+    Migrate {
+        old: &'a str,
+        new: &'a str,
     },
     /// To print what comes of two deltas.
     Delta(Task<'a>),
@@ -62,6 +67,10 @@ impl<'a> Invocation<'a> {
                 listen: store::listen_in(given),
                 every: store::every_in(given),
             },
+            Some(("migrate", given)) => {
+                let (old, new) = store::files_in(given);
+                Invocation::Migrate { old, new }
+            }
             Some((_, given)) => Invocation::Dump {
                 path: store::path_in(given),
                 older: store::is_older(given),
@@ -101,6 +110,7 @@ fn with_subcommands<'a>(alloc: Global, richd: Command<'a>) -> Result<Command<'a>
     let richd = richd.subcommand(store::format(alloc)?)?;
     let richd = richd.subcommand(store::serve(alloc)?)?;
     let richd = richd.subcommand(store::dump(alloc)?)?;
+    let richd = richd.subcommand(store::migrate(alloc)?)?;
     richd.subcommand(delta(alloc))
 }
 

@@ -1,4 +1,4 @@
-//! The words of the commands on a store: `format`, `serve` and `dump`.
+//! The words of the commands on a store: `format`, `serve`, `dump` and `migrate`.
 use crate::arguments::{with_choice, with_count, with_number, with_text, with_word};
 use clap::{ArgMatches, Command};
 use std::alloc::{AllocError, Global};
@@ -60,6 +60,28 @@ pub fn dump<'a>(alloc: Global) -> Result<Command<'a>, AllocError> {
     let dump = with_path(alloc, dump)?;
     let help = "Of two milestones of a document, the one to begin with [default: newer]";
     with_choice(alloc, dump, "pick", &PICKS, help)
+}
+
+/// Brings a store of the first format over.
+pub fn migrate<'a>(alloc: Global) -> Result<Command<'a>, AllocError> {
+    let migrate = Command::new(alloc, "migrate").about(
+        "Brings a store of the first format over to a file, and makes that where it is missing",
+    );
+    let migrate = with_word(
+        alloc,
+        migrate,
+        "OLD",
+        "The file that holds the store of the first format",
+    )?;
+    with_word(alloc, migrate, "NEW", "The file for the new store")
+}
+
+/// The files that were given to `migrate`, the old one and the new one.
+pub fn files_in<'a>(given: &ArgMatches<'a>) -> (&'a str, &'a str) {
+    (
+        given.get_str("OLD").unwrap_or(""),
+        given.get_str("NEW").unwrap_or(""),
+    )
 }
 
 /// The file that was given.

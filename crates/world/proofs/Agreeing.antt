@@ -11,7 +11,7 @@ use Rattle.revision.specs.Agree.{DocumentsAgree, PlacesAgree}
 use Rattle.world.specs.Board.{Ticket, can_take, can_settle, can_ack}
 use Rattle.world.specs.Event.{Done, Failed, Stopped, Event, Submit, Take, Device, Publish, Settle, Ack, Compose, Crash, Open, Resend}
 use Rattle.world.specs.World.{Entry, entry_of, takens, World, begun, last_sent, last_composed}
-use Rattle.world.specs.Step.{keeping_all, whole, with_floors, may_begin_at, may_pick, is_numbered, with_command, is_written, written, acknowledged, may_leave, stopped, opened, can_open, running_step, crashed_step, step, run}
+use Rattle.world.specs.Step.{keeping_all, whole, with_floors, may_begin_at, may_pick, is_numbered, is_among_last, with_command, is_written, written, acknowledged, may_leave, stopped, opened, can_open, running_step, crashed_step, step, run}
 use Rattle.world.specs.Law.{OverAll, StateAgrees}
 use Rattle.world.proofs.Pasts.{newest-from_floor, units-from_floor, sources-from_floor}
 use Rattle.revision.specs.Floors.{longer}
@@ -160,7 +160,7 @@ module _ (world : World) (cut : IsCutWorld world) where
 
   running-cut : (event : Event) → IsCutWorld (running_step world event)
   running-cut (Submit command) = cond_both (is_numbered command) (with_command world command) world IsCutWorld (λ e. answered-cut command (answer world.board.state command)) (λ e. cut)
-  running-cut (Resend command) = cond_both (is_numbered command && (command.number == last_sent command.name command.source world.sent)) (with_command world command) world IsCutWorld
+  running-cut (Resend command) = cond_both (is_numbered command && is_among_last command.number (last_sent command.name command.source world.sent)) (with_command world command) world IsCutWorld
       (λ e. answered-cut command (answer world.board.state command)) (λ e. cut)
   running-cut (Take count) = cond_both (can_take world.board count && (world.board.settled == world.board.taken)) _ world IsCutWorld (λ e. cut) (λ e. cut)
   running-cut (Device Done) = cond_both (is_written world) (written world Done) world IsCutWorld (λ e. cut) (λ e. cut)

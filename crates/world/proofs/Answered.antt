@@ -1,6 +1,6 @@
 -- What an answer tells of a source's numbers.
 use Rattle.std.proofs.Common.{◌≡◌, ℕ, suc, ◌+◌, ◌-◌, ◌≤◌, Bool, true, false, cond, ◌&&◌, List, [], ◌∷◌, length, map, Option, Some, None, refl, sym, ap, ◌∙◌, subst, arith}
-use Rattle.std.specs.Prelude.{◌==◌, not, nat_lt, nat_le, bytes_eq}
+use Rattle.std.specs.Prelude.{◌==◌, not, nat_lt, nat_le, bytes_eq, slice_get}
 use Rattle.std.proofs.lemmas.Bool.Decides.{nat_tests}
 use Rattle.std.proofs.lemmas.List.{length-map}
 use Rattle.std.proofs.lemmas.Option.{some_pair_parts}
@@ -13,12 +13,12 @@ use Rattle.revision.specs.State.{reaches_past, Limits, DocumentRecord, State, re
 use Rattle.revision.specs.Parting.{parts_pair}
 use Rattle.revision.specs.Late.{late}
 use Rattle.revision.specs.Past.{undo_of, deltas_of, deltas_above}
-use Rattle.revision.specs.declared.sources.LastTaken.{LastTaken}
-use Rattle.revision.specs.Sources.{Sources, last_of}
-use Rattle.revision.specs.Acceptance.{Answer, Takes, Repeats, Refuses, take_on, creation, next_revision, change, edit, undo, by_number, answer_to, answer}
+use Rattle.revision.specs.Window.{Window, nothing_taken, revision_in, last_revision}
+use Rattle.revision.specs.Sources.{Sources, window_of}
+use Rattle.revision.specs.Acceptance.{Answer, Takes, Repeats, Refuses, take_on, creation, next_revision, change, edit, undo, by_retry, create_existing, by_number, answer_to, answer}
 use Rattle.world.specs.World.{entry_of}
 use Rattle.world.specs.Shown.{Shown, shown, all_shown}
-use Rattle.world.proofs.Numbers.{last_in, nothing_yet, IsNew, IsNextAt, Placed}
+use Rattle.world.proofs.Numbers.{window_in, IsNew, IsNextAt, Placed}
 
 -- where a test answers otherwise, what is taken is not stopped by it
 passed : (b : Bool) (other next : Answer) (taken : Taken) → (other ≡ Takes taken → ⊥) → cond b other next ≡ Takes taken → (b ≡ false) × (next ≡ Takes taken)
@@ -35,7 +35,7 @@ taken_same : (limits : Limits) (units : List Element) (sources : Sources) (asked
 taken_same limits units sources asked taken h =
     let past = passed (reaches_past asked.delta units) (Refuses PastEnd) _ taken (λ e. cc) h in
     let cut = passed (parts_pair asked.delta units) (Refuses CutsPair) _ taken (λ e. cc) past.1 in
-    let heavy = passed (nat_lt limits.weight (weight_after units sources asked)) (Refuses TooHeavy) _ taken (λ e. cc) cut.1 in
+    let heavy = passed (nat_lt limits.weight (weight_after limits units sources asked)) (Refuses TooHeavy) _ taken (λ e. cc) cut.1 in
     let wide = passed (nat_lt limits.width (width_of asked)) (Refuses TooWide) _ taken (λ e. cc) heavy.1 in
     cc
 
@@ -44,19 +44,19 @@ taken_anew : (limits : Limits) (units : List Element) (sources : Sources) (asked
 taken_anew limits units sources asked revision h =
     let past = asked_again (reaches_past asked.delta units) (Refuses PastEnd) _ revision (λ e. cc) h in
     let cut = asked_again (parts_pair asked.delta units) (Refuses CutsPair) _ revision (λ e. cc) past.1 in
-    let heavy = asked_again (nat_lt limits.weight (weight_after units sources asked)) (Refuses TooHeavy) _ revision (λ e. cc) cut.1 in
+    let heavy = asked_again (nat_lt limits.weight (weight_after limits units sources asked)) (Refuses TooHeavy) _ revision (λ e. cc) cut.1 in
     let wide = asked_again (nat_lt limits.width (width_of asked)) (Refuses TooWide) _ revision (λ e. cc) heavy.1 in
     cc
 
-pub found-last : (name source : List ℕ) (k number : ℕ) (documents : List DocumentRecord) (found : DocumentRecord) → find name k documents ≡ Some (number, found)
-    → last_in name source (map shown documents) ≡ last_of source (sources_of found)
-found-last name source k number [] found h = cc
-found-last name source k number (first ∷ others) found h = by_test (λ e. found-last name source (k + 1) number others found e) (bytes_eq first.name name) h
+pub found-window : (name source : List ℕ) (k number : ℕ) (documents : List DocumentRecord) (found : DocumentRecord) → find name k documents ≡ Some (number, found)
+    → window_in name source (map shown documents) ≡ window_of source (sources_of found)
+found-window name source k number [] found h = cc
+found-window name source k number (first ∷ others) found h = by_test (λ e. found-window name source (k + 1) number others found e) (bytes_eq first.name name) h
   where
-    by_test : (find name (k + 1) others ≡ Some (number, found) → last_in name source (map shown others) ≡ last_of source (sources_of found)) → (b : Bool)
+    by_test : (find name (k + 1) others ≡ Some (number, found) → window_in name source (map shown others) ≡ window_of source (sources_of found)) → (b : Bool)
         → cond b (Some (k, first)) (find name (k + 1) others) ≡ Some (number, found)
-        → cond b (last_of source (sources_of first)) (last_in name source (map shown others)) ≡ last_of source (sources_of found)
-    by_test further true e = ap (λ (d : DocumentRecord). last_of source (sources_of d)) (some_pair_parts k number first found e).1
+        → cond b (window_of source (sources_of first)) (window_in name source (map shown others)) ≡ window_of source (sources_of found)
+    by_test further true e = ap (λ (d : DocumentRecord). window_of source (sources_of d)) (some_pair_parts k number first found e).1
     by_test further false e = further e
 
 pub none-new : (name : List ℕ) (k : ℕ) (documents : List DocumentRecord) → find name k documents ≡ None → IsNew name (map shown documents)
@@ -68,9 +68,9 @@ none-new name k (first ∷ others) h = by_test (λ e. none-new name (k + 1) othe
     by_test further true is e = absurd (cc)
     by_test further false is e = (is, further e)
 
-pub new-last : (name source : List ℕ) (documents : List Shown) → IsNew name documents → last_in name source documents ≡ nothing_yet
-new-last name source [] new = refl
-new-last name source (first ∷ others) new = ap (λ b. cond b (last_of source first.sources) (last_in name source others)) new.0 ∙ new-last name source others new.1
+pub new-window : (name source : List ℕ) (documents : List Shown) → IsNew name documents → window_in name source documents ≡ nothing_taken
+new-window name source [] new = refl
+new-window name source (first ∷ others) new = ap (λ b. cond b (window_of source first.sources) (window_in name source others)) new.0 ∙ new-window name source others new.1
 
 found-at : (name : List ℕ) (revision k number : ℕ) (documents : List DocumentRecord) (found : DocumentRecord) → find name k documents ≡ Some (number, found)
     → revision ≡ revision_of found + 1 → (k ≤ number) × IsNextAt name revision (number - k) (map shown documents)
@@ -89,52 +89,50 @@ found-at name revision k number (first ∷ others) found h next = by_test (λ e.
         let one : number - k ≡ suc (number - (k + 1)) = omega (arith, more.0) in
         (omega (arith, more.0), subst (λ n. IsNextAt name revision n (shown first ∷ map shown others)) (sym one) (is, more.1))
 
+-- what is no retry is what comes next
+not_again : (found : Option ℕ) (next : Answer) (taken : Taken) → by_retry found next ≡ Takes taken → next ≡ Takes taken
+not_again None next taken h = h
+not_again (Some revision) next taken h = absurd (cc)
+
 -- the number is the source's next one
-number_next : (last : LastTaken) (number : ℕ) (next : Answer) (taken : Taken) → 1 ≤ number → by_number last number next ≡ Takes taken
-    → (number ≡ last.number + 1) × (next ≡ Takes taken)
-number_next last number next taken some h =
-    let again = passed (nat_lt 0 last.number && (number == last.number)) (Repeats last.revision) _ taken (λ e. cc) h in
-    let old = passed (nat_lt number last.number) (Refuses OldNumber) _ taken (λ e. cc) again.1 in
-    let gap = passed (nat_lt (last.number + 1) number) (Refuses Gap) _ taken (λ e. cc) old.1 in
-    (next_of last.number number some again.0 old.0 gap.0, gap.1)
+number_next : (window : Window) (number : ℕ) (next : Answer) (taken : Taken) → by_number window number next ≡ Takes taken
+    → (number ≡ window.number + 1) × (next ≡ Takes taken)
+number_next window number next taken h =
+    let new = not_again (revision_in number window) _ taken h in
+    let old = passed (nat_le number window.number) (Refuses OldNumber) _ taken (λ e. cc) new in
+    let gap = passed (nat_lt (window.number + 1) number) (Refuses Gap) _ taken (λ e. cc) old.1 in
+    (next_of window.number number old.0 gap.0, gap.1)
   where
-    next_of : (n number : ℕ) → 1 ≤ number → (nat_lt 0 n && (number == n)) ≡ false → nat_lt number n ≡ false → nat_lt (n + 1) number ≡ false → number ≡ n + 1
-    next_of n number some again old gap = grind (arith, nat_tests)
+    next_of : (n number : ℕ) → nat_le number n ≡ false → nat_lt (n + 1) number ≡ false → number ≡ n + 1
+    next_of n number old gap = grind (arith, nat_tests)
 
-repeated_revision : Answer → ℕ
-repeated_revision (Takes taken) = 0
-repeated_revision (Repeats revision) = revision
-repeated_revision (Refuses refusal) = 0
+-- where nothing that comes next is a retry, the revision is that which the number made
+by_found : (found : Option ℕ) (next : Answer) (revision : ℕ) → (next ≡ Repeats revision → ⊥) → by_retry found next ≡ Repeats revision → found ≡ Some revision
+by_found None next revision anew h = absurd (anew h)
+by_found (Some made) next revision anew h = cc
 
-last_made : (last : LastTaken) (number revision : ℕ) → number ≡ last.number → last.revision ≡ revision → last ≡ record { number = number; revision = revision }
-last_made last number revision n r = λ i. record { number = sym n i; revision = r i }
-
--- the number is the source's last one
-number_last : (last : LastTaken) (number revision : ℕ) (next : Answer) → (next ≡ Repeats revision → ⊥) → by_number last number next ≡ Repeats revision
-    → last ≡ record { number = number; revision = revision }
-number_last last number revision next anew h = by_test (nat_lt 0 last.number && (number == last.number)) refl h
+-- the number made this revision
+number_made : (window : Window) (number revision : ℕ) (next : Answer) → (next ≡ Repeats revision → ⊥) → by_number window number next ≡ Repeats revision
+    → revision_in number window ≡ Some revision
+number_made window number revision next anew h = by_found (revision_in number window) _ revision fresh h
   where
-    is_last : (n m : ℕ) → (nat_lt 0 n && (m == n)) ≡ true → m ≡ n
-    is_last n m e = grind (arith, nat_tests)
+    fresh : cond (nat_le number window.number) (Refuses OldNumber) (cond (nat_lt (window.number + 1) number) (Refuses Gap) next) ≡ Repeats revision → ⊥
+    fresh e =
+        let old = asked_again (nat_le number window.number) (Refuses OldNumber) _ revision (λ e. cc) e in
+        let gap = asked_again (nat_lt (window.number + 1) number) (Refuses Gap) next revision (λ e. cc) old.1 in
+        anew gap.1
 
-    by_test : (b : Bool) → (nat_lt 0 last.number && (number == last.number)) ≡ b
-        → cond b (Repeats last.revision) (cond (nat_lt number last.number) (Refuses OldNumber) (cond (nat_lt (last.number + 1) number) (Refuses Gap) next)) ≡ Repeats revision
-        → last ≡ record { number = number; revision = revision }
-    by_test true e h = last_made last number revision (is_last last.number number e) (cc)
-    by_test false e h =
-        let old = asked_again (nat_lt number last.number) (Refuses OldNumber) _ revision (λ e. cc) h in
-        let gap = asked_again (nat_lt (last.number + 1) number) (Refuses Gap) next revision (λ e. cc) old.1 in
-        absurd (anew gap.1)
-
-is_again : (number : ℕ) → 1 ≤ number → (nat_lt 0 number && (number == number)) ≡ true
-is_again number some = grind (arith, nat_tests)
+-- and a number that made a revision is a retry
+number_again : (window : Window) (number revision : ℕ) (next : Answer) → revision_in number window ≡ Some revision → by_number window number next ≡ Repeats revision
+number_again window number revision next is =
+    ap (λ made. by_retry made (cond (nat_le number window.number) (Refuses OldNumber) (cond (nat_lt (window.number + 1) number) (Refuses Gap) next))) is
 
 -- where the document of the command's name is found
 module _ (state : State) (number : ℕ) (found : DocumentRecord) (command : Command) (there : find command.name 0 state.documents ≡ Some (number, found)) where
-  own_last : last_in command.name command.source (all_shown state) ≡ last_of command.source (sources_of found)
-  own_last = found-last command.name command.source 0 number state.documents found there
+  own_window : window_in command.name command.source (all_shown state) ≡ window_of command.source (sources_of found)
+  own_window = found-window command.name command.source 0 number state.documents found there
 
-  next_placed : (delta : List Operation) (taken : Taken) → command.number ≡ (last_of command.source (sources_of found)).number + 1
+  next_placed : (delta : List Operation) (taken : Taken) → command.number ≡ (window_of command.source (sources_of found)).number + 1
       → change state number found command delta ≡ Takes taken → Placed (all_shown state) (entry_of command taken)
   next_placed delta taken next h =
       let spent = passed (revision_of found == last_of_all) (Refuses RevisionsSpent) _ taken (λ e. cc) h in
@@ -142,16 +140,16 @@ module _ (state : State) (number : ℕ) (found : DocumentRecord) (command : Comm
       subst (λ t. Placed (all_shown state) (entry_of command t)) same (record {
         source = refl;
         number = refl;
-        next = next ∙ ap (λ (l : LastTaken). l.number + 1) (sym own_last);
+        next = next ∙ ap (λ (w : Window). w.number + 1) (sym own_window);
         place = subst (λ n. IsNextAt command.name (revision_of found + 1) n (all_shown state)) whole (found-at command.name (revision_of found + 1) 0 number state.documents found there refl).1;
       })
     where
       whole : number - 0 ≡ number
       whole = omega arith
 
-  existing_takes : (b : Bool) (revision : ℕ) (taken : Taken) → cond b (Repeats revision) (Refuses Exists) ≡ Takes taken → ⊥
-  existing_takes true revision taken h = cc
-  existing_takes false revision taken h = cc
+  existing_takes : (found : Option ℕ) (taken : Taken) → by_retry found (Refuses Exists) ≡ Takes taken → ⊥
+  existing_takes None taken h = cc
+  existing_takes (Some revision) taken h = cc
 
   edit_change : (base : ℕ) (delta : List Operation) (taken : Taken) → edit state number found command base delta ≡ Takes taken
       → change state number found command (late delta (deltas_above found.past base)) ≡ Takes taken
@@ -161,20 +159,20 @@ module _ (state : State) (number : ℕ) (found : DocumentRecord) (command : Comm
       (passed (nat_lt base found.past.floor) (Refuses TooOld) _ taken (λ e. cc) future.1).1
 
   undo_change : (taken : Taken) → undo state number found command ≡ Takes taken
-      → change state number found command (undo_of found.past.floor found.past.content.units (deltas_of found.past) (last_of command.source (sources_of found)).revision) ≡ Takes taken
+      → change state number found command (undo_of found.past.floor found.past.content.units (deltas_of found.past) (last_revision (window_of command.source (sources_of found)))) ≡ Takes taken
   undo_change taken h =
-      let none = passed ((last_of command.source (sources_of found)).number == 0) (Refuses NothingToUndo) _ taken (λ e. cc) h in
-      (passed (nat_le (last_of command.source (sources_of found)).revision found.past.floor) (Refuses TooOld) _ taken (λ e. cc) none.1).1
+      let none = passed ((window_of command.source (sources_of found)).number == 0) (Refuses NothingToUndo) _ taken (λ e. cc) h in
+      (passed (nat_le (last_revision (window_of command.source (sources_of found))) found.past.floor) (Refuses TooOld) _ taken (λ e. cc) none.1).1
 
   found_placed : (action : Action) (taken : Taken) → 1 ≤ command.number → answer_to state command action (Some (number, found)) ≡ Takes taken
       → Placed (all_shown state) (entry_of command taken)
-  found_placed (Create delta) taken some h = absurd (existing_takes _ _ taken h)
+  found_placed (Create delta) taken some h = absurd (existing_takes _ taken h)
   found_placed (Edit base delta) taken some h =
-      let next = number_next (last_of command.source (sources_of found)) command.number (edit state number found command base delta) taken some h in
+      let next = number_next (window_of command.source (sources_of found)) command.number (edit state number found command base delta) taken h in
       next_placed (late delta (deltas_above found.past base)) taken next.0 (edit_change base delta taken next.1)
   found_placed Undo taken some h =
-      let next = number_next (last_of command.source (sources_of found)) command.number (undo state number found command) taken some h in
-      next_placed (undo_of found.past.floor found.past.content.units (deltas_of found.past) (last_of command.source (sources_of found)).revision) taken next.0 (undo_change taken next.1)
+      let next = number_next (window_of command.source (sources_of found)) command.number (undo state number found command) taken h in
+      next_placed (undo_of found.past.floor found.past.content.units (deltas_of found.past) (last_revision (window_of command.source (sources_of found)))) taken next.0 (undo_change taken next.1)
 
   change_anew : (delta : List Operation) (revision : ℕ) → change state number found command delta ≡ Repeats revision → ⊥
   change_anew delta revision h =
@@ -189,40 +187,26 @@ module _ (state : State) (number : ℕ) (found : DocumentRecord) (command : Comm
 
   undo_anew : (revision : ℕ) → undo state number found command ≡ Repeats revision → ⊥
   undo_anew revision h =
-      let none = asked_again ((last_of command.source (sources_of found)).number == 0) (Refuses NothingToUndo) _ revision (λ e. cc) h in
-      change_anew (undo_of found.past.floor found.past.content.units (deltas_of found.past) (last_of command.source (sources_of found)).revision) revision (asked_again (nat_le (last_of command.source (sources_of found)).revision found.past.floor) (Refuses TooOld) _ revision (λ e. cc) none.1).1
-
-  existing_last : (last : LastTaken) (revision : ℕ) → cond (nat_lt 0 last.number && (command.number == last.number)) (Repeats last.revision) (Refuses Exists) ≡ Repeats revision
-      → last ≡ record { number = command.number; revision = revision }
-  existing_last last revision h = number_last last command.number revision (Refuses Exists) (λ e. cc) (by_tests (nat_lt 0 last.number && (command.number == last.number)) (nat_lt command.number last.number) (nat_lt (last.number + 1) command.number) h)
-    where
-      by_tests : (again old gap : Bool) → cond again (Repeats last.revision) (Refuses Exists) ≡ Repeats revision
-          → cond again (Repeats last.revision) (cond old (Refuses OldNumber) (cond gap (Refuses Gap) (Refuses Exists))) ≡ Repeats revision
-      by_tests true old gap h = h
-      by_tests false old gap h = absurd (cc)
+      let none = asked_again ((window_of command.source (sources_of found)).number == 0) (Refuses NothingToUndo) _ revision (λ e. cc) h in
+      change_anew (undo_of found.past.floor found.past.content.units (deltas_of found.past) (last_revision (window_of command.source (sources_of found)))) revision (asked_again (nat_le (last_revision (window_of command.source (sources_of found))) found.past.floor) (Refuses TooOld) _ revision (λ e. cc) none.1).1
 
   found_repeats : (action : Action) (revision : ℕ) → answer_to state command action (Some (number, found)) ≡ Repeats revision
-      → last_of command.source (sources_of found) ≡ record { number = command.number; revision = revision }
-  found_repeats (Create delta) revision h = existing_last (last_of command.source (sources_of found)) revision h
-  found_repeats (Edit base delta) revision h = number_last (last_of command.source (sources_of found)) command.number revision (edit state number found command base delta) (edit_anew base delta revision) h
-  found_repeats Undo revision h = number_last (last_of command.source (sources_of found)) command.number revision (undo state number found command) (undo_anew revision) h
+      → revision_in command.number (window_of command.source (sources_of found)) ≡ Some revision
+  found_repeats (Create delta) revision h = by_found (revision_in command.number (window_of command.source (sources_of found))) (Refuses Exists) revision (λ e. cc) h
+  found_repeats (Edit base delta) revision h = number_made (window_of command.source (sources_of found)) command.number revision (edit state number found command base delta) (edit_anew base delta revision) h
+  found_repeats Undo revision h = number_made (window_of command.source (sources_of found)) command.number revision (undo state number found command) (undo_anew revision) h
 
-  found_again : (action : Action) (revision : ℕ) → 1 ≤ command.number → last_of command.source (sources_of found) ≡ record { number = command.number; revision = revision }
+  found_again : (action : Action) (revision : ℕ) → revision_in command.number (window_of command.source (sources_of found)) ≡ Some revision
       → answer_to state command action (Some (number, found)) ≡ Repeats revision
-  found_again (Create delta) revision some is =
-      ap (λ (l : LastTaken). cond (nat_lt 0 l.number && (command.number == l.number)) (Repeats l.revision) (Refuses Exists)) is
-      ∙ ap (λ b. cond b (Repeats revision) (Refuses Exists)) (is_again command.number some)
-  found_again (Edit base delta) revision some is =
-      ap (λ (l : LastTaken). by_number l command.number (edit state number found command base delta)) is
-      ∙ ap (λ b. cond b (Repeats revision) (cond (nat_lt command.number command.number) (Refuses OldNumber) (cond (nat_lt (command.number + 1) command.number) (Refuses Gap) (edit state number found command base delta)))) (is_again command.number some)
-  found_again Undo revision some is =
-      ap (λ (l : LastTaken). by_number l command.number (undo state number found command)) is
-      ∙ ap (λ b. cond b (Repeats revision) (cond (nat_lt command.number command.number) (Refuses OldNumber) (cond (nat_lt (command.number + 1) command.number) (Refuses Gap) (undo state number found command)))) (is_again command.number some)
+  found_again (Create delta) revision is = ap (λ found. by_retry found (Refuses Exists)) is
+  found_again (Edit base delta) revision is =
+      number_again (window_of command.source (sources_of found)) command.number revision (edit state number found command base delta) is
+  found_again Undo revision is = number_again (window_of command.source (sources_of found)) command.number revision (undo state number found command) is
 
 -- where it isn't
 module _ (state : State) (command : Command) (fresh : find command.name 0 state.documents ≡ None) where
-  none_there : last_in command.name command.source (all_shown state) ≡ nothing_yet
-  none_there = new-last command.name command.source (all_shown state) (none-new command.name 0 state.documents fresh)
+  none_there : window_in command.name command.source (all_shown state) ≡ nothing_taken
+  none_there = new-window command.name command.source (all_shown state) (none-new command.name 0 state.documents fresh)
 
   fresh_placed : (action : Action) (taken : Taken) → 1 ≤ command.number → answer_to state command action None ≡ Takes taken
       → Placed (all_shown state) (entry_of command taken)
@@ -234,7 +218,7 @@ module _ (state : State) (command : Command) (fresh : find command.name 0 state.
       subst (λ t. Placed (all_shown state) (entry_of command t)) same (record {
         source = refl;
         number = one;
-        next = sym one ∙ ap (λ (l : LastTaken). l.number + 1) (sym none_there);
+        next = sym one ∙ ap (λ (w : Window). w.number + 1) (sym none_there);
         place = (refl, sym (length-map state.documents shown), refl, none-new command.name 0 state.documents fresh);
       })
     where
@@ -261,23 +245,28 @@ takes_placed state command taken some h = by_found (find command.name 0 state.do
     by_found None is h = fresh_placed state command is command.action taken some h
     by_found (Some found) is h = found_placed state found.0 found.1 command is command.action taken some h
 
--- A retry has the number of its source's last command, and tells its revision.
-pub repeats_last : (state : State) (command : Command) (revision : ℕ) → answer state command ≡ Repeats revision
-    → last_in command.name command.source (all_shown state) ≡ record { number = command.number; revision = revision }
-repeats_last state command revision h = by_found (find command.name 0 state.documents) refl h
+-- A retry has a number of its source's window, and tells the revision that this made.
+pub repeats_made : (state : State) (command : Command) (revision : ℕ) → answer state command ≡ Repeats revision
+    → revision_in command.number (window_in command.name command.source (all_shown state)) ≡ Some revision
+repeats_made state command revision h = by_place (find command.name 0 state.documents) refl h
   where
-    by_found : (there : Option (ℕ × DocumentRecord)) → find command.name 0 state.documents ≡ there
+    by_place : (there : Option (ℕ × DocumentRecord)) → find command.name 0 state.documents ≡ there
         → answer_to state command command.action there ≡ Repeats revision
-        → last_in command.name command.source (all_shown state) ≡ record { number = command.number; revision = revision }
-    by_found None is h = absurd (fresh_anew state command is command.action revision h)
-    by_found (Some found) is h = own_last state found.0 found.1 command is ∙ found_repeats state found.0 found.1 command is command.action revision h
+        → revision_in command.number (window_in command.name command.source (all_shown state)) ≡ Some revision
+    by_place None is h = absurd (fresh_anew state command is command.action revision h)
+    by_place (Some found) is h =
+        ap (revision_in command.number) (own_window state found.0 found.1 command is) ∙ found_repeats state found.0 found.1 command is command.action revision h
 
--- And a command of that number is a retry.
-pub last_repeats : (state : State) (command : Command) (revision : ℕ) → 1 ≤ command.number
-    → last_in command.name command.source (all_shown state) ≡ record { number = command.number; revision = revision }
+-- And a command of such a number is a retry.
+pub made_repeats : (state : State) (command : Command) (revision : ℕ)
+    → revision_in command.number (window_in command.name command.source (all_shown state)) ≡ Some revision
     → answer state command ≡ Repeats revision
-last_repeats state command revision some h = by_found (find command.name 0 state.documents) refl
+made_repeats state command revision h = by_place (find command.name 0 state.documents) refl
   where
-    by_found : (there : Option (ℕ × DocumentRecord)) → find command.name 0 state.documents ≡ there → answer_to state command command.action there ≡ Repeats revision
-    by_found None is = let zero_is : 0 ≡ command.number = ap (λ (l : LastTaken). l.number) (sym (none_there state command is) ∙ h) in absurd (omega arith)
-    by_found (Some found) is = found_again state found.0 found.1 command is command.action revision some (sym (own_last state found.0 found.1 command is) ∙ h)
+    none_made : (b : Bool) (place : ℕ) → cond b (slice_get [] place) None ≡ Some revision → ⊥
+    none_made true place e = cc
+    none_made false place e = cc
+
+    by_place : (there : Option (ℕ × DocumentRecord)) → find command.name 0 state.documents ≡ there → answer_to state command command.action there ≡ Repeats revision
+    by_place None is = absurd (none_made (nat_lt 0 (command.number + 0)) (command.number + 0 - 1) (sym (ap (revision_in command.number) (none_there state command is)) ∙ h))
+    by_place (Some found) is = found_again state found.0 found.1 command is command.action revision (sym (ap (revision_in command.number) (own_window state found.0 found.1 command is)) ∙ h)

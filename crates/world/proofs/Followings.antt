@@ -7,7 +7,8 @@ use Rattle.std.proofs.lemmas.List.{append-nil, get_or_default, length-append, le
 use Rattle.std.proofs.lemmas.List.Elements.{All-nil, All-head, All-tail, All-push, All-take}
 use Rattle.std.proofs.lemmas.Option.{slice_get-map}
 use Rattle.revision.specs.Command.{Taken, Command}
-use Rattle.revision.specs.declared.sources.LastTaken.{LastTaken}
+use Rattle.revision.specs.Window.{longest, Window, nothing_taken, taken_all, revision_in}
+use Rattle.revision.proofs.CallerLemmas.{from_nothing}
 use Rattle.revision.specs.State.{State, last_of_all}
 use Rattle.revision.specs.Acceptance.{Answer, Takes, Repeats, Refuses, TakenAt, AgainAt, answer}
 use Rattle.world.specs.declared.follower.Place.{Place}
@@ -16,15 +17,14 @@ use Rattle.world.specs.declared.follower.Happening.{Happening}
 use Rattle.world.specs.Board.{Ticket, can_take, can_settle, can_ack}
 use Rattle.world.specs.Event.{Outcome, Done, Failed, Stopped, Event, Submit, Take, Device, Publish, Settle, Ack, Compose, Crash, Open, Resend}
 use Rattle.world.specs.World.{Entry, entry_of, takens, World, begun, is_of, last_sent}
-use Rattle.world.specs.Step.{is_numbered, with_command, is_written, written, acknowledged, may_leave, stopped, opened, can_open, may_pick, whole, running_step, crashed_step, step, run}
+use Rattle.world.specs.Step.{is_numbered, is_among_last, with_command, is_written, written, acknowledged, may_leave, stopped, opened, can_open, may_pick, whole, running_step, crashed_step, step, run}
 use Rattle.world.specs.Shown.{Shown, all_shown}
 use Rattle.world.specs.Followed as model
 use Rattle.world.specs.Followed.{Followed, begun_followed, followed_step}
 use Rattle.world.specs.Following.{IsOwn, taken_as, is_done, told, all_told, followed_steps, place_of, waiting_of, followed_of, Follows}
-use Rattle.world.proofs.Numbers.{last_in, noted, Placed, bytes_same, last-grown}
-use Rattle.world.proofs.Showing.{grown_shown}
-use Rattle.world.proofs.Histories.{AllPlaced, after}
-use Rattle.world.proofs.Answered.{takes_placed, repeats_last, last_repeats}
+use Rattle.world.proofs.Numbers.{window_in, Placed, bytes_same}
+use Rattle.world.proofs.Histories.{AllPlaced, after, own_revisions, window-after}
+use Rattle.world.proofs.Answered.{takes_placed, repeats_made, made_repeats}
 use Rattle.world.proofs.Holding.{IsConsistent, with_answer, begun-holds, left-between, step-holds}
 
 then_is : {A : Type 0} (b : Bool) (x y z : A) → b ≡ true → z ≡ x → z ≡ cond b x y
@@ -58,37 +58,20 @@ followed_steps-append : (followed : Followed) (first others : List Happening) �
 followed_steps-append followed [] others = refl
 followed_steps-append followed (happening ∷ more) others = followed_steps-append (followed_step followed happening) more others
 
--- the last place as what a source has
-abbrev last_taken : Place → LastTaken
-last_taken place = record { number = place.number; revision = place.revision }
-
--- the last of a list, before which this one stood
-last-further : {A : Type 0} (first : A) (others : List A) (before : A)
-    → slice_index_or (first ∷ others) (length (first ∷ others) - 1) before ≡ slice_index_or others (length others - 1) first
-last-further first [] before = refl
-last-further first (second ∷ others) before =
-    ap (λ n. get_or (first ∷ second ∷ others) n before) one
-    ∙ (get_or_default (second ∷ others) (length others) before first (omega arith)
-    ∙ ap (λ n. get_or (second ∷ others) n first) (sym two))
-  where
-    one : length (first ∷ second ∷ others) - 1 ≡ suc (length others)
-    one = omega arith
-
-    two : length (second ∷ others) - 1 ≡ length others
-    two = omega arith
+-- the revisions of places
+abbrev revisions_of : List Place → List ℕ
+revisions_of places = map (λ (place : Place). place.revision) places
 
 module _ (name source : List ℕ) where
   abbrev Own : Entry → Type 0
   Own entry = is_of name source entry.command ≡ true
 
-  last-along : (before : Place) (documents : List Shown) (entries : List Entry) → AllPlaced documents entries → All Own entries
-      → last_in name source documents ≡ last_taken before
-      → last_in name source (after documents entries) ≡ last_taken (slice_index_or (map place_of entries) (length (map place_of entries) - 1) before)
-  last-along before documents [] placed own h = h
-  last-along before documents (first ∷ others) placed own h =
-      last-along (place_of first) (grown_shown first.taken documents) others placed.1 (All-tail Own first others own)
-      (last-grown name source documents first placed.0 ∙ ap (λ b. cond b (noted first.taken) (last_in name source documents)) (All-head Own first others own))
-      ∙ ap last_taken (sym (last-further (place_of first) (map place_of others) before))
+  -- where all commands are the source's, their revisions are those of the places
+  own-places : (entries : List Entry) → All Own entries → own_revisions name source entries ≡ revisions_of (map place_of entries)
+  own-places [] own = refl
+  own-places (first ∷ others) own =
+      ap (λ b. cond b (first.taken.revision ∷ own_revisions name source others) (own_revisions name source others)) (All-head Own first others own)
+      ∙ ap (λ l. first.taken.revision ∷ l) (own-places others (All-tail Own first others own))
 
   -- a world of a store that began without documents, in whose order all commands are the source's to the document
   record Ours (world : World) : Type 0 where
@@ -102,11 +85,21 @@ module _ (name source : List ℕ) where
   begun-ours : (start : State) → start.documents ≡ [] → Ours (begun start)
   begun-ours start none = record { holds = begun-holds start; empty = none; own = All-nil Own }
 
-  last-ours : (world : World) → Ours world → last_in name source (all_shown world.board.state) ≡ last_taken (model.last_place (map place_of world.board.order))
-  last-ours world ours =
-      ap (last_in name source) ours.holds.state
-      ∙ last-along (record { number = 0; revision = 0 }) (all_shown world.board.start) world.board.order ours.holds.placed ours.own
-      (ap (λ l. last_in name source (map Rattle.world.specs.Shown.shown l)) ours.empty)
+  window-ours : (world : World) → Ours world → window_in name source (all_shown world.board.state) ≡ taken_all nothing_taken (revisions_of (map place_of world.board.order))
+  window-ours world ours =
+      ap (window_in name source) ours.holds.state
+      ∙ (window-after name source (all_shown world.board.start) world.board.order ours.holds.placed
+      ∙ (ap (λ (w : Window). taken_all w (own_revisions name source world.board.order)) (ap (λ l. window_in name source (map Rattle.world.specs.Shown.shown l)) ours.empty)
+      ∙ ap (taken_all nothing_taken) (own-places world.board.order ours.own)))
+
+  -- a number in the window made the revision that the order has at its place
+  made-ours : (world : World) (number : ℕ) → Ours world → 1 ≤ number
+      → revision_in number (window_in name source (all_shown world.board.state)) ≡ model.made_by number (map place_of world.board.order)
+  made-ours world number ours some =
+      ap (revision_in number) (window-ours world ours)
+      ∙ (from_nothing (revisions_of (map place_of world.board.order)) number some
+      ∙ (ap (λ n. cond (nat_lt n (number + longest)) (slice_get (revisions_of (map place_of world.board.order)) (number - 1)) None) (length-map (map place_of world.board.order) (λ (p : Place). p.revision))
+      ∙ ap (λ o. cond (nat_lt (length (map place_of world.board.order)) (number + longest)) o None) (slice_get-map (λ (p : Place). p.revision) (map place_of world.board.order) (number - 1))))
 
   -- the greatest number that was sent, with one more
   sent-with : (sent : List Command) (command : Command) → is_of name source command ≡ true → last_sent name source (sent ++ command ∷ []) ≡ max (last_sent name source sent) command.number
@@ -126,45 +119,52 @@ module _ (name source : List ℕ) where
     followed : Followed
     followed = followed_of name source world
 
+    -- what the number of a command made
+    own-made : (command : Command) → command.name ≡ name → command.source ≡ source → 1 ≤ command.number
+        → revision_in command.number (window_in command.name command.source (all_shown world.board.state)) ≡ model.made_by command.number (map place_of world.board.order)
+    own-made command named from some =
+        ap (λ n. revision_in command.number (window_in n command.source (all_shown world.board.state))) named
+        ∙ (ap (λ s. revision_in command.number (window_in name s (all_shown world.board.state))) from ∙ made-ours world command.number ours some)
+
+    -- where no answer is a retry, it made none
+    no_retry : (command : Command) → command.name ≡ name → command.source ≡ source → 1 ≤ command.number
+        → ((revision : ℕ) → answer world.board.state command ≡ Repeats revision → ⊥) → model.made_by command.number (map place_of world.board.order) ≡ None
+    no_retry command named from some never = by_made (model.made_by command.number (map place_of world.board.order)) refl
+      where
+        by_made : (made : Option ℕ) → model.made_by command.number (map place_of world.board.order) ≡ made → model.made_by command.number (map place_of world.board.order) ≡ None
+        by_made None is = is
+        by_made (Some revision) is = absurd (never revision (made_repeats world.board.state command revision (own-made command named from some ∙ is)))
+
     -- what is followed, with the order, the tickets and the last number sent after a command
     answered-followed : (command : Command) → is_of name source command ≡ true → command.name ≡ name → command.source ≡ source → 1 ≤ command.number
         → (answered : Answer) → answer world.board.state command ≡ answered
         → followed_of name source (with_answer world command answered) ≡ model.submitted (followed_of name source world) command.number (taken_as answered)
     answered-followed command own named from some (Repeats revision) is =
-        then_is (command.number == (model.last_place (map place_of world.board.order)).number) _ _ _ again
         (λ i. record (followed_of name source world) {
           tickets = (map-append waiting_of world.tickets (ticket ∷ []) ∙ ap (λ (t : Waiting). map waiting_of world.tickets ++ t ∷ []) waits) i;
           sent = sent-with world.sent command own i;
         })
+        ∙ sym (ap (model.submitted_by (followed_of name source world) command.number None) made)
       where
         ticket : Ticket
         ticket = record { command = command; reply = AgainAt revision; length = length world.board.order }
 
-        last : record { number = command.number; revision = revision } ≡ last_taken (model.last_place (map place_of world.board.order))
-        last =
-            sym (ap (λ n. last_in n source (all_shown world.board.state)) (sym named)
-            ∙ (ap (λ s. last_in command.name s (all_shown world.board.state)) (sym from) ∙ repeats_last world.board.state command revision is))
-            ∙ last-ours world ours
-
-        revised : revision ≡ (model.last_place (map place_of world.board.order)).revision
-        revised = ap (λ (l : LastTaken). l.revision) last
+        made : model.made_by command.number (map place_of world.board.order) ≡ Some revision
+        made = sym (own-made command named from some) ∙ repeats_made world.board.state command revision is
 
         count : length world.board.order ≡ length (map place_of world.board.order)
         count = sym (length-map world.board.order place_of)
 
         waits : waiting_of (record { command = command; reply = AgainAt revision; length = length world.board.order })
-            ≡ record { number = command.number; again = true; revision = (model.last_place (map place_of world.board.order)).revision; length = length (map place_of world.board.order) }
-        waits = λ i. record { number = command.number; again = true; revision = revised i; length = count i }
-
-        again : (command.number == (model.last_place (map place_of world.board.order)).number) ≡ true
-        again = eq-eqb command.number (model.last_place (map place_of world.board.order)).number (ap (λ (l : LastTaken). l.number) last)
+            ≡ record { number = command.number; again = true; revision = revision; length = length (map place_of world.board.order) }
+        waits = λ i. record { number = command.number; again = true; revision = revision; length = count i }
     answered-followed command own named from some (Takes taken) is =
-        else_is (command.number == (model.last_place (map place_of world.board.order)).number) _ _ _ anew
         (λ i. record (followed_of name source world) {
           order = (map-append place_of world.board.order (entry_of command taken ∷ []) ∙ ap (λ (p : Place). map place_of world.board.order ++ p ∷ []) place) i;
           tickets = (map-append waiting_of world.tickets (ticket ∷ []) ∙ ap (λ (t : Waiting). map waiting_of world.tickets ++ t ∷ []) waits) i;
           sent = sent-with world.sent command own i;
         })
+        ∙ sym (ap (model.submitted_by (followed_of name source world) command.number (Some taken.revision)) anew)
       where
         placed : Placed (all_shown world.board.state) (entry_of command taken)
         placed = takes_placed world.board.state command taken some is
@@ -182,33 +182,23 @@ module _ (name source : List ℕ) where
             ≡ record { number = command.number; again = false; revision = taken.revision; length = length (map place_of world.board.order) + 1 }
         waits = λ i. record { number = command.number; again = false; revision = taken.revision; length = count i }
 
-        next : command.number ≡ (model.last_place (map place_of world.board.order)).number + 1
-        next = placed.next ∙ ap (λ (l : LastTaken). l.number + 1)
-            (ap (λ n. last_in n command.source (all_shown world.board.state)) named
-            ∙ (ap (λ s. last_in name s (all_shown world.board.state)) from ∙ last-ours world ours))
-
-        anew : (command.number == (model.last_place (map place_of world.board.order)).number) ≡ false
-        anew = ne_eqb command.number (model.last_place (map place_of world.board.order)).number (λ e. omega (arith, e, next))
+        anew : model.made_by command.number (map place_of world.board.order) ≡ None
+        anew = no_retry command named from some (λ revision again. no_taken revision (sym is ∙ again))
+          where
+            no_taken : (revision : ℕ) → Takes taken ≡ Repeats revision → ⊥
+            no_taken revision e = cc
     answered-followed command own named from some (Refuses refusal) is =
-        else_is (command.number == (model.last_place (map place_of world.board.order)).number) _ _ _ anew
         (λ i. record (followed_of name source world) {
           tickets = ap (map waiting_of) (append-nil world.tickets) i;
           sent = sent-with world.sent command own i;
         })
+        ∙ sym (ap (model.submitted_by (followed_of name source world) command.number None) anew)
       where
-        last : last_in command.name command.source (all_shown world.board.state) ≡ last_taken (model.last_place (map place_of world.board.order))
-        last = ap (λ n. last_in n command.source (all_shown world.board.state)) named
-            ∙ (ap (λ s. last_in name s (all_shown world.board.state)) from ∙ last-ours world ours)
-
-        different : command.number ≡ (model.last_place (map place_of world.board.order)).number → ⊥
-        different same = no_refusal (sym is ∙ last_repeats world.board.state command (model.last_place (map place_of world.board.order)).revision some
-            (last ∙ (λ i. record { number = sym same i; revision = (model.last_place (map place_of world.board.order)).revision })))
+        anew : model.made_by command.number (map place_of world.board.order) ≡ None
+        anew = no_retry command named from some (λ revision again. no_refusal revision (sym is ∙ again))
           where
-            no_refusal : Refuses refusal ≡ Repeats (model.last_place (map place_of world.board.order)).revision → ⊥
-            no_refusal e = cc
-
-        anew : (command.number == (model.last_place (map place_of world.board.order)).number) ≡ false
-        anew = ne_eqb command.number (model.last_place (map place_of world.board.order)).number different
+            no_refusal : (revision : ℕ) → Refuses refusal ≡ Repeats revision → ⊥
+            no_refusal revision e = cc
 
     -- what is followed of one world or another
     through : (b : Bool) (x y : World) (p q : Followed) → (b ≡ true → followed_of name source x ≡ p) → followed_of name source y ≡ q
@@ -228,11 +218,11 @@ module _ (name source : List ℕ) where
     submit-followed command named from = through (is_numbered command) (with_command world command) world _ _ (command-followed command named from) refl
 
     resend-followed : (command : Command) → command.name ≡ name → command.source ≡ source
-        → followed_of name source (cond (is_numbered command && (command.number == last_sent command.name command.source world.sent)) (with_command world command) world)
+        → followed_of name source (cond (is_numbered command && is_among_last command.number (last_sent command.name command.source world.sent)) (with_command world command) world)
         ≡ model.resent (followed_of name source world) command.number (taken_as (answer world.board.state command))
     resend-followed command named from =
-        ap (λ n. followed_of name source (cond (is_numbered command && (command.number == n)) (with_command world command) world)) sent_same
-        ∙ by_tests (is_numbered command) (command.number == last_sent name source world.sent) (submit-followed command named from)
+        ap (λ n. followed_of name source (cond (is_numbered command && is_among_last command.number n) (with_command world command) world)) sent_same
+        ∙ by_tests (is_numbered command) (is_among_last command.number (last_sent name source world.sent)) (submit-followed command named from)
       where
         sent_same : last_sent command.name command.source world.sent ≡ last_sent name source world.sent
         sent_same = ap (λ n. last_sent n command.source world.sent) named ∙ ap (λ s. last_sent name s world.sent) from
@@ -370,7 +360,7 @@ module _ (name source : List ℕ) where
 
     running-own : (event : Event) → IsOwn name source event → KeptOurs (running_step world event)
     running-own (Submit command) own = cond_both (is_numbered command) (with_command world command) world KeptOurs (λ e. answered-own command own.0 own.1 (answer world.board.state command)) (λ e. (ours.own, ours.empty))
-    running-own (Resend command) own = cond_both (is_numbered command && (command.number == last_sent command.name command.source world.sent)) (with_command world command) world KeptOurs (λ e. answered-own command own.0 own.1 (answer world.board.state command)) (λ e. (ours.own, ours.empty))
+    running-own (Resend command) own = cond_both (is_numbered command && is_among_last command.number (last_sent command.name command.source world.sent)) (with_command world command) world KeptOurs (λ e. answered-own command own.0 own.1 (answer world.board.state command)) (λ e. (ours.own, ours.empty))
     running-own (Take count) own = cond_both (can_take world.board count && (world.board.settled == world.board.taken)) _ world KeptOurs (λ e. (ours.own, ours.empty)) (λ e. (ours.own, ours.empty))
     running-own (Device Done) own = cond_both (is_written world) (written world Done) world KeptOurs (λ e. (ours.own, ours.empty)) (λ e. (ours.own, ours.empty))
     running-own (Device Failed) own = cond_both (is_written world) (written world Failed) world KeptOurs (λ e. (ours.own, ours.empty)) (λ e. (ours.own, ours.empty))

@@ -6,7 +6,7 @@ use Rattle.std.proofs.lemmas.List.{take_all, take-append-le, take-take, length-t
 use Rattle.world.specs.Board.{Ticket, can_take, can_settle, can_ack, taken_beyond}
 use Rattle.world.specs.Event.{Outcome, Done, Failed, Stopped, Event, Submit, Take, Device, Publish, Settle, Ack, Compose, Crash, Open, Resend}
 use Rattle.world.specs.World.{Entry, takens, World, begun, last_sent}
-use Rattle.world.specs.Step.{is_numbered, with_command, is_written, written, acknowledged, may_leave, stopped, opened, can_open, running_step, crashed_step, step, run}
+use Rattle.world.specs.Step.{is_numbered, is_among_last, with_command, is_written, written, acknowledged, may_leave, stopped, opened, can_open, running_step, crashed_step, step, run}
 use Rattle.world.specs.Law.{NothingRewritten, OverAllFurther}
 use Rattle.world.proofs.Holding.{IsConsistent, begun-holds, left-between, step-holds, run-holds}
 
@@ -71,7 +71,7 @@ module _ (world : World) (holds : IsConsistent world) where
   running-go_on : (event : Event) → NothingRewritten world (running_step world event)
   running-go_on (Submit command) = cond_both (is_numbered command) (with_command world command) world (NothingRewritten world)
       (λ can. record { shown = kept-shown; acks = kept-acks }) (λ no. go_on-same world)
-  running-go_on (Resend command) = cond_both (is_numbered command && (command.number == last_sent command.name command.source world.sent)) (with_command world command) world (NothingRewritten world)
+  running-go_on (Resend command) = cond_both (is_numbered command && is_among_last command.number (last_sent command.name command.source world.sent)) (with_command world command) world (NothingRewritten world)
       (λ can. record { shown = kept-shown; acks = kept-acks }) (λ no. go_on-same world)
   running-go_on (Take count) = cond_both (can_take world.board count && (world.board.settled == world.board.taken)) _ world (NothingRewritten world)
       (λ can. record { shown = kept-shown; acks = kept-acks }) (λ no. go_on-same world)

@@ -5,20 +5,21 @@ use Rattle.std.proofs.lemmas.Bool.{and_parts, or_cases, cond_both, leb-true, ltb
 use Rattle.std.proofs.lemmas.List.{append-nil, take_all, take-append-drop, take-append-le, take-take, length-append, length-take-le, length-map, map-append}
 use Rattle.std.proofs.lemmas.List.Elements.{All-nil, All-push, All-weaker, All-take}
 use Rattle.std.proofs.lemmas.Option.{slice_get_within, get_or_from_slice_get}
+use Rattle.revision.specs.Window.{revision_in}
 use Rattle.revision.specs.Command.{Command}
 use Rattle.revision.specs.State.{State, last_of_all}
 use Rattle.revision.specs.Acceptance.{Answer, Takes, Repeats, Refuses, answer}
 use Rattle.world.specs.Board.{Ticket, submitted_by, ticket_by, can_take, can_settle, can_ack, taken_beyond}
 use Rattle.world.specs.Event.{Outcome, Done, Failed, Stopped, Event, Submit, Take, Device, Publish, Settle, Ack, Compose, Crash, Open, Resend}
 use Rattle.world.specs.World.{Entry, entry_of, takens, World, begun, is_of, last_sent}
-use Rattle.world.specs.Step.{is_numbered, with_command, is_written, written, acknowledged, may_leave, stopped, opened, can_open, running_step, crashed_step, step, run, whole, may_pick}
+use Rattle.world.specs.Step.{is_numbered, is_among_last, with_command, is_written, written, acknowledged, may_leave, stopped, opened, can_open, running_step, crashed_step, step, run, whole, may_pick}
 use Rattle.world.specs.Shown.{Shown, all_shown}
 pub use Rattle.world.specs.steps.Holding.{Counts, WasSent, StandsSettled, IsConsistent}
 use Rattle.world.proofs.Showing.{grown_shown, shown-grown}
-use Rattle.world.proofs.Numbers.{last_in, noted, Placed, last-grown}
+use Rattle.world.proofs.Numbers.{window_in, Placed}
 use Rattle.world.proofs.Histories.{after, placed-more, placed-take, sender_same}
-use Rattle.world.proofs.Answered.{takes_placed, repeats_last}
-use Rattle.world.proofs.Standing.{Stands, stands-more, stands-take, after-more}
+use Rattle.world.proofs.Answered.{takes_placed, repeats_made}
+use Rattle.world.proofs.Standing.{Stands, stands-more, stands-take, after-more, made-last}
 use Rattle.world.proofs.Openings.{shown-opened}
 
 pub begun-holds : (start : State) → IsConsistent (begun start)
@@ -89,8 +90,8 @@ module _ (world : World) (holds : IsConsistent world) where
     sent = sent-kept command;
     tickets = All-push (Stands (all_shown world.board.start) world.board.order) world.tickets _ holds.tickets (record {
       within = omega arith;
-      last = ap (λ l. last_in command.name command.source (after (all_shown world.board.start) l)) (take_all (length world.board.order) world.board.order (omega arith))
-          ∙ (ap (last_in command.name command.source) (sym holds.state) ∙ repeats_last world.board.state command revision is);
+      made = ap (λ l. revision_in command.number (window_in command.name command.source (after (all_shown world.board.start) l))) (take_all (length world.board.order) world.board.order (omega arith))
+          ∙ (ap (λ d. revision_in command.number (window_in command.name command.source d)) (sym holds.state) ∙ repeats_made world.board.state command revision is);
     });
     acks = holds.acks;
   }
@@ -112,11 +113,8 @@ module _ (world : World) (holds : IsConsistent world) where
         (λ t stands. stands-more (all_shown world.board.start) world.board.order (entry_of command taken) t stands) world.tickets holds.tickets)
         (record {
           within = omega (arith, longer);
-          last = ap (λ l. last_in command.name command.source (after (all_shown world.board.start) l)) (take_all (length world.board.order + 1) (world.board.order ++ entry_of command taken ∷ []) (omega (arith, longer)))
-              ∙ (ap (last_in command.name command.source) (after-more (all_shown world.board.start) world.board.order (entry_of command taken))
-              ∙ (last-grown command.name command.source (after (all_shown world.board.start) world.board.order) (entry_of command taken) here
-              ∙ (ap (λ b. cond b (noted taken) (last_in command.name command.source (after (all_shown world.board.start) world.board.order))) (sender_same command command refl refl)
-              ∙ ap (λ n. record { number = n; revision = taken.revision }) here.number)));
+          made = ap (λ l. revision_in command.number (window_in command.name command.source (after (all_shown world.board.start) l))) (take_all (length world.board.order + 1) (world.board.order ++ entry_of command taken ∷ []) (omega (arith, longer)))
+              ∙ made-last (all_shown world.board.start) world.board.order (entry_of command taken) command taken.revision here ((refl, refl, refl), refl);
         });
     acks = All-weaker (StandsSettled (all_shown world.board.start) world.board.order world.board.settled) (StandsSettled (all_shown world.board.start) (world.board.order ++ entry_of command taken ∷ []) world.board.settled)
         (λ t stands. (stands-more (all_shown world.board.start) world.board.order (entry_of command taken) t stands.0, stands.1)) world.acks holds.acks;
@@ -334,7 +332,7 @@ module _ (world : World) (holds : IsConsistent world) where
   running-holds (Crash kept) = cond_both (may_leave world kept) (stopped world kept) world IsConsistent (λ may. stopped-holds kept may) (λ no. holds)
   running-holds (Open kept floors) = cond_both (world.failed && can_open world kept floors) (opened world kept floors) world IsConsistent
       (λ can. opened-holds kept floors (and_parts world.failed (can_open world kept floors) can).1) (λ no. holds)
-  running-holds (Resend command) = cond_both (is_numbered command && (command.number == last_sent command.name command.source world.sent)) (with_command world command) world IsConsistent
+  running-holds (Resend command) = cond_both (is_numbered command && is_among_last command.number (last_sent command.name command.source world.sent)) (with_command world command) world IsConsistent
       (λ can. command-holds command (and_parts (is_numbered command) _ can).0) (λ no. holds)
 
   crashed-holds : (event : Event) → IsConsistent (crashed_step world event)

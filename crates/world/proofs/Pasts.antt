@@ -1,7 +1,7 @@
 -- What a document shows comes of its past however far back that goes, and goes on with each change.
 use Rattle.std.proofs.Common.{◌≡◌, ℕ, ◌+◌, ◌≤◌, ap, ◌∙◌, arith}
 use Rattle.delta.specs.Gaps.{counted, apply}
-use Rattle.revision.specs.Sources.{with_last}
+use Rattle.revision.specs.Sources.{with_taken}
 use Rattle.revision.specs.Past.{Change, Past, newest, content_at, sources_at, from_floor, with_change}
 use Rattle.revision.proofs.CallerLemmas.{from_twice, from_newest, change_makes}
 
@@ -29,5 +29,5 @@ module _ (keep : ℕ) (past : Past) (change : Change) where
   units-with_change = ap (λ n. (content_at (with_change keep past change) n).units) newest-with_change ∙ (change_makes keep past change).1
 
   pub sources-with_change : sources_at (with_change keep past change) (newest (with_change keep past change))
-      ≡ with_last change.source change.number (newest past + 1) (sources_at past (newest past))
+      ≡ with_taken change.source change.number (newest past + 1) (sources_at past (newest past))
   sources-with_change = ap (sources_at (with_change keep past change)) newest-with_change ∙ (change_makes keep past change).2

@@ -1,5 +1,6 @@
 -- One source's commands to one document, and what becomes of them in a world: numbers, revisions and lengths alone.
-use Rattle.std.specs.Prelude.{ℕ, ◌+◌, ◌-◌, ◌<◌, ◌==◌, ◌&&◌, ◌||◌, not, nat_lt, nat_le, if◌then◌else◌, max, Bool, true, false, Option, Some, None, List, [], ◌∷◌, ◌++◌, length, take, slice_get, slice_index_or}
+use Rattle.std.specs.Prelude.{ℕ, ◌+◌, ◌-◌, ◌<◌, ◌==◌, ◌&&◌, ◌||◌, not, nat_lt, nat_le, if◌then◌else◌, max, Bool, true, false, Option, Some, None, option_map, List, [], ◌∷◌, ◌++◌, length, take, slice_get}
+use Rattle.revision.specs.Window.{longest}
 use Rattle.world.specs.declared.follower.Place.{Place}
 use Rattle.world.specs.declared.follower.Waiting.{Waiting}
 use Rattle.world.specs.declared.follower.Happening.{Happening}
@@ -36,9 +37,11 @@ begun_followed = record {
   crashed = false;
 }
 
--- the last place of the order, of number and revision 0 where there is none
-abbrev pub last_place : List Place → Place
-last_place order = slice_index_or order (length order - 1) (record { number = 0; revision = 0 })
+-- The revision that a number made, where it is one of the last of the order, as many as a window has at most. The numbers of an order are
+-- its places, counted from 1.
+abbrev pub made_by : ℕ → List Place → Option ℕ
+made_by number order =
+    if nat_lt (length order) (number + longest) then option_map (λ (place : Place). place.revision) (slice_get order (number - 1)) else None
 
 -- a command that is no retry: it is taken as this revision, or it is refused
 abbrev pub submitted_as : Followed → ℕ → Option ℕ → Followed
@@ -49,23 +52,25 @@ submitted_as followed number (Some revision) = record followed {
   sent = max followed.sent number;
 }
 
--- a command: one of the last number is a retry, and waits for all that is in the order
+-- a command, by the revision that its number made: one of the last numbers is a retry, and waits for all that is in the order
+abbrev pub submitted_by : Followed → ℕ → Option ℕ → Option ℕ → Followed
+submitted_by followed number taken_as None = submitted_as followed number taken_as
+submitted_by followed number taken_as (Some revision) = record followed {
+  tickets = followed.tickets ++ record { number = number; again = true; revision = revision; length = length followed.order } ∷ [];
+  sent = max followed.sent number;
+}
+
 abbrev pub submitted : Followed → ℕ → Option ℕ → Followed
-submitted followed number taken_as =
-    if number == (last_place followed.order).number
-    then record followed {
-      tickets = followed.tickets ++ record { number = number; again = true; revision = (last_place followed.order).revision; length = length followed.order } ∷ [];
-      sent = max followed.sent number;
-    }
-    else submitted_as followed number taken_as
+submitted followed number taken_as = submitted_by followed number taken_as (made_by number followed.order)
 
 -- one whose number is that of a command
 abbrev pub submitted_numbered : Followed → ℕ → Option ℕ → Followed
 submitted_numbered followed number taken_as = if nat_le 1 number && nat_le number last_of_all then submitted followed number taken_as else followed
 
--- one that is the last of the sent
+-- one of the last that were sent
 abbrev pub resent : Followed → ℕ → Option ℕ → Followed
-resent followed number taken_as = if number == followed.sent then submitted_numbered followed number taken_as else followed
+resent followed number taken_as =
+    if nat_le number followed.sent && nat_lt followed.sent (number + longest) then submitted_numbered followed number taken_as else followed
 
 abbrev pub taken_off : Followed → ℕ → Followed
 taken_off followed count =

@@ -1,7 +1,7 @@
 -- What holds of every schedule: of each world that any list of events makes of any store.
-use Rattle.std.specs.Prelude.{◌≡◌, ◌⊎◌, ℕ, ◌<◌, ◌≤◌, true, List, ◌++◌, length, take, Option, Some, None, All, Any, AllPairs}
-use Rattle.revision.specs.declared.sources.LastTaken.{LastTaken}
-use Rattle.revision.specs.Sources.{last_of}
+use Rattle.std.specs.Prelude.{◌≡◌, ◌⊎◌, ℕ, ◌+◌, ◌<◌, ◌≤◌, true, List, ◌++◌, length, take, Option, Some, None, All, Any, AllPairs}
+use Rattle.revision.specs.Window.{longest, Window, nothing_taken, revision_in}
+use Rattle.revision.specs.Sources.{window_of}
 use Rattle.revision.specs.Command.{Command}
 use Rattle.revision.specs.State.{DocumentRecord, sources_of, State, find, fold}
 use Rattle.revision.specs.Acceptance.{Repeats, Reply, TakenAt, AgainAt, Refused, answer}
@@ -34,13 +34,13 @@ revision_named (Refused refusal) = 0
 abbrev pub IsSent : Command → Command → Type 0
 IsSent a b = (a.name ≡ b.name) × (a.source ≡ b.source) × (a.number ≡ b.number)
 
--- what a source has in the document of its command: the last number with the revision that came of it, 0 and 0 where there is none
-abbrev pub last_found : List ℕ → Option (ℕ × DocumentRecord) → LastTaken
-last_found source None = record { number = 0; revision = 0 }
-last_found source (Some found) = last_of source (sources_of found.1)
+-- a source's window in the document of its command, the empty one where there is none
+abbrev pub window_found : List ℕ → Option (ℕ × DocumentRecord) → Window
+window_found source None = nothing_taken
+window_found source (Some found) = window_of source (sources_of found.1)
 
-abbrev pub last_held : State → Command → LastTaken
-last_held state command = last_found command.source (find command.name 0 state.documents)
+abbrev pub window_held : State → Command → Window
+window_held state command = window_found command.source (find command.name 0 state.documents)
 
 -- an entry of the order is this command, and made this revision
 abbrev pub Made : Command → ℕ → Entry → Type 0
@@ -49,7 +49,7 @@ Made command revision entry = IsSent command entry.command × (entry.taken.revis
 -- A number made this revision: an entry among these did, or the start had it so.
 abbrev pub HasTaken : State → List Entry → Command → ℕ → Type 0
 HasTaken start entries command revision =
-    Any (Made command revision) entries ⊎ (last_held start command ≡ record { number = command.number; revision = revision })
+    Any (Made command revision) entries ⊎ (revision_in command.number (window_held start command) ≡ Some revision)
 
 -- No acknowledged edit is missing: whatever is left of the order has all that an acknowledgement waited for.
 abbrev pub AcksStay : World → Type 0
@@ -63,7 +63,7 @@ AcksAreShown world = All (λ (ack : Ticket). ack.length ≤ length world.publish
 -- had taken already.
 pub record TakenOnce (world : World) : Type 0 where
   pub apart : AllPairs (λ (a b : Entry). IsSent a.command b.command → ⊥) world.board.order
-  pub anew : All (λ (e : Entry). (last_held world.board.start e.command).number < e.command.number) world.board.order
+  pub anew : All (λ (e : Entry). (window_held world.board.start e.command).number < e.command.number) world.board.order
 
 -- None changes its revision: all acknowledgements of one number name one revision.
 abbrev pub OneRevision : World → Type 0
@@ -74,10 +74,11 @@ abbrev pub NothingTakenBack : World → Type 0
 NothingTakenBack world =
     HowMuchIsLeft world (λ kept. All (λ (ack : Ticket). HasTaken world.board.start (take kept world.board.order) ack.command (revision_named ack.reply)) world.acks)
 
--- A number that the order or the start has, and that is the last one that its source sent, is answered as a retry, with its revision.
+-- A number that the order or the start has, and that is one of the last that its source sent, as many as a window has at most, is
+-- answered as a retry, with its revision.
 abbrev pub TakenIsAgain : World → Type 0
 TakenIsAgain world = (command : Command) (revision : ℕ) → 1 ≤ command.number → HasTaken world.board.start world.board.order command revision
-    → last_sent command.name command.source world.sent ≤ command.number → answer world.board.state command ≡ Repeats revision
+    → last_sent command.name command.source world.sent < command.number + longest → answer world.board.state command ≡ Repeats revision
 
 -- What readers are shown is never taken back: it is a beginning of the order, and whatever is left of that has it.
 pub record ShownStays (world : World) : Type 0 where

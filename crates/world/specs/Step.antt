@@ -2,6 +2,7 @@
 use Rattle.std.specs.Prelude.{ℕ, ◌+◌, ◌-◌, ◌==◌, ◌&&◌, ◌||◌, not, nat_lt, nat_le, if◌then◌else◌, max, Bool, true, false, Option, Some, None, List, [], ◌∷◌, ◌++◌, length, take, slice_get, option_to_list}
 use Rattle.revision.specs.Command.{Taken, Command}
 use Rattle.revision.specs.Past.{from_floor}
+use Rattle.revision.specs.Window.{longest}
 use Rattle.revision.specs.State.{DocumentRecord, revision_of, newest_revision, State, last_of_all, fold}
 use Rattle.world.specs.Board.{Ticket, submitted, ticket_of, can_take, taken_more, can_settle, settled_more, taken_beyond, can_ack}
 use Rattle.world.specs.Event.{Outcome, Done, Failed, Stopped, Event, Submit, Take, Device, Publish, Settle, Ack, Compose, Crash, Open, Resend}
@@ -94,6 +95,10 @@ can_open world kept floors =
     may_leave world kept
     && may_pick world.board.start.limits.keep world.composed 0 (whole world.board.start (takens (take kept world.board.order))).documents floors
 
+-- a number is one of the last ones that were sent, as many as a window has at most
+abbrev pub is_among_last : ℕ → ℕ → Bool
+is_among_last number sent = nat_le number sent && nat_lt sent (number + longest)
+
 -- a machine that runs
 abbrev pub running_step : World → Event → World
 running_step world (Submit command) = if is_numbered command then with_command world command else world
@@ -118,7 +123,7 @@ running_step world (Compose document revision) =
 running_step world (Crash kept) = if may_leave world kept then stopped world kept else world
 running_step world (Open kept floors) = if world.failed && can_open world kept floors then opened world kept floors else world
 running_step world (Resend command) =
-    if is_numbered command && (command.number == last_sent command.name command.source world.sent) then with_command world command else world
+    if is_numbered command && is_among_last command.number (last_sent command.name command.source world.sent) then with_command world command else world
 
 -- a machine that has stopped: nothing but an opening is possible
 abbrev pub crashed_step : World → Event → World

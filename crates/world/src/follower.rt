@@ -1,7 +1,8 @@
 //! A plain program that goes through a schedule, step by step.
 ghost use Rattle.std.specs.Prelude.{◌≡◌, [], OnOk, OnErr};
-ghost use Rattle.world.specs.Followed.{begun_followed, last_place, submitted, submitted_numbered, resent, taken_off, written, shown, settled, acknowledged, may_leave, forgotten, stopped, opened, running, followed_step, Adds};
+ghost use Rattle.world.specs.Followed.{begun_followed, made_by, submitted, submitted_numbered, resent, taken_off, written, shown, settled, acknowledged, may_leave, forgotten, stopped, opened, running, followed_step, Adds};
 
+use crate::sent::{LONGEST, is_among_last};
 use std::alloc::{AllocError, Global};
 use std::marker::Model;
 
@@ -132,32 +133,30 @@ impl Follower {
         (self.without, self.with_batch)
     }
 
-    // The last command in the order, of number and revision 0 where there is none.
-    fn last(&self) -> Place
-        ensures { result ≡ last_place self.now.order }
+    // The revision that a number made, where it is one of the last of the order, as many as a window has at most.
+    fn made_by(&self, number: u64) -> Option<u64>
+        ensures { result ≡ made_by number self.now.order }
     {
-        match self.order.as_slice().last() {
-            Some(place) => *place,
-            None => Place {
-                number: 0,
-                revision: 0,
-            },
+        let count = self.order.len() as u64;
+        if count >= number && count - number >= LONGEST {
+            return None;
         }
+        let place = number.saturating_sub(1) as usize;
+        self.order.as_slice().get(place).map(|place| place.revision)
     }
 
-    // A command comes. One of the last number is a retry, and waits for all that is in the order.
+    // A command comes. One of the last numbers is a retry, and waits for all that is in the order.
     fn submit(&mut self, number: u64, taken_as: Option<u64>) -> Result<(), AllocError>
         ensures ok { OnOk result (self.new ≡ submitted self.old number taken_as) }
         ensures only { OnErr result (Adds self.old (submitted self.old number taken_as)) }
         ensures unchanged { OnErr result (self.new ≡ self.old) }
     {
-        let last = self.last();
         let ahead = self.order.len() as u64;
-        if number == last.number {
+        if let Some(revision) = self.made_by(number) {
             self.tickets.push(Waiting {
                 number,
                 again: true,
-                revision: last.revision,
+                revision,
                 length: ahead,
             })?;
         } else if let Some(revision) = taken_as {
@@ -188,13 +187,13 @@ impl Follower {
         }
     }
 
-    // A command that is sent again: its number is the last that was sent.
+    // A command that is sent again: its number is one of the last that were sent.
     fn resend(&mut self, number: u64, taken_as: Option<u64>) -> Result<(), AllocError>
         ensures ok { OnOk result (self.new ≡ resent self.old number taken_as) }
         ensures only { OnErr result (Adds self.old (resent self.old number taken_as)) }
         ensures unchanged { OnErr result (self.new ≡ self.old) }
     {
-        if number == self.sent {
+        if is_among_last(number, self.sent) {
             self.submit_numbered(number, taken_as)
         } else {
             Ok(())

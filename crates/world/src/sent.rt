@@ -1,12 +1,16 @@
 //! Which commands were sent.
 ghost use Rattle.std.specs.Prelude.{◌≡◌, IfOk, IsOkUnless};
 ghost use Rattle.world.specs.World.{is_of as spec_is_of, last_sent};
+ghost use Rattle.world.specs.Step.{is_among_last as spec_is_among_last};
 
 use refusal::Refusal;
 use revision::{Command, Name};
 use std::alloc::Global;
 use std::marker::Model;
 use std::snapshot::Snapshot;
+
+/// How many numbers a source's window has at most.
+pub(crate) const LONGEST: u64 = 16;
 
 /// A command that was sent: whose it is, and its number. What it asks for is there for contracts alone, and takes no memory.
 #[derive(Drop)]
@@ -55,6 +59,13 @@ impl Sent {
     {
         self.number
     }
+}
+
+/// Whether a number is one of the last ones that were sent, as many as a window has at most.
+pub(crate) fn is_among_last(number: u64, sent: u64) -> bool
+    ensures { result ≡ spec_is_among_last number sent }
+{
+    number <= sent && sent - number < LONGEST
 }
 
 /// The greatest number that a source sent to a document, 0 where it sent none.

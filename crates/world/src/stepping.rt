@@ -11,7 +11,7 @@ ghost use Rattle.world.specs.Stepping.{empty_store, taken_of, outcome_of, event_
 
 use crate::board::Board;
 use crate::entry::Entry;
-use crate::sent::{Sent, last_number};
+use crate::sent::{Sent, is_among_last, last_number};
 use crate::ticket::{Ack, Ticket};
 use refusal::Refusal;
 use revision::{Command, DocState, Limits, Plan, State};
@@ -240,7 +240,7 @@ impl World {
         ensures unchanged { OnErr result (self.new ≡ self.old) }
     {
         let last = last_number(command.name(), command.source(), self.sent.as_slice());
-        if command.number() == last {
+        if is_among_last(command.number(), last) {
             self.submit(alloc, command)?;
         }
         Ok(())

@@ -127,6 +127,6 @@ fn the_law_holds_from_an_empty_store(rt: HostRuntime) -> Result<(), Fail> {
 
 #[test]
 fn the_law_holds_after_a_batch_is_written(rt: HostRuntime) -> Result<(), Fail> {
-    assert!(rt; count(rt.alloc(), &WRITTEN)? == (537_824, 2_015, 465));
+    assert!(rt; count(rt.alloc(), &WRITTEN)? == (537_824, 2_016, 466));
     Ok(())
 }

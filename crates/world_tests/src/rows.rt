@@ -134,7 +134,51 @@ const UNSHOWN: [Row; 2] = [
     ),
 ];
 
-const SCHEDULES: [&[Row]; 7] = [
+const OF_17: [Happening; 17] = [
+    Happening::Submit(1, Some(1)),
+    Happening::Submit(2, Some(2)),
+    Happening::Submit(3, Some(3)),
+    Happening::Submit(4, Some(4)),
+    Happening::Submit(5, Some(5)),
+    Happening::Submit(6, Some(6)),
+    Happening::Submit(7, Some(7)),
+    Happening::Submit(8, Some(8)),
+    Happening::Submit(9, Some(9)),
+    Happening::Submit(10, Some(10)),
+    Happening::Submit(11, Some(11)),
+    Happening::Submit(12, Some(12)),
+    Happening::Submit(13, Some(13)),
+    Happening::Submit(14, Some(14)),
+    Happening::Submit(15, Some(15)),
+    Happening::Submit(16, Some(16)),
+    Happening::Submit(17, Some(17)),
+];
+
+// Of 17 numbers the first is sent again no longer, though the rule would take it. The second is a retry.
+const LAST_16: [Row; 4] = [
+    (&OF_17, Seen::Ordered(17)),
+    (&[Happening::Resend(1, Some(18))], Seen::Ordered(17)),
+    (
+        &[
+            Happening::Take(17),
+            Happening::Device(true),
+            Happening::Publish,
+            Happening::Settle,
+            Happening::Resend(2, None),
+        ],
+        Seen::Acks(&[]),
+    ),
+    (&[Happening::Ack(17)], Seen::Acks(&[SECOND_AGAIN])),
+];
+
+const SECOND_AGAIN: Waiting = Waiting {
+    number: 2,
+    again: true,
+    revision: 2,
+    length: 17,
+};
+
+const SCHEDULES: [&[Row]; 8] = [
     &WAITING,
     &ANEW,
     &THERE,
@@ -142,6 +186,7 @@ const SCHEDULES: [&[Row]; 7] = [
     &WITHOUT_CRASH,
     &REFUSED,
     &UNSHOWN,
+    &LAST_16,
 ];
 
 fn is_seen(follower: &Follower, seen: Seen) -> bool {

@@ -149,10 +149,14 @@ const TAKEN_AGAIN: [Row; 3] = [
     ),
 ];
 
-// A number that isn't the last is not sent again.
-const NOT_THE_LAST: [Row; 1] = [(
+// An older number of the window is sent again with its own revision, and waits for all that is in the order.
+const OLDER_AGAIN: [Row; 1] = [(
     &[Submit(1), Submit(2), Resend(1)],
-    Seen::Tickets(&[TAKEN, (Reply::Taken { rev: 2 }, 2)]),
+    Seen::Tickets(&[
+        TAKEN,
+        (Reply::Taken { rev: 2 }, 2),
+        (Reply::Again { rev: 1 }, 2),
+    ]),
 )];
 
 // Nothing is settled before it is shown.
@@ -170,7 +174,7 @@ const SCHEDULES: [&[Row]; 6] = [
     &STAYING,
     &TOO_OLD,
     &TAKEN_AGAIN,
-    &NOT_THE_LAST,
+    &OLDER_AGAIN,
     &UNSHOWN,
 ];
 

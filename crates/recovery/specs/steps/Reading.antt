@@ -18,11 +18,12 @@ use Rattle.segments.specs.Ring.{Fits, at_of, size_of, known_numbers}
 use Rattle.recovery.specs.declared.shape.Shape.{Shape}
 use Rattle.recovery.specs.declared.reading.RecoveredStore.{RecoveredStore}
 use Rattle.recovery.specs.Shape.{slots_place}
-use Rattle.recovery.specs.Layout.{HoldsCells}
-use Rattle.recovery.specs.Cells.{IsCellsOf, AreCellsOf, FitEach}
+use Rattle.milestone.specs.declared.format.Format.{Format}
+use Rattle.recovery.specs.Layout.{HoldsCellsIn}
+use Rattle.recovery.specs.Cells.{IsCellsOf, AreCellsOf, FitEachIn}
 use Rattle.recovery.specs.Marks.{marks_of}
 use Rattle.recovery.specs.Marked.{AreMarked}
-use Rattle.recovery.specs.Found.{limits_of, commands_of, HoldsParts}
+use Rattle.recovery.specs.Found.{limits_in, commands_of, HoldsPartsIn}
 
 -- the ring has the slots of this shape
 pub record IsRingOf (shape : Shape) (ring : Ring) : Type 0 where
@@ -32,17 +33,17 @@ pub record IsRingOf (shape : Shape) (ring : Ring) : Type 0 where
 
 -- A content was read so, by a pick: it holds parts of this shape, which stand for this state, the ring is that of its slots, the cells
 -- are those of its documents, and its segments are marked.
-pub record IsReadAs (content : List ℕ) (pick : Pick) (recovered : RecoveredStore) : Type 0 where
+pub record IsReadAs (format : Format) (content : List ℕ) (pick : Pick) (recovered : RecoveredStore) : Type 0 where
   pub cells : List Pair
   pub table : List (Option Segment)
   pub batches : List (List Taken)
-  pub holds : HoldsParts content recovered.shape cells table batches
+  pub holds : HoldsPartsIn format content recovered.shape cells table batches
   pub fits : Fits content recovered.ring table
   pub place : IsRingOf recovered.shape recovered.ring
   pub cells_are : AreCellsOf recovered.shape recovered.cells.items
-  pub cells_fit : FitEach content recovered.cells.items cells
+  pub cells_fit : FitEachIn format content recovered.cells.items cells
   pub marked : AreMarked table (marks_of recovered.marks)
-  pub stand : StandFor (limits_of recovered.shape) cells (commands_of batches) pick recovered.state
+  pub stand : StandFor (limits_in format recovered.shape) cells (commands_of batches) pick recovered.state
 
 -- the commands in each vector
 abbrev pub lists_of : List (Vec Taken Global) → List (List Taken)
@@ -88,18 +89,18 @@ IsDocumentRead number cell entries before after =
 
 -- The cells of the next number are read, and the document from the one that is picked on; what the device holds there is known where it
 -- is honest.
-pub record IsNext (honest : Type 0) (content : List ℕ) (shape : Shape) (pick : Pick) (entries : List Taken) (known : List Cells) (before : State)
+pub record IsNext (format : Format) (honest : Type 0) (content : List ℕ) (shape : Shape) (pick : Pick) (entries : List Taken) (known : List Cells) (before : State)
     (now : List Cells) (after : State) : Type 0 where
   pub pair : Pair
   pub cells : Cells
   pub is : now ≡ known ++ cells ∷ []
   pub of : IsCellsOf shape (length known) cells
-  pub fits : honest → milestone.Fits content cells pair
+  pub fits : honest → milestone.FitsIn format content cells pair
   pub read : IsDocumentRead (length known) (picked pick pair) entries before after
 
 -- the cells of all documents were read, and stand with the entries for this state
-pub record AreDocumentsRead (content : List ℕ) (shape : Shape) (pick : Pick) (entries : List Taken) (known : List Cells) (state : State) : Type 0 where
+pub record AreDocumentsRead (format : Format) (content : List ℕ) (shape : Shape) (pick : Pick) (entries : List Taken) (known : List Cells) (state : State) : Type 0 where
   pub pairs : List Pair
-  pub holds : HoldsCells content shape pairs
-  pub fit : FitEach content known pairs
-  pub stand : StandFor (limits_of shape) pairs entries pick state
+  pub holds : HoldsCellsIn format content shape pairs
+  pub fit : FitEachIn format content known pairs
+  pub stand : StandFor (limits_in format shape) pairs entries pick state

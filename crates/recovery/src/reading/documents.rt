@@ -5,13 +5,13 @@ ghost use Rattle.revision.specs.Command.{Taken as TakenValue};
 ghost use Rattle.revision.specs.State.{State as StateValue};
 ghost use Rattle.history.specs.Cell.{Pair, picked};
 ghost use Rattle.history.specs.Found.{StandFor};
-ghost use Rattle.milestone.specs.OneCell.{HoldsPair};
-ghost use Rattle.milestone.specs.Cells.{Fits};
+ghost use Rattle.milestone.specs.OneCell.{HoldsPairIn};
+ghost use Rattle.milestone.specs.Cells.{FitsIn};
 ghost use Rattle.milestone.specs.ReadCells.{pair_of};
 ghost use Rattle.recovery.specs.Shape.{is_in_range, layout_length, cells_place};
-ghost use Rattle.recovery.specs.Layout.{HoldsCells};
+ghost use Rattle.recovery.specs.Layout.{HoldsCellsIn};
 ghost use Rattle.recovery.specs.Cells.{IsCellsOf, AreCellsOf};
-ghost use Rattle.recovery.specs.Found.{limits_of};
+ghost use Rattle.recovery.specs.Found.{limits_in};
 ghost use Rattle.recovery.specs.steps.Reading.{lists_of, AreByDocument, IsDocumentRead, IsNext, AreDocumentsRead};
 
 use crate::reading::one_document::{pick_one, read_document};
@@ -19,7 +19,7 @@ use crate::shape::Shape;
 use crate::superblock::SUPERBLOCK_LEN;
 use disk::Disk;
 use history::Pick;
-use milestone::{Cells, ReadCells};
+use milestone::{Cells, Format, ReadCells};
 use refusal::Refusal;
 use revision::{State, Taken};
 use std::alloc::Global;
@@ -36,6 +36,7 @@ pub(super) struct ReadDocuments {
 pub(super) fn read_documents<D: Disk>(
     alloc: Global,
     disk: &mut D,
+    format: Format,
     shape: &Shape,
     pick: Pick,
     entries: Vec<Vec<Taken>>,
@@ -46,23 +47,23 @@ pub(super) fn read_documents<D: Disk>(
 
     ensures found { IfOk result (λ read. D.honest disk.new → (all : List TakenValue)
         → AreByDocument all (lists_of entries.items)
-        → AreDocumentsRead (D.seen disk.old) shape.now pick all read.cells.items read.state) }
+        → AreDocumentsRead format (D.seen disk.old) shape.now pick all read.cells.items read.state) }
     ensures cells { IfOk result (λ read. AreCellsOf shape.now read.cells.items) }
-    ensures limits { IfOk result (λ read. read.state.limits ≡ limits_of shape.now) }
+    ensures limits { IfOk result (λ read. read.state.limits ≡ limits_in format shape.now) }
     ensures damaged { IfErr result (λ e. e ≡ Refusal.Damaged → D.honest disk.new
-        → (pairs : List Pair) → HoldsCells (D.seen disk.old) shape.now pairs
+        → (pairs : List Pair) → HoldsCellsIn format (D.seen disk.old) shape.now pairs
         → (all : List TakenValue) → AreByDocument all (lists_of entries.items)
-        → (found : StateValue) → ¬ StandFor (limits_of shape.now) pairs all pick found) }
+        → (found : StateValue) → ¬ StandFor (limits_in format shape.now) pairs all pick found) }
     ensures only { IfErr result (λ e. (e ≡ Refusal.Damaged) ⊎ ((e ≡ Refusal.NoMemory) ⊎ (e ≡ Refusal.Fault))) }
     ensures only_read { HasOnlyRead ⟦<D as Disk>⟧ disk.old disk.new }
     ensures faults { CountsFaultsAs ⟦<D as Disk>⟧ Refusal.Fault result disk.old disk.new }
 {
     let mut read = ReadDocuments {
-        state: State::new(alloc, shape.limits()),
+        state: State::new(alloc, shape.limits_in(format)),
         cells: Vec::new(alloc),
     };
     for own in entries {
-        read.read_next(alloc, disk, shape, pick, own)?;
+        read.read_next(alloc, disk, format, shape, pick, own)?;
     }
     Ok(read)
 }
@@ -73,6 +74,7 @@ impl ReadDocuments {
         &mut self,
         alloc: Global,
         disk: &mut D,
+        format: Format,
         shape: &Shape,
         pick: Pick,
         entries: Vec<Taken>,
@@ -81,10 +83,10 @@ impl ReadDocuments {
         requires within { layout_length shape.now ≤ length (D.seen disk.old) }
         requires number { length self.old.cells.items < shape.now.docs }
 
-        ensures next { OnOk result (IsNext (D.honest disk.new) (D.seen disk.old) shape.now pick entries.items
+        ensures next { OnOk result (IsNext format (D.honest disk.new) (D.seen disk.old) shape.now pick entries.items
             self.old.cells.items self.old.state self.new.cells.items self.new.state) }
         ensures damaged { IfErr result (λ e. e ≡ Refusal.Damaged → D.honest disk.new → (pair : Pair)
-            → HoldsPair (cells_place shape.now (length self.old.cells.items)) shape.now.cell
+            → HoldsPairIn format (cells_place shape.now (length self.old.cells.items)) shape.now.cell
             (length self.old.cells.items) (D.seen disk.old) pair
             → (after : StateValue)
             → ¬ IsDocumentRead (length self.old.cells.items) (picked pick pair) entries.items self.old.state after) }
@@ -97,7 +99,7 @@ impl ReadDocuments {
             cells,
             first,
             second,
-        } = read_cells(alloc, disk, shape, number)?;
+        } = read_cells(alloc, disk, format, shape, number)?;
         read_document(
             alloc,
             &mut self.state,
@@ -114,21 +116,22 @@ impl ReadDocuments {
 fn read_cells<D: Disk>(
     alloc: Global,
     disk: &mut D,
+    format: Format,
     shape: &Shape,
     number: u32,
 ) -> Result<ReadCells, Refusal>
     requires in_range { is_in_range shape.now ≡ true }
     requires within { layout_length shape.now ≤ length (D.seen disk.old) }
     requires number { number < shape.now.docs }
-    ensures found { IfOk result (λ read. D.honest disk.new → Fits (D.seen disk.old) read.cells (pair_of read)) }
+    ensures found { IfOk result (λ read. D.honest disk.new → FitsIn format (D.seen disk.old) read.cells (pair_of read)) }
     ensures cells { IfOk result (λ read. IsCellsOf shape.now number read.cells) }
     ensures damaged { IfErr result (λ e. e ≡ Refusal.Damaged → D.honest disk.new
-        → (pair : Pair) → ¬ HoldsPair (cells_place shape.now number) shape.now.cell number (D.seen disk.old) pair) }
+        → (pair : Pair) → ¬ HoldsPairIn format (cells_place shape.now number) shape.now.cell number (D.seen disk.old) pair) }
     ensures only { IfErr result (λ e. (e ≡ Refusal.Damaged) ⊎ ((e ≡ Refusal.NoMemory) ⊎ (e ≡ Refusal.Fault))) }
     ensures only_read { HasOnlyRead ⟦<D as Disk>⟧ disk.old disk.new }
     ensures faults { CountsFaultsAs ⟦<D as Disk>⟧ Refusal.Fault result disk.old disk.new }
 {
     let size = u64::from(shape.cell);
     let place = SUPERBLOCK_LEN + u64::from(number) * (2 * size);
-    Cells::read_both(alloc, disk, place, size, number)
+    Cells::read_both(alloc, disk, format, place, size, number)
 }

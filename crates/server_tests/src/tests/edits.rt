@@ -99,14 +99,14 @@ const NUMBERS: [Said; 1] = [Said {
     replies: r#"{"doc":"d","n":1,"ok":"taken","rev":1}
 {"doc":"d","n":2,"ok":"taken","rev":2}
 {"doc":"d","n":2,"ok":"again","rev":2}
-{"code":10,"error":"OldNumber"}
+{"doc":"d","n":1,"ok":"again","rev":1}
 {"code":9,"error":"Gap"}
 "#,
     dump: r#"d 2 0 {"ops":[{"insert":"ba"}]}
 "#,
 }];
 
-/// A creation is a retry where its source's last number there is 1, and another source's is none.
+/// A creation is a retry where its source's window there has the number 1, and another source's is none.
 const CREATED: [Said; 2] = [
     Said {
         source: "ann",
@@ -279,7 +279,7 @@ const FULL: [Said; 1] = [Said {
 {"code":17,"error":"TooWide"}
 {"doc":"d","n":2,"ok":"taken","rev":2}
 {"doc":"d","n":3,"ok":"taken","rev":3}
-{"code":7,"error":"Exists"}
+{"doc":"d","n":1,"ok":"again","rev":1}
 {"doc":"d","ok":"doc","ops":[{"insert":"z"}],"rev":3}
 "#,
     dump: r#"d 3 2 {"ops":[{"insert":"z"}]}

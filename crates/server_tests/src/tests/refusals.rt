@@ -1,10 +1,12 @@
 use refusal::Refusal;
 
-const PRINTED: [(Refusal, &str); 4] = [
+const PRINTED: [(Refusal, &str); 6] = [
     (Refusal::BadLine, "error 1 BadLine"),
     (Refusal::NoSeat, "error 24 NoSeat"),
     (Refusal::NotFormatted, "error 30 NotFormatted"),
     (Refusal::JournalFull, "error 37 JournalFull"),
+    (Refusal::OldFormat, "error 38 OldFormat"),
+    (Refusal::NotOld, "error 39 NotOld"),
 ];
 
 #[test]

@@ -64,7 +64,7 @@ fn the_version_is_printed(rt: HostRuntime) {
         &rt,
         &["richd", "--version"],
         &mut io::empty(),
-        (0, "richd 0.1.0\n", ""),
+        (0, "richd 0.2.0\n", ""),
     );
 }
 

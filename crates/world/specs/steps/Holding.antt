@@ -1,17 +1,18 @@
 -- What every event keeps of a world, and all that is promised of it follows from.
-use Rattle.std.specs.Prelude.{◌≡◌, ℕ, ◌≤◌, List, length, take, All}
+use Rattle.std.specs.Prelude.{◌≡◌, ℕ, ◌≤◌, Some, List, length, take, All}
+use Rattle.revision.specs.Window.{revision_in}
 use Rattle.revision.specs.Command.{Command}
 use Rattle.world.specs.Board.{Ticket}
 use Rattle.world.specs.World.{Entry, takens, World, last_sent}
 use Rattle.world.specs.Shown.{Shown, all_shown}
 use Rattle.world.specs.Law.{revision_named}
-use Rattle.world.specs.steps.Placing.{last_in, AllPlaced, after}
+use Rattle.world.specs.steps.Placing.{window_in, AllPlaced, after}
 
--- After the first `length` commands the ticket's number is its source's last one, and made the revision that the reply names.
+-- After the first `length` commands the ticket's number is in its source's window, and made the revision that the reply names.
 pub record Stands (documents : List Shown) (entries : List Entry) (ticket : Ticket) : Type 0 where
   pub within : ticket.length ≤ length entries
-  pub last : last_in ticket.command.name ticket.command.source (after documents (take ticket.length entries))
-      ≡ record { number = ticket.command.number; revision = revision_named ticket.reply }
+  pub made : revision_in ticket.command.number (window_in ticket.command.name ticket.command.source (after documents (take ticket.length entries)))
+      ≡ Some (revision_named ticket.reply)
 
 -- each step of the way to the device is at most as far as the one before it
 pub record Counts (settled shown without with_batch taken long : ℕ) : Type 0 where

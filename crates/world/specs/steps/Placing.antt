@@ -1,20 +1,16 @@
--- Commands that each have their place in an order, and what a source has after them.
+-- Commands that each have their place in an order, and a source's window after them.
 use Rattle.std.specs.Prelude.{◌≡◌, ℕ, zero, suc, ◌+◌, true, false, cond, List, [], ◌∷◌, length, Option, Some, None, bytes_eq}
-use Rattle.revision.specs.declared.sources.LastTaken.{LastTaken}
+use Rattle.revision.specs.Window.{Window, nothing_taken}
 use Rattle.revision.specs.Command.{Taken}
-use Rattle.revision.specs.Sources.{last_of}
+use Rattle.revision.specs.Sources.{window_of}
 use Rattle.world.specs.World.{Entry, takens}
 use Rattle.world.specs.Shown.{Shown}
 use Rattle.world.specs.steps.Showing.{grown_shown, fold_shown}
 
--- what a source has of which nothing was taken
-abbrev pub nothing_yet : LastTaken
-nothing_yet = record { number = 0; revision = 0 }
-
--- the last that a source has in the document of a name, 0 and 0 where there is none
-abbrev pub last_in : List ℕ → List ℕ → List Shown → LastTaken
-last_in name source [] = nothing_yet
-last_in name source (first ∷ others) = cond (bytes_eq first.name name) (last_of source first.sources) (last_in name source others)
+-- a source's window in the document of a name, the empty one where there is none
+abbrev pub window_in : List ℕ → List ℕ → List Shown → Window
+window_in name source [] = nothing_taken
+window_in name source (first ∷ others) = cond (bytes_eq first.name name) (window_of source first.sources) (window_in name source others)
 
 -- no document has this name
 abbrev pub IsNew : List ℕ → List Shown → Type 0
@@ -36,12 +32,8 @@ HasPlace name taken documents (Some new) = (new ≡ name) × (taken.document ≡
 pub record Placed (documents : List Shown) (entry : Entry) : Type 0 where
   pub source : entry.taken.source ≡ entry.command.source
   pub number : entry.taken.number ≡ entry.command.number
-  pub next : entry.command.number ≡ (last_in entry.command.name entry.command.source documents).number + 1
+  pub next : entry.command.number ≡ (window_in entry.command.name entry.command.source documents).number + 1
   pub place : HasPlace entry.command.name entry.taken documents entry.taken.name
-
--- what a source has after a command
-abbrev pub noted : Taken → LastTaken
-noted taken = record { number = taken.number; revision = taken.revision }
 
 -- each command has its place in the documents that those before it leave
 abbrev pub AllPlaced : List Shown → List Entry → Type 0

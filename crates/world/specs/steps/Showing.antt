@@ -3,7 +3,7 @@ use Rattle.std.specs.Prelude.{ℕ, zero, suc, ◌+◌, List, [], ◌∷◌, Opti
 use Rattle.attributes.specs.Map.{empty}
 use Rattle.delta.specs.Gaps.{counted, apply}
 use Rattle.revision.specs.Command.{Taken}
-use Rattle.revision.specs.Sources.{with_last}
+use Rattle.revision.specs.Sources.{with_taken}
 use Rattle.world.specs.Shown.{Shown}
 
 -- a document after one command more
@@ -11,7 +11,7 @@ abbrev pub next_shown : Taken → Shown → Shown
 next_shown taken found = record found {
   units = apply found.units (counted taken.delta);
   revision = found.revision + 1;
-  sources = with_last taken.source taken.number (found.revision + 1) found.sources;
+  sources = with_taken taken.source taken.number (found.revision + 1) found.sources;
 }
 
 -- a document that nothing was taken of yet

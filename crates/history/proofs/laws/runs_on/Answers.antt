@@ -1,9 +1,12 @@
 use Rattle.history.proofs.Committing.{commits}
-use Rattle.history.proofs.Cells.{changes_cells, frees, puts, retires, covered_by_greatest, begins}
+use Rattle.history.proofs.Cells.{changes_cells, frees, puts, retires, covered_by_greatest, begins, begins_with}
 use Rattle.history.proofs.laws.runs_on.Goals as goal
 
 pub returns-clause-begin : goal.returns-clause-begin
 returns-clause-begin c = begins
+
+pub returns-clause-begin_with : goal.returns-clause-begin_with
+returns-clause-begin_with c = begins_with
 
 pub returns-clause-commit : goal.returns-clause-commit
 returns-clause-commit c = commits

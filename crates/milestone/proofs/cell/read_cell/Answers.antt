@@ -17,7 +17,7 @@ returns-in_default-clause-damaged g c is honest =
     let spelled : take 4 (drop 1 head) ≡ to_le_bytes w32 len = c.body_len-len.ensures.len in
     let body : c.deref.result.now ≡ take len (drop (c.args.at + 5) seen) =
     c.deref.ensures.value ∙ c.in_ok-body.ensures.bytes honest ∙ ap (λ (l : List ℕ). take len (drop (c.args.at + 5) l)) same in
-    body_damaged c.args.at c.args.size c.args.number seen head c.requires.low c.requires.high c.requires.within read len c.body_len-len.ensures.bound gate spelled (omega arith) c.deref.result.now body (search rules)
+    body_damaged c.args.format c.args.at c.args.size c.args.number seen head c.requires.low c.requires.high c.requires.within read len c.body_len-len.ensures.bound gate spelled (omega arith) c.deref.result.now body (search rules)
 
 pub returns-clause-found : goal.returns-clause-found
 returns-clause-found g c honest =
@@ -30,5 +30,5 @@ returns-clause-found g c honest =
     let spelled : take 4 (drop 1 head) ≡ to_le_bytes w32 len = c.body_len-len.ensures.len in
     let body : c.deref.result.now ≡ take len (drop (c.args.at + 5) seen) =
     c.deref.ensures.value ∙ c.in_ok-body.ensures.bytes honest ∙ ap (λ (l : List ℕ). take len (drop (c.args.at + 5) l)) same in
-    body_found c.args.at c.args.size c.args.number seen head c.requires.low c.requires.high c.requires.within read len c.body_len-len.ensures.bound gate spelled (omega arith) c.deref.result.now body
+    body_found c.args.format c.args.at c.args.size c.args.number seen head c.requires.low c.requires.high c.requires.within read len c.body_len-len.ensures.bound gate spelled (omega arith) c.deref.result.now body
     c.in-Some.milestone (search rules) (search rules)

@@ -13,8 +13,8 @@ use Rattle.milestone.proofs.reading.sources.Given as goal
 abbrev pub invariant-loop : goal.invariant-loop
 invariant-loop l = record {
   text : shadow (Utf8 l.last);
-  split : l.bytes ≡ number w32 l.count ++ (flat_map source l.sources.entries ++ l.rest);
+  split : l.bytes ≡ number w32 l.count ++ (flat_map (source l.format) l.sources.entries ++ l.rest);
   counted : length l.sources.entries ≡ l.counter;
-  each : AllByRecursion (IsSource l.revision) l.sources.entries;
+  each : AllByRecursion (IsSource l.format l.revision) l.sources.entries;
   is_last : IsLast l.sources.entries l.last;
 }

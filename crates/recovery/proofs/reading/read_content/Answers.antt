@@ -8,9 +8,9 @@ use Rattle.segments.specs.Slot.{Segment}
 use Rattle.segments.specs.Order.{segments_of}
 use Rattle.segments.specs.Recovered.{segment_in}
 use Rattle.segments.specs.Ring.{Fits}
-use Rattle.recovery.specs.Layout.{HoldsCells, HoldsSlots}
-use Rattle.recovery.specs.Cells.{FitEach}
-use Rattle.recovery.specs.Found.{limits_of}
+use Rattle.recovery.specs.Layout.{HoldsCellsIn, HoldsSlots}
+use Rattle.recovery.specs.Cells.{FitEachIn}
+use Rattle.recovery.specs.Found.{limits_in}
 use Rattle.recovery.specs.steps.Reading.{lists_of, are_below, AreByDocument, SpellGroups, commands_in}
 use Rattle.recovery.proofs.Layouts.{slots_of}
 use Rattle.recovery.proofs.Parts.{all_in, spell-all, commands-all, in-groups, not-slots, groups-same, gathered}
@@ -23,7 +23,7 @@ returns-in_err-ring-clause-damaged g c =
     let shape = c.in_ok-shape.shape in
     let before : g.D.Disk.seen c.read_shape.new.disk ≡ content = ap (λ (h : History). h.now.seen) c.read_shape.ensures.only_read.history in
     rw p.1 (λ is honest found.
-    not-slots content shape c.args.pick found (c.in_ok-shape.ensures.named (c.read_slots.ensures.only_read.honest honest))
+    not-slots c.args.format content shape c.args.pick found (c.in_ok-shape.ensures.named (c.read_slots.ensures.only_read.honest honest))
     (λ table holds. c.in_err-ring.ensures.damaged (sym p.2 ∙ is) honest table (subst (λ (l : List ℕ). HoldsSlots l shape table) (sym before) holds)))
 
 pub returns-in_err-lists-clause-damaged : goal.returns-in_err-lists-clause-damaged
@@ -38,7 +38,7 @@ returns-in_err-lists-clause-damaged g c =
     let read = c.in_ok-ring.ensures.found honest in
     let fits : Fits content ring read.table = subst (λ (l : List ℕ). Fits l ring read.table) before read.fits in
     let segments : map segment_in c.deref.result.now ≡ segments_of read.table = ap (map segment_in) c.deref.ensures.value ∙ read.segments in
-    let there = in-groups content shape c.args.pick read.table found names (slots_of content shape ring read.table c.in_ok-ring.ensures.place fits) holds in
+    let there = in-groups c.args.format content shape c.args.pick read.table found names (slots_of content shape ring read.table c.in_ok-ring.ensures.place fits) holds in
     both_ways (are_below shape.docs (commands_in there.groups))
     (c.in_err-lists.ensures.damaged (sym p.2 ∙ is) there.groups (subst (λ (s : List Segment). SpellGroups s there.groups) (sym segments) there.spell)) there.below)
 
@@ -57,10 +57,10 @@ returns-in_err-state-clause-damaged g c =
     let read = c.in_ok-ring.ensures.found honest_slots in
     let fits : Fits content ring read.table = subst (λ (l : List ℕ). Fits l ring read.table) before read.fits in
     let segments : map segment_in c.deref.result.now ≡ segments_of read.table = ap (map segment_in) c.deref.ensures.value ∙ read.segments in
-    let there = in-groups content shape c.args.pick read.table found names (slots_of content shape ring read.table c.in_ok-ring.ensures.place fits) holds in
+    let there = in-groups c.args.format content shape c.args.pick read.table found names (slots_of content shape ring read.table c.in_ok-ring.ensures.place fits) holds in
     let own = gathered (map segment_in c.deref.result.now) lists c.in_ok-lists.ensures.found in
     let commands = groups-same read.table own.groups there.groups (subst (λ (s : List Segment). SpellGroups s own.groups) segments own.spell) there.spell in
-    c.in_err-state.ensures.damaged (sym p.2 ∙ is) honest there.cells (subst (λ (l : List ℕ). HoldsCells l shape there.cells) (sym same) there.in_cells)
+    c.in_err-state.ensures.damaged (sym p.2 ∙ is) honest there.cells (subst (λ (l : List ℕ). HoldsCellsIn c.args.format l shape there.cells) (sym same) there.in_cells)
     (commands_in there.groups) (subst (λ (e : List Taken). AreByDocument e lists) commands own.by) found there.stand)
 
 pub returns-clause-read : goal.returns-clause-read
@@ -86,7 +86,7 @@ returns-clause-read g c honest =
       holds = record {
         laid_out = record {
           names = names;
-          in_cells = subst (λ (l : List ℕ). HoldsCells l shape there.pairs) same there.holds;
+          in_cells = subst (λ (l : List ℕ). HoldsCellsIn c.args.format l shape there.pairs) same there.holds;
           in_slots = slots_of content shape ring read.table c.in_ok-ring.ensures.place fits;
         };
         spell = spell-all read.table own.groups (subst (λ (s : List Segment). SpellGroups s own.groups) segments own.spell);
@@ -94,7 +94,7 @@ returns-clause-read g c honest =
       fits = fits;
       place = c.in_ok-ring.ensures.place;
       cells_are = c.in_ok-state.ensures.cells;
-      cells_fit = subst (λ (l : List ℕ). FitEach l documents.cells.items there.pairs) same there.fit;
+      cells_fit = subst (λ (l : List ℕ). FitEachIn c.args.format l documents.cells.items there.pairs) same there.fit;
       marked = c.in_ok-lists.ensures.marked read.table fits.holds.differ segments;
-      stand = subst (λ (e : List Taken). StandFor (limits_of shape) there.pairs e c.args.pick documents.state) (sym (commands-all own.groups)) there.stand;
+      stand = subst (λ (e : List Taken). StandFor (limits_in c.args.format shape) there.pairs e c.args.pick documents.state) (sym (commands-all own.groups)) there.stand;
     }

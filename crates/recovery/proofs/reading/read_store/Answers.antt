@@ -7,4 +7,4 @@ use Rattle.recovery.proofs.reading.read_store.Goals as goal
 
 pub returns-clause-damaged : goal.returns-clause-damaged
 returns-clause-damaged g c =
-    subst (λ (l : List ℕ). IfErr c.read_content.result (λ e. e ≡ Damaged → g.D.Disk.honest c.read_content.new.disk → (found : State) → ¬ Found l c.args.pick found)) c.sync.ensures.seen c.read_content.ensures.damaged
+    subst (λ (l : List ℕ). IfErr c.read_content.result (λ e. e ≡ Damaged → g.D.Disk.honest c.read_content.new.disk → (found : State) → ¬ Found l c.args.pick found)) c.is_synced_as.ensures.seen c.read_content.ensures.damaged

@@ -1,6 +1,6 @@
-use Rattle.std.proofs.Common.{◌≡◌, ◌+◌, List, ℕ, drop, sym, ap, ◌∙◌, arith}
+use Rattle.std.proofs.Common.{◌≡◌, ◌+◌, drop, sym, ap, ◌∙◌, arith}
 use Rattle.std.proofs.lemmas.List.{drop_all}
-use Rattle.revision.specs.Sources.{Sources, with_last}
+use Rattle.revision.specs.Sources.{Sources}
 use Rattle.revision.specs.Past.{sources_after, changes_by}
 use Rattle.revision.proofs.Parts.{changes-length}
 use Rattle.revision.proofs.Replaying.{noted-here}
@@ -14,9 +14,9 @@ loop-i-preserved c =
     let taker = c.index-takers-i.result in
     let later : c.args.start + (i + 1) ≡ c.args.start + i + 1 = omega arith in
     let rest = drop (i + 1) (changes_by takers deltas) in
-    ap (λ n. sources_after n c.set.new.self rest) later
+    ap (λ n. sources_after n c.note.new.self rest) later
     ∙ (ap (λ (s : Sources). sources_after (c.args.start + i + 1) s rest)
-    (c.in_ok-set.ensures.ok ∙ ap (λ (s : List ℕ). with_last s taker.number (c.args.start + i + 1) c.loop-i.noted) c.in_ok-source.ensures.ok)
+    c.in_ok-note.ensures.ok
     ∙ (noted-here c.args.start i c.loop-i.noted takers deltas taker c.requires.same c.loop-i-test.true c.index-takers-i.is ∙ c.loop-i.invariant))
 
 pub returns-clause-sources : goal.returns-clause-sources

@@ -8,7 +8,7 @@ use Rattle.recovery.proofs.reading.documents.read_documents.Given as goal
 -- as many numbers are read as lists were taken
 abbrev pub invariant-loop-own : goal.invariant-loop-own
 invariant-loop-own g l = record {
-  so_far : SoFar (g.D.Disk.honest l.disk) (g.D.Disk.seen l.fn.disk) l.shape l.pick (lists_of l.fn.entries.items) l.read.cells.items l.read.state;
+  so_far : SoFar l.format (g.D.Disk.honest l.disk) (g.D.Disk.seen l.fn.disk) l.shape l.pick (lists_of l.fn.entries.items) l.read.cells.items l.read.state;
   number : length l.read.cells.items ≡ length l.yielded;
   others : l.yielded ++ into_iter_items l.own-iterator ≡ l.fn.entries.items;
   count : into_iter_len l.own-iterator ≡ length (into_iter_items l.own-iterator);

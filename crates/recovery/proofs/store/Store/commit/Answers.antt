@@ -1,6 +1,7 @@
 use Rattle.std.proofs.Common.{◌≡◌, ◌∙◌, ◌+◌, ◌-◌, ⊎_elim, true, false, [], ◌∷◌, ◌++◌, Err, refl, ap, subst, sym, inl, rules}
 use Rattle.journal.specs.BatchSpelling.{batch}
 use Rattle.revision.specs.State.{Limits, State, fold, all_grow, first_grows}
+use Rattle.history.specs.Shown.{with_commands}
 use Rattle.history.specs.Running.{Runs}
 use Rattle.recovery.specs.Found.{commands_of, limits_of}
 use Rattle.recovery.specs.steps.Appending.{IsDone}
@@ -61,7 +62,7 @@ returns-in-Ok-append_batch-clause-committed g c is_open =
         cells = is_open.cells;
         table = done.now;
         batches = is_open.batches ++ commands ∷ [];
-        order = is_open.order ++ commands;
+        order = with_commands is_open.order commands;
         holds = parts_after store is_open commands c.has_room.ensures.is_batch grow _ c.append_batch.new.ring places done;
         fits = done.fits.fits;
         ring_at = places.at ∙ is_open.ring_at;
@@ -71,7 +72,7 @@ returns-in-Ok-append_batch-clause-committed g c is_open =
         marked = marked_with store is_open commands c.has_room.ensures.is_batch _ c.append_batch.new.ring done (marks_of c.mark_batch.new.marks)
             (λ slot number newest. subst (λ (m : List Mark). IsNoted number commands m (marks_of c.mark_batch.new.marks)) c.make_receipt.ensures.same (c.mark_batch.ensures.noted slot number newest));
         limits = subst (λ (s : State). s.limits ≡ limits_of store.shape) (sym state) (limits_with store is_open commands c.has_room.ensures.is_batch grow);
-        runs = subst (Runs (is_open.order ++ commands) is_open.cells (commands_of (is_open.batches ++ commands ∷ []))) (sym state)
+        runs = subst (Runs (with_commands is_open.order commands) is_open.cells (commands_of (is_open.batches ++ commands ∷ []))) (sym state)
             (runs_with store is_open commands c.has_room.ensures.is_batch grow);
         kept = kept_later is_open.order commands is_open.cells (kept_jobs store) is_open.kept;
       };

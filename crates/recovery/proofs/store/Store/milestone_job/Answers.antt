@@ -3,12 +3,13 @@ use Rattle.std.specs.Prelude.{IsErrOf, slice_get}
 use Rattle.revision.specs.State.{Limits, DocumentRecord}
 use Rattle.refusal.specs.declared.Refusal.{Refusal}
 use Rattle.refusal.specs.declared.Refusal.TheVariants.{NoMemory}
-use Rattle.recovery.specs.Found.{limits_of}
+use Rattle.recovery.specs.Found.{limits_of, commands_of}
 use Rattle.recovery.specs.Open.{IsOpen, has_failed}
 use Rattle.history.specs.Cell.{cells_at}
 use Rattle.milestone.specs.Job.{Job}
 use Rattle.recovery.specs.Cells.{highest_known}
 use Rattle.recovery.specs.Jobs.{highest, no_job_for, no_job_of, jobs_of, CanAllBePut, KeepsLimits, with_job}
+use Rattle.recovery.proofs.Going.{open_unchanged}
 use Rattle.recovery.proofs.Retirement.{known_highest}
 use Rattle.recovery.proofs.KeptJobs.{handed_out, kept_with}
 use Rattle.recovery.proofs.HandedOut.{held_here, none≢some, err_of, same_error, keep_after, memory_alone}
@@ -72,7 +73,7 @@ returns-clause-open g c is_open =
     ∙ ap (λ n. no_job_for (slice_get store.state.documents c.args.document) n c.args.revision) (sym (known_highest store is_open c.args.document)) ∙ c.in_ok-job.ensures.given in
     let kept : CanAllBePut is_open.order is_open.cells (with_job job (jobs_of store.jobs)) =
     kept_with is_open.order is_open.cells job (jobs_of store.jobs)
-    (handed_out is_open.order is_open.cells store.state c.args.document c.args.revision job is_open.runs.shows to (held_here to.found (highest (cells_at is_open.cells c.args.document)) c.args.revision none).3)
+    (handed_out is_open.order is_open.cells (commands_of is_open.batches) store.state c.args.document c.args.revision job is_open.runs to (held_here to.found (highest (cells_at is_open.cells c.args.document)) c.args.revision none).3)
     is_open.kept in
     let now : jobs_of c.keep.new.self ≡ with_job job (jobs_of store.jobs) = c.in_ok-keep.ensures.ok ∙ ap (λ (j : Job). with_job j (jobs_of store.jobs)) c.in_ok-copy.ensures.same in
     record {
@@ -120,24 +121,7 @@ returns-in_err-copy-clause-refusal g c = memory_alone _ _ (search rules)
 pub returns-in_err-keep-clause-refusal : goal.returns-in_err-keep-clause-refusal
 returns-in_err-keep-clause-refusal g c = memory_alone _ _ (search rules)
 
--- the copy found no place: the jobs are as they were
+-- where the copy finds no place nothing has changed
 pub returns-in_err-keep-clause-open : goal.returns-in_err-keep-clause-open
 returns-in_err-keep-clause-open g c is_open =
-    let same : jobs_of c.keep.new.self ≡ jobs_of c.args.self.now.jobs = c.in_err-keep.ensures.err in
-    record {
-      synced = is_open.synced;
-      cells = is_open.cells;
-      table = is_open.table;
-      batches = is_open.batches;
-      order = is_open.order;
-      holds = is_open.holds;
-      fits = is_open.fits;
-      ring_at = is_open.ring_at;
-      ring_size = is_open.ring_size;
-      cells_are = is_open.cells_are;
-      cells_fit = is_open.cells_fit;
-      marked = is_open.marked;
-      limits = is_open.limits;
-      runs = is_open.runs;
-      kept = subst (λ (l : List Job). CanAllBePut is_open.order is_open.cells l) (sym same) is_open.kept;
-    }
+    open_unchanged (record { device = refl; shape = refl; ring = refl; cells = refl; marks = refl; jobs = c.in_err-keep.ensures.err; state = refl; failed = refl }) is_open

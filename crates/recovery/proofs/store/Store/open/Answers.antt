@@ -7,6 +7,7 @@ use Rattle.recovery.specs.Jobs.{CanBePut, CanAllBePut}
 use Rattle.milestone.specs.Job.{Job}
 use Rattle.std.proofs.lemmas.List.Elements.{All-nil}
 use Rattle.recovery.proofs.FoundOnce.{found_once, runs_at}
+use Rattle.recovery.proofs.Named.{new_letters}
 use Rattle.recovery.proofs.Runs.{found_again}
 use Rattle.recovery.proofs.store.Store.open.Goals as goal
 
@@ -51,14 +52,15 @@ pub returns-in-Ok-clause-kept : goal.returns-in-Ok-clause-kept
 returns-in-Ok-clause-kept g c content left = synced_leaves _ content c.in-Ok.ensures.synced left ∙ c.read_store.ensures.seen
 
 pub returns-in-Err-clause-damaged : goal.returns-in-Err-clause-damaged
-returns-in-Err-clause-damaged g c is honest = (c.in-Err.ensures.formatted is honest, c.in-Err.ensures.damaged is honest)
+returns-in-Err-clause-damaged g c is honest = (c.in-Err.ensures.formatted is honest, c.in-Err.ensures.new_format is honest, c.in-Err.ensures.damaged is honest)
 
 -- such a content is formatted, and found as a state
 pub returns-in-Err-clause-open_or : goal.returns-in-Err-clause-open_or
 returns-in-Err-clause-open_or g c honest state of =
     let by = of.by_either c.args.pick in
     ⊎_elim (λ unformatted. absurd (c.in-Err.ensures.not_formatted unformatted honest by.found.holds.laid_out.names.formatted))
-    (λ more. ⊎_elim (λ damaged. absurd (c.in-Err.ensures.damaged damaged honest by.there by.found)) (λ others. others) more)
+    (λ more. ⊎_elim (λ old. absurd (new_letters (g.D.Disk.seen c.args.disk) by.found.shape by.found.holds.laid_out.names (c.in-Err.ensures.old_format old honest)))
+    (λ rest. ⊎_elim (λ damaged. absurd (c.in-Err.ensures.damaged damaged honest by.there by.found)) (λ others. others) rest) more)
     c.in-Err.ensures.only
 
 -- what is known is what was read

@@ -1,3 +1,5 @@
+use Rattle.revision.specs.Window.{taken_as}
+use Rattle.revision.specs.Sources.{window_of}
 use Rattle.revision.proofs.Noted.{but-once_noted}
 use Rattle.revision.proofs.source_table.SourceTable.prepare.Goals.{then-not-self+in_ok-align_all, else-not-self}
 use Rattle.revision.proofs.source_table.SourceTable.prepare.Goals as goal
@@ -5,5 +7,5 @@ use Rattle.revision.proofs.source_table.SourceTable.prepare.Goals as goal
 pub invariant_of-self-2 : goal.invariant_of-self-2
 invariant_of-self-2 c =
     let inside = c.if-not-self.self-inside in
-    but-once_noted c.args.source.now c.args.last c.mark.new.changed.items inside.accepted inside.ahead c.note.new.self c.note.result
+    but-once_noted c.args.source.now (taken_as c.args.number c.args.revision (window_of c.args.source.now inside.ahead)) c.mark.new.changed.items inside.accepted inside.ahead c.note.new.self c.note.result
     c.note.ensures.ok c.note.ensures.unchanged c.in_ok-mark.ensures.ok

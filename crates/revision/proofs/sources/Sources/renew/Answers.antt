@@ -7,13 +7,13 @@ use Rattle.revision.proofs.sources.Sources.renew.Goals as goal
 
 pub invariant_of-self-inside : goal.invariant_of-self-inside
 invariant_of-self-inside c = (
-  ascending_as (insert c.args.self.now c.args.source.now c.args.last) _
+  ascending_as (insert c.args.self.now c.args.source.now c.args.window) _
       (written c.args.self.now _ _ _ c.in-Ok.i (ap entries_of c.self.view_is) c.as_str.ensures.text c.in-Ok.ensures _ _ c.index_mut.ensures.value),
   tt,
 )
 
-pub returns-in-Ok-clause-after : goal.returns-in-Ok-clause-after
-returns-in-Ok-clause-after c =
+pub returns-in-Ok-clause-renewed : goal.returns-in-Ok-clause-renewed
+returns-in-Ok-clause-renewed c = λ _.
     same_entries_map _ _
     (written c.args.self.now _ _ _ c.in-Ok.i (ap entries_of c.self.view_is) c.as_str.ensures.text c.in-Ok.ensures _ _ c.index_mut.ensures.value)
 
@@ -21,5 +21,5 @@ pub invariant_of-self : goal.invariant_of-self
 invariant_of-self c =
     let before = subst (λ l. are_named l ≡ true) (ap entries_of c.self.view_is) c.self.invariant in
     subst (λ l. are_named l ≡ true)
-    (sym (written c.args.self.now _ _ c.args.source.now c.in-Ok.i (ap entries_of c.self.view_is) c.as_str.ensures.text c.in-Ok.ensures _ c.args.last c.index_mut.ensures.value))
-    (named-insert c.args.source.now c.args.last c.args.self.now c.requires before)
+    (sym (written c.args.self.now _ _ c.args.source.now c.in-Ok.i (ap entries_of c.self.view_is) c.as_str.ensures.text c.in-Ok.ensures _ c.args.window c.index_mut.ensures.value))
+    (named-insert c.args.source.now c.args.window c.args.self.now c.requires before)

@@ -1,0 +1,44 @@
+//! A document as a store of the second format begins with it.
+ghost use Rattle.std.specs.Prelude.{◌≤◌, ◌<◌, ◌^◌, ℕ, IfOk, IsOkUnless};
+ghost use Rattle.revision.specs.Pending.{record_of};
+ghost use Rattle.revision.specs.State.{Limits};
+ghost use Rattle.revision.specs.Invariants.{IsState, IsPast};
+ghost use Rattle.milestone.specs.CellSpelling.{IsCell};
+ghost use Rattle.migration.specs.Migrated.{IsCutTo, AreCut, AreSpelled};
+
+use milestone::Milestone;
+use refusal::Refusal;
+use revision::{DocState, State};
+use std::alloc::Global;
+
+/// The documents of a state at their newest revisions, each source with its last number alone.
+pub(crate) fn cut_all(alloc: Global, state: &State) -> Result<Vec<Milestone>, Refusal>
+    requires { state.now.limits.weight < 2 ^ 30 }
+    ensures cut { IfOk result (λ start. AreCut state.now start.items) }
+    ensures spelled { IfOk result (λ start. AreSpelled start.items) }
+    ensures state { IsState state.now }
+    ensures only { IsOkUnless result Refusal.NoMemory }
+{
+    let _ = state.limits();
+    let documents = state.documents();
+    let mut start = Vec::with_capacity(alloc, documents.len())?;
+    for document in documents {
+        start.push(cut_document(alloc, document)?)?;
+    }
+    Ok(start)
+}
+
+fn cut_document(alloc: Global, document: &DocState) -> Result<Milestone, Refusal>
+    requires { (limits : Limits) × IsPast limits (record_of document.now).past × (limits.weight < 2 ^ 30)
+        × (limits.sources ≤ 4096) }
+    ensures cut { IfOk result (λ cell. IsCutTo (record_of document.now) cell) }
+    ensures spelled { IfOk result (λ cell. (number : ℕ) → number < 2 ^ 32 → IsCell number cell) }
+    ensures only { IsOkUnless result Refusal.NoMemory }
+{
+    let name = document.name().copy(alloc)?;
+    let content = document.document().copy(alloc)?;
+    let sources = document.sources().with_last_numbers(alloc)?;
+    let cut = Milestone::new(name, document.revision(), content, sources);
+    let _ = cut.content(alloc)?;
+    Ok(cut)
+}

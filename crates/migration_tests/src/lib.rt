@@ -1,0 +1,11 @@
+//! Stores of the first format, byte for byte, brought over to the second, over devices in memory that stop or fail at each of their calls.
+//!
+//! `old` has the old devices, `rows` what comes of them, and `stops` goes through the calls of the new device.
+#![tactic(auto)]
+
+#[cfg(test)]
+mod old;
+#[cfg(test)]
+mod rows;
+#[cfg(test)]
+mod stops;
