@@ -95,14 +95,6 @@ with tempfile.TemporaryDirectory() as folder:
             print(f"  milestones: {name}: {best:.0f} edits a second, {least:.1f} us of a processor each, {more:+.0f} %")
 
 
-class Apart(Richd):
-    """richd with milestones so far apart."""
-
-    def __init__(self, folder, spacing):
-        super().__init__(folder, spacing)
-        self.name = spacing
-
-
 SECONDS = 3
 OVER_TCP = [
     Row("64 sessions, own documents", ["--sessions", "64"]),
@@ -111,8 +103,10 @@ OVER_TCP = [
 
 with temporary_folder() as folder:
     built(folder)
-    pairs = [(Apart(folder, spacing), row) for row in OVER_TCP for spacing, _ in spacings]
-    found = medians(folder, pairs, rounds, SECONDS)
+    found = {}
+    for spacing, _ in spacings:
+        told = medians(folder, [(Richd(folder, spacing), row) for row in OVER_TCP], rounds, SECONDS)
+        found |= {(spacing, name): measured for (_, name), measured in told.items()}
 
 for row in OVER_TCP:
     print(f"{row.name}, over TCP:")

@@ -52,5 +52,6 @@ pub cut_weighs : CutWeighs
 cut_weighs limits free [] low none = refl
 cut_weighs limits free (first ∷ others) low none =
     let one : window_weight limits (cut first).1 ≡ 64 = omega (arith, low) in
-    let all : window_weight free first.1 ≡ 64 = ap (λ r. 64 - r + r * length first.1.revisions) none in
+    let nothing : 64 - 0 + 0 * length first.1.revisions ≡ 64 = omega arith in
+    let all : window_weight free first.1 ≡ 64 = ap (λ r. 64 - r + r * length first.1.revisions) none ∙ nothing in
     ap₂ (λ a b. a + b) (one ∙ sym all) (cut_weighs limits free others low none)

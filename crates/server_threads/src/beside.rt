@@ -140,7 +140,7 @@ fn hold_in<
     let has_thread = writing.has_thread;
     let spawned = scope.spawn_with(
         written_by,
-        move || -> Written<'s, D, J, R>
+        move || -> Written<'_, D, J, R>
             requires { IsStarted writing.flusher }
             ensures { HasRun J.start writing.entry.flusher result.flusher result.answer result.is_begun }
         { writing.run() },

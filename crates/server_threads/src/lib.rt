@@ -10,9 +10,10 @@
 //!
 //! A server begins (`begin` in `life.rt`) with a flusher and a board from `start`, a hub of that board, and all seats. It has a desk at the hub
 //! for each seat for which there is a viewer. `hold_beside` holds whatever sessions it is given at these desks, beside the thread that writes,
-//! by `flush_all` of `turns`, and this one beside the composers of milestones, where it gets a thread for them. When the sessions have ended the hub is ended, and the flusher writes what is left. Then the desks are tallied,
-//! and the hub gives its board back: the board owns the order, and its seats have counted all of it. The thread that writes is asked for
-//! before anybody is served. Where the system gives none, nobody is, and the store comes back unchanged.
+//! by `flush_all` of `turns`, and this one beside the composers of milestones, where it gets a thread for them. When the sessions have ended
+//! the hub is ended, and the flusher writes what is left. Then the desks are tallied, and the hub gives its board back: the board owns the
+//! order, and its seats have counted all of it. The thread that writes is asked for before anybody is served. Where the system gives none,
+//! nobody is, and the store comes back unchanged.
 //!
 //! `serve_on` holds sessions over the connections of a listener, by `serve_desks` of `sockets`, and `serve_streams` one over a pair of streams,
 //! by `serve_session` of `serving`. Of streams `specs/Streams.antt` says what was written. Of sockets nothing can be said: so the desks of

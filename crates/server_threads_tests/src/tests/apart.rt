@@ -1,4 +1,4 @@
-use super::{greeted, is_told, served};
+use super::{greeted, is_told, line_from, send, served};
 use disk::{Disk, FileDisk, MemDisk};
 use recovery::{Pick, Shape, Store, format_device};
 use std::fs::{self, File};
@@ -40,25 +40,23 @@ fn line(rt: &(impl Abort + AllocGlobal), document: char, number: u64) -> String 
     ).expect(rt, "memory")
 }
 
-/// The command of this number is taken as the revision of it.
-fn is_taken(rt: &(impl Abort + AllocGlobal), stream: &TcpStream, document: char, number: u64) {
-    let taken = format!(in rt.alloc();
+/// The reply to the command of this number, which is taken as the revision of it.
+fn taken(rt: &(impl Abort + AllocGlobal), document: char, number: u64) -> String {
+    format!(in rt.alloc();
         "{{\"doc\":\"{document}\",\"n\":{number},\"ok\":\"taken\",\"rev\":{number}}}"
-    ).expect(rt, "memory");
-    is_told(
-        rt,
-        stream,
-        line(rt, document, number).as_str(),
-        taken.as_str(),
-    );
+    ).expect(rt, "memory")
 }
 
-/// A session that writes the documents in turn.
+/// A session that writes the documents in turn, and reads the replies once each has its next line.
 fn write_in_turn<R: Abort + AllocGlobal + Net<Stream = TcpStream>>(rt: &R, address: SocketAddr) {
     let stream = greeted(rt, address, "ann");
     for number in 1..=LAST {
         for document in DOCUMENTS {
-            is_taken(rt, &stream, document, number);
+            send(rt, &stream, line(rt, document, number).as_str());
+        }
+        for document in DOCUMENTS {
+            let reply = line_from(rt, &stream);
+            assert_eq!(rt; reply.as_str(), taken(rt, document, number).as_str());
         }
     }
 }
@@ -118,7 +116,8 @@ fn write_until_put<R: Files<File = File> + Abort + AllocGlobal + Net<Stream = Tc
 ) {
     let stream = greeted(rt, address, "ann");
     for number in 1..=MOST {
-        is_taken(rt, &stream, 'a', number);
+        let reply = taken(rt, 'a', number);
+        is_told(rt, &stream, line(rt, 'a', number).as_str(), reply.as_str());
         let bytes = fs::read(rt, path).expect(rt, "the file");
         if bytes.get(GATE) == Some(&OPEN) {
             return;

@@ -21,7 +21,7 @@ const SHAPE: Shape = Shape {
     docs: 16,
     cell: 131_072,
     sources: 80,
-    keep: 1_000,
+    keep: 16_000,
 };
 
 /// How far milestones lie apart.

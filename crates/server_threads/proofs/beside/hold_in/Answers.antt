@@ -8,20 +8,20 @@ use Rattle.server_threads.proofs.Served.{any_started}
 use Rattle.server_threads.proofs.beside.hold_in.Goals as goal
 
 -- the thread that writes has the flusher, and shares the hub
-pub spawn_with-requires-send-F : goal.spawn_with-requires-send-F
-spawn_with-requires-send-F g c κs within =
+pub spawn_with-spawned-requires-send-F : goal.spawn_with-spawned-requires-send-F
+spawn_with-spawned-requires-send-F g c κs within =
     let writing = writing_send (record { mir = named 6; lft = κs.1.1.1.1.1.1.0 }) (param 7 g.row.D) (param 5 g.row.J) (param 6 g.row.R) g.D.Disk g.J.Site g.J.Ledger c.type_bounds.send-D c.type_bounds.send-J c.type_bounds.sync-J c.type_bounds.sync-R in
     search (param_send, arg_send, recorded_send, struct_send) depth 8
 
 -- and gives the flusher back
-pub spawn_with-requires-send-T : goal.spawn_with-requires-send-T
-spawn_with-requires-send-T g c κs within =
+pub spawn_with-spawned-requires-send-T : goal.spawn_with-spawned-requires-send-T
+spawn_with-spawned-requires-send-T g c κs within =
     let written = written_send (record { mir = named 6; lft = κs.1.1.1.1.1.1.0 }) (param 7 g.row.D) (param 5 g.row.J) (param 6 g.row.R) g.D.Disk g.J.Site g.J.Ledger c.type_bounds.send-D c.type_bounds.send-J c.type_bounds.sync-J c.type_bounds.sync-R in
     search (param_send, arg_send) depth 4
 
 -- what it promises
-pub spawn_with-requires-clause-keeps : goal.spawn_with-requires-clause-keeps
-spawn_with-requires-clause-keeps g c κs within r ran old begun same =
+pub spawn_with-spawned-requires-clause-keeps : goal.spawn_with-spawned-requires-clause-keeps
+spawn_with-spawned-requires-clause-keeps g c κs within r ran old begun same =
     let run : HasRun g.J.Site.start c.args.writing.flusher r.flusher r.answer r.is_begun = search rules in
     any_started g.J.Site.start c.args.writing.flusher r.flusher c.args.written_by.store.value r.answer c.requires.started c.requires.held run.wrote old begun same
 
