@@ -16,9 +16,9 @@ use Rattle.revision.proofs.Room.{room_for_undo}
 use Rattle.revision.proofs.Kept.{stand-more, short-more, short-take, room-since, stand-between, short-between, short-first, short-inserts}
 use Rattle.revision.proofs.KeptDocuments.{kept-prepared, kept-accepted, kept-cut}
 use Rattle.revision.proofs.Replays.{stand-take, stand-drop, drop-here}
-use Rattle.revision.specs.steps.Turning.{turn_or, steps_up_to_turn, live_after_takers}
+use Rattle.revision.specs.steps.Turning.{turn_or, steps_up_to_turn, turned_floor, live_after_takers}
 use Rattle.revision.proofs.Floors.{newest-from, content-from, deltas-from}
-use Rattle.revision.proofs.Turning.{nexts-length, nexts-more, nexts-take, nexts-drop, nexts-units, nexts-live, nexts-content, lead-more, lead-take, moved, floor_after, turned_floor, steps-from, floor-is}
+use Rattle.revision.proofs.Turning.{nexts-length, nexts-more, nexts-take, nexts-drop, nexts-units, nexts-live, nexts-content, lead-more, lead-take, moved, floor_after, steps-from, floor-is}
 
 -- changes by as many sources as deltas
 pub changes-deltas : (takers : List Taker) (deltas : List (List Operation)) → length takers ≡ length deltas → deltas_in (changes_by takers deltas) ≡ deltas

@@ -1,5 +1,5 @@
 -- What is prepared of a past, as it is kept: each delta leads to what stands after its step; and what comes of it once it is accepted.
-use Rattle.std.proofs.Common.{◌≡◌, ℕ, zero, suc, ◌+◌, ◌-◌, ◌≤◌, max, Bool, true, false, List, [], ◌∷◌, ◌++◌, length, take, drop, map, length-append, refl, sym, ap, ap₂, subst, ◌∙◌, arith}
+use Rattle.std.proofs.Common.{◌≡◌, ℕ, zero, suc, ◌+◌, ◌-◌, ◌≤◌, ◌<◌, max, Bool, true, false, List, [], ◌∷◌, ◌++◌, length, take, drop, map, get_or, length-append, refl, sym, ap, ap₂, subst, ◌∙◌, arith}
 use Rattle.std.specs.Prelude.{◌||◌}
 use Rattle.std.proofs.lemmas.List.{drop_all}
 use Rattle.delta.specs.Element.{Element}
@@ -11,7 +11,7 @@ use Rattle.revision.specs.Command.{Step, Edits, Deletes, Revives}
 use Rattle.revision.specs.Sources.{Sources, with_taken}
 use Rattle.revision.specs.Past.{Past, Content, Change, Next, own_delta, next_by, nexts_by, changes_by, is_content, suits, live_after, units_after, content_after, content_after_all, LeadsTo, LeadInTurn, newest, newest_content, newest_sources, deltas_of, sources_after, sources_at, content_at, from_floor, with_change, rebased, with_step, with_steps}
 use Rattle.revision.specs.Floors.{longer}
-use Rattle.revision.specs.steps.Turning.{turn_or, steps_up_to_turn, live_after_takers}
+use Rattle.revision.specs.steps.Turning.{turn_or, steps_up_to_turn, turned_floor, live_after_takers}
 use Rattle.revision.proofs.Floors.{newest-from, from-from, change-from}
 use Rattle.revision.proofs.Changing.{newest-longer, units-longer, sources-longer}
 
@@ -226,11 +226,6 @@ steps-from keep whole floor (taker ∷ takers) (delta ∷ deltas) above there sa
     next-bounds keep newest floor Deletes le = (omega (arith, le), omega arith)
     next-bounds keep newest floor Revives le = (omega (arith, le), omega arith)
 
--- the floor by the last step that isn't an edit
-abbrev pub turned_floor : ℕ → ℕ → ℕ → ℕ
-turned_floor newest floor zero = floor
-turned_floor newest floor (suc turns) = newest + suc turns
-
 pub floor-is : (keep newest floor : ℕ) (first : Taker) (others : List Taker) → 1 ≤ keep → floor ≤ newest
     → floor_after keep newest floor (first ∷ others)
     ≡ max (turned_floor newest floor (steps_up_to_turn (first ∷ others))) (newest + length (first ∷ others) - keep)
@@ -255,3 +250,52 @@ floor-is keep newest floor first (second ∷ others) some le =
     by_later zero Deletes = omega arith
     by_later zero Revives = omega arith
     by_later (suc later) step = omega arith
+
+-- the last of some that edit, and the last of some that doesn't
+pub turn-edits : (n : ℕ) (takers : List Taker) (t : Taker) → n < length takers → t ≡ get_or takers n t → t.step ≡ Edits
+    → steps_up_to_turn (take (suc n) takers) ≡ steps_up_to_turn (take n takers)
+turn-edits n [] t there same edit = absurd (omega (arith, there))
+turn-edits zero (first ∷ others) t there same edit = ap (λ (s : Step). turn_or 0 s) (ap (λ (u : Taker). u.step) (sym same) ∙ edit)
+turn-edits (suc n) (first ∷ others) t there same edit =
+    ap (λ l. turn_or l first.step) (turn-edits n others t (omega (arith, there)) same edit)
+
+pub turn-here : (n : ℕ) (takers : List Taker) (t : Taker) → n < length takers → t ≡ get_or takers n t → (¬ (t.step ≡ Edits))
+    → steps_up_to_turn (take (suc n) takers) ≡ suc n
+turn-here n [] t there same other = absurd (omega (arith, there))
+turn-here zero (first ∷ others) t there same other = by_step first.step (λ e. other (ap (λ (u : Taker). u.step) same ∙ e)) where
+  by_step : (step : Step) → (¬ (step ≡ Edits)) → turn_or 0 step ≡ 1
+  by_step Edits other = absurd (other refl)
+  by_step Deletes other = refl
+  by_step Revives other = refl
+turn-here (suc n) (first ∷ others) t there same other =
+    ap (λ l. turn_or l first.step) (turn-here n others t (omega (arith, there)) same other)
+
+-- whether the document is live is told by the last step that isn't an edit
+pub live-edited : (live : Bool) (takers : List Taker) → steps_up_to_turn takers ≡ 0 → live_after_takers live takers ≡ live
+live-edited live [] none = refl
+live-edited live (first ∷ others) none = by_later (steps_up_to_turn others) first.step refl none where
+  by_later : (later : ℕ) (step : Step) → steps_up_to_turn others ≡ later → turn_or later step ≡ 0 → live_after_takers (live_after live step) others ≡ live
+  by_later zero Edits e none = live-edited live others e
+  by_later zero Deletes e none = absurd (omega (arith, none))
+  by_later zero Revives e none = absurd (omega (arith, none))
+  by_later (suc later) step e none = absurd (omega (arith, none))
+
+abbrev pub revives : Step → Bool
+revives Edits = false
+revives Deletes = false
+revives Revives = true
+
+pub live-turned : (live : Bool) (takers : List Taker) (n : ℕ) (t : Taker) → steps_up_to_turn takers ≡ suc n → t ≡ get_or takers n t
+    → live_after_takers live takers ≡ revives t.step
+live-turned live [] n t turn same = absurd (omega (arith, turn))
+live-turned live (first ∷ others) n t turn same = by_later (steps_up_to_turn others) n first.step refl turn refl same where
+  by_later : (later n : ℕ) (step : Step) → steps_up_to_turn others ≡ later → turn_or later step ≡ suc n → first.step ≡ step
+      → t ≡ get_or (first ∷ others) n t → live_after_takers (live_after live step) others ≡ revives t.step
+  by_later zero n Edits e turn is same = absurd (omega (arith, turn))
+  by_later zero zero Deletes e turn is same = live-edited false others e ∙ sym (ap (λ (u : Taker). revives u.step) same ∙ ap revives is)
+  by_later zero zero Revives e turn is same = live-edited true others e ∙ sym (ap (λ (u : Taker). revives u.step) same ∙ ap revives is)
+  by_later zero (suc n) Deletes e turn is same = absurd (omega (arith, turn))
+  by_later zero (suc n) Revives e turn is same = absurd (omega (arith, turn))
+  by_later (suc later) zero step e turn is same = absurd (omega (arith, turn))
+  by_later (suc later) (suc n) step e turn is same =
+      live-turned (live_after live step) others n t (e ∙ (let one : suc later ≡ suc n = omega (arith, turn) in one)) same

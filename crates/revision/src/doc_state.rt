@@ -1,5 +1,5 @@
 //! A document as a state holds it.
-ghost use Rattle.std.specs.Prelude.{◌≡◌, ◌&&◌, ◌+◌, ◌≤◌, ◌<◌, ◌^◌, ◌⊎◌, ◌∷◌, ◌++◌, true, false, [], length, is_some, unwrap_or, IfOk, IfErr, OnOk, OnErr, IsErrOf, IsOkUnless};
+ghost use Rattle.std.specs.Prelude.{◌≡◌, ◌&&◌, ◌+◌, ◌≤◌, ◌<◌, ◌^◌, ◌⊎◌, ◌∷◌, ◌++◌, ◌-◌, min, true, false, [], length, is_some, unwrap_or, IfOk, IfErr, OnOk, OnErr, IsErrOf, IsOkUnless};
 ghost use Rattle.delta.specs.Operation.{base_of, out_of};
 ghost use Rattle.delta.specs.Gaps.{counted, apply};
 ghost use Rattle.revision.specs.Floors.{raised};
@@ -7,13 +7,15 @@ ghost use Rattle.revision.specs.Late.{late as late_edit, HasCommandRoom};
 ghost use Rattle.compose.specs.Many.{applied};
 ghost use Rattle.revision.specs.Past.{empty_past, StandInTurn, newest, content_at, sources_at, deltas_of, deltas_above, undo_of, own_delta, is_content, IsBlankFor, suits as spec_suits, units_after, next_by, with_steps, prepared_content, prepared_units, prepared_revision};
 ghost use Rattle.document.specs.Outcome.{IsAccepted};
+ghost use Rattle.document.specs.Weight.{weight_of};
 ghost use Rattle.revision.specs.Replay.{IsReplay};
 ghost use Rattle.revision.specs.Invariants.{IsLimits};
+ghost use Rattle.revision.specs.Command.{IsDeltaOf};
 ghost use Rattle.attributes.specs.Map.{get};
 ghost use Rattle.revision.specs.Name.{is_source_name};
 ghost use Rattle.revision.specs.Window.{nothing_taken};
 ghost use Rattle.revision.specs.Sources.{window_of, with_taken};
-ghost use Rattle.revision.specs.State.{revision_of, units_of, sources_of, begins as spec_begins, comes_next as spec_comes_next, follows, keeps as spec_keeps, stays_light as spec_stays_light, is_live, next_of};
+ghost use Rattle.revision.specs.State.{revision_of, units_of, sources_of, begins as spec_begins, comes_next as spec_comes_next, follows, keeps as spec_keeps, stays_light as spec_stays_light, stands, is_live, next_of};
 ghost use Rattle.revision.specs.Pending.{record_of, with_prepared};
 
 use crate::limits::Limits;
@@ -131,6 +133,8 @@ impl DocState {
         ensures only { IsOkUnless result Refusal.NoMemory }
         ensures unchanged { OnErr result (self.new ≡ self.old) }
     {
+        // nothing stands in a document that is deleted
+        let _ = self.past.is_prepared_live();
         let change = change_on(alloc, self.ahead(), taken)?;
         match self.next.as_mut() {
             // no document is made anew for a second change
@@ -445,15 +449,24 @@ fn stays_light(
     ensures { result ≡ spec_stays_light limits document.now sources.now taken.now }
 {
     let beside = sources.weight_with(limits, found);
-    let weighed = match taken.step() {
-        Step::Edits => document.weigh(taken.delta()),
-        Step::Deletes => Ok(0),
-        Step::Revives => document.weigh(taken.delta()),
-    };
-    match weighed {
+    match weigh_after(document, taken) {
         Ok(units) => units.saturating_add(beside) <= u64::from(limits.weight()),
         Err(_) => false,
     }
+}
+
+// what a change leaves weighs, where its delta is defined on what it has to stand on, and parts no pair
+fn weigh_after(document: &Document, taken: &Taken) -> Result<u64, Refusal>
+    requires blank { IsBlankFor taken.now.step document.now }
+    ensures stands { OnOk result (stands taken.now.step taken.now.delta document.now ≡ true) }
+    ensures weight { IfOk result (λ weight. weight
+        ≡ min (weight_of (units_after document.now taken.now.step taken.now.delta)) (2 ^ 64 - 1)) }
+    ensures err { OnErr result (stands taken.now.step taken.now.delta document.now ≡ false) }
+{
+    if taken.step() == Step::Deletes {
+        return Ok(0);
+    }
+    document.weigh(taken.delta())
 }
 
 // A change as the past and the sources take it.
@@ -470,25 +483,20 @@ struct Change {
 // memory alone.
 fn change_on(alloc: Global, document: &Document, taken: Taken) -> Result<Change, Refusal>
     requires blank { IsBlankFor taken.step document.now }
-    requires accepted { IsAccepted document.now (counted taken.delta) }
-    ensures source { IfOk result (λ change. change.source ≡ taken.source) }
+    requires stands { stands taken.step taken.delta document.now ≡ true }
+    requires short { length (units_after document.now taken.step taken.delta) ≤ 2 ^ 29 }
     ensures named { IfOk result (λ change. is_source_name change.source ≡ true) }
-    ensures number { IfOk result (λ change. change.number ≡ taken.number) }
+    ensures next { IfOk result (λ change. next_by change.source change.number change.step change.delta ≡ next_of taken) }
     ensures revision { IfOk result (λ change. change.revision ≡ taken.revision) }
-    ensures step { IfOk result (λ change. change.step ≡ taken.step) }
-    ensures own { IfOk result (λ change. own_delta taken.step change.delta ≡ taken.delta) }
     ensures leads { IfOk result (λ change. apply document.now (counted change.delta)
-        ≡ units_after document.now taken.step taken.delta) }
+        ≡ units_after document.now change.step change.delta) }
     ensures accepted { IfOk result (λ change. IsAccepted document.now (counted change.delta)) }
+    ensures short { IfOk result (λ change. length (apply document.now (counted change.delta)) ≤ 2 ^ 29) }
     ensures only { IsOkUnless result Refusal.NoMemory }
 {
     let (revision, step) = (taken.revision(), taken.step());
     let (source, number, delta) = taken.into_change();
-    let delta = match step {
-        Step::Edits => delta,
-        Step::Deletes => deleting_all(alloc, document)?,
-        Step::Revives => delta,
-    };
+    let delta = kept_delta(alloc, document, step, delta)?;
     Ok(Change {
         source,
         number,
@@ -496,6 +504,24 @@ fn change_on(alloc: Global, document: &Document, taken: Taken) -> Result<Change,
         step,
         delta,
     })
+}
+
+// The delta that leads from this document to what stands after a step. Refused for want of memory alone.
+fn kept_delta(alloc: Global, document: &Document, step: Step, delta: Delta) -> Result<Delta, Refusal>
+    requires blank { IsBlankFor step document.now }
+    requires own { IsDeltaOf step delta }
+    requires stands { stands step delta document.now ≡ true }
+    requires short { length (units_after document.now step delta) ≤ 2 ^ 29 }
+    ensures own { IfOk result (λ kept. own_delta step kept ≡ delta) }
+    ensures leads { IfOk result (λ kept. apply document.now (counted kept) ≡ units_after document.now step kept) }
+    ensures accepted { IfOk result (λ kept. IsAccepted document.now (counted kept)) }
+    ensures short { IfOk result (λ kept. length (apply document.now (counted kept)) ≤ 2 ^ 29) }
+    ensures only { IsOkUnless result Refusal.NoMemory }
+{
+    if step == Step::Deletes {
+        return deleting_all(alloc, document);
+    }
+    Ok(delta)
 }
 
 // the delta that deletes all that stands in a document

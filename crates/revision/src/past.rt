@@ -8,7 +8,7 @@ ghost use Rattle.compose.specs.Many.{applied};
 ghost use Rattle.revision.specs.Floors.{raised};
 ghost use Rattle.revision.specs.Late.{late as late_edit, all_inserted, HasCommandRoom};
 ghost use Rattle.revision.specs.Past.{Change, StandInTurn, IsKept, AreKept, newest, newest_units, content_at, deltas_of, deltas_above, undo_of, way_back, way_back_late, Next, is_content, suits, units_after, next_by, with_steps, prepared_content, prepared_units, prepared_revision, without_last, sources_after, sources_at, changes_by};
-ghost use Rattle.revision.specs.steps.Turning.{steps_up_to_turn, live_after_takers};
+ghost use Rattle.revision.specs.steps.Turning.{steps_up_to_turn, turned_floor as spec_turned_floor, live_after_takers};
 ghost use Rattle.revision.specs.Name.{is_source_name};
 ghost use Rattle.revision.specs.Replay.{IsReplay};
 
@@ -306,22 +306,19 @@ impl Past {
         requires bound { keep ≤ 65536 }
         ensures { self.new ≡ record { past = with_steps keep self.old.past self.old.next; next = [] } }
     {
-        let newest = self.start + self.deltas.len() as u64;
         if self.count == self.deltas.len() {
             return;
         }
+        let taken = self.start + self.count as u64;
+        let newest = self.start + self.deltas.len() as u64;
         let added = &self.takers.as_slice()[self.count..];
         let turns = up_to_turn(added);
-        if turns > 0 {
-            self.floor = self.start + (self.count + turns) as u64;
-            self.live = live_after(added, self.live);
-            self.stale = true;
-        }
-        self.count = self.deltas.len();
+        let live = live_after(added, self.live);
         let least = newest.saturating_sub(u64::from(keep));
-        if least > self.floor {
-            self.floor = least;
-        }
+        self.floor = turned_floor(taken, self.floor, turns).max(least);
+        self.live = live;
+        self.stale = self.stale || turns > 0;
+        self.count = self.deltas.len();
     }
 
     /// Keeps a copy of the document at the newest revision, once 256 revisions have come since the last that is kept, or where it was
@@ -456,6 +453,18 @@ fn up_to_turn(takers: &[Taker]) -> usize
         count -= 1;
     }
     count
+}
+
+// The floor of a past with a newest revision after changes that follow it, of which so many lead up to the last that isn't an edit.
+fn turned_floor(newest: u64, floor: u64, turns: usize) -> u64
+    requires { newest + turns < 2 ^ 53 }
+    ensures { result ≡ spec_turned_floor newest floor turns }
+{
+    if turns == 0 {
+        floor
+    } else {
+        newest + turns as u64
+    }
 }
 
 // whether the document is live after these changes

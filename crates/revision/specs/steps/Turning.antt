@@ -1,5 +1,5 @@
 -- Where among changes the document is deleted or created again.
-use Rattle.std.specs.Prelude.{ℕ, zero, suc, Bool, List, [], ◌∷◌}
+use Rattle.std.specs.Prelude.{ℕ, zero, suc, ◌+◌, Bool, List, [], ◌∷◌}
 use Rattle.revision.specs.Command.{Step, Edits, Deletes, Revives}
 use Rattle.revision.specs.Past.{live_after}
 use Rattle.revision.specs.declared.taker.Taker.{Taker}
@@ -15,6 +15,11 @@ turn_or zero Revives = 1
 abbrev pub steps_up_to_turn : List Taker → ℕ
 steps_up_to_turn [] = 0
 steps_up_to_turn (first ∷ others) = turn_or (steps_up_to_turn others) first.step
+
+-- the floor by the last step that isn't an edit
+abbrev pub turned_floor : ℕ → ℕ → ℕ → ℕ
+turned_floor newest floor zero = floor
+turned_floor newest floor (suc turns) = newest + suc turns
 
 -- whether the document is live after changes
 abbrev pub live_after_takers : Bool → List Taker → Bool
