@@ -273,12 +273,13 @@ turn-here (suc n) (first ∷ others) t there same other =
 -- whether the document is live is told by the last step that isn't an edit
 pub live-edited : (live : Bool) (takers : List Taker) → steps_up_to_turn takers ≡ 0 → live_after_takers live takers ≡ live
 live-edited live [] none = refl
-live-edited live (first ∷ others) none = by_later (steps_up_to_turn others) first.step refl none where
-  by_later : (later : ℕ) (step : Step) → steps_up_to_turn others ≡ later → turn_or later step ≡ 0 → live_after_takers (live_after live step) others ≡ live
-  by_later zero Edits e none = live-edited live others e
-  by_later zero Deletes e none = absurd (omega (arith, none))
-  by_later zero Revives e none = absurd (omega (arith, none))
-  by_later (suc later) step e none = absurd (omega (arith, none))
+live-edited live (first ∷ others) none = by_later (steps_up_to_turn others) first.step refl none (live-edited live others) where
+  by_later : (later : ℕ) (step : Step) → steps_up_to_turn others ≡ later → turn_or later step ≡ 0
+      → (steps_up_to_turn others ≡ 0 → live_after_takers live others ≡ live) → live_after_takers (live_after live step) others ≡ live
+  by_later zero Edits e none later = later e
+  by_later zero Deletes e none later = absurd (omega (arith, none))
+  by_later zero Revives e none later = absurd (omega (arith, none))
+  by_later (suc n) step e none later = absurd (omega (arith, none))
 
 abbrev pub revives : Step → Bool
 revives Edits = false
@@ -288,14 +289,18 @@ revives Revives = true
 pub live-turned : (live : Bool) (takers : List Taker) (n : ℕ) (t : Taker) → steps_up_to_turn takers ≡ suc n → t ≡ get_or takers n t
     → live_after_takers live takers ≡ revives t.step
 live-turned live [] n t turn same = absurd (omega (arith, turn))
-live-turned live (first ∷ others) n t turn same = by_later (steps_up_to_turn others) n first.step refl turn refl same where
+live-turned live (first ∷ others) n t turn same =
+    by_later (steps_up_to_turn others) n first.step refl turn refl same (λ l m e h. live-turned l others m t e h) where
   by_later : (later n : ℕ) (step : Step) → steps_up_to_turn others ≡ later → turn_or later step ≡ suc n → first.step ≡ step
-      → t ≡ get_or (first ∷ others) n t → live_after_takers (live_after live step) others ≡ revives t.step
-  by_later zero n Edits e turn is same = absurd (omega (arith, turn))
-  by_later zero zero Deletes e turn is same = live-edited false others e ∙ sym (ap (λ (u : Taker). revives u.step) same ∙ ap revives is)
-  by_later zero zero Revives e turn is same = live-edited true others e ∙ sym (ap (λ (u : Taker). revives u.step) same ∙ ap revives is)
-  by_later zero (suc n) Deletes e turn is same = absurd (omega (arith, turn))
-  by_later zero (suc n) Revives e turn is same = absurd (omega (arith, turn))
-  by_later (suc later) zero step e turn is same = absurd (omega (arith, turn))
-  by_later (suc later) (suc n) step e turn is same =
-      live-turned (live_after live step) others n t (e ∙ (let one : suc later ≡ suc n = omega (arith, turn) in one)) same
+      → t ≡ get_or (first ∷ others) n t
+      → ((l : Bool) (m : ℕ) → steps_up_to_turn others ≡ suc m → t ≡ get_or others m t → live_after_takers l others ≡ revives t.step)
+      → live_after_takers (live_after live step) others ≡ revives t.step
+  by_later zero n Edits e turn is same further = absurd (omega (arith, turn))
+  by_later zero zero Deletes e turn is same further = live-edited false others e ∙ sym (ap (λ (u : Taker). revives u.step) same ∙ ap revives is)
+  by_later zero zero Revives e turn is same further = live-edited true others e ∙ sym (ap (λ (u : Taker). revives u.step) same ∙ ap revives is)
+  by_later zero (suc n) Deletes e turn is same further = absurd (omega (arith, turn))
+  by_later zero (suc n) Revives e turn is same further = absurd (omega (arith, turn))
+  by_later (suc later) zero step e turn is same further = absurd (omega (arith, turn))
+  by_later (suc later) (suc n) step e turn is same further =
+      let one : suc later ≡ suc n = omega (arith, turn) in
+      further (live_after live step) n (e ∙ one) same
