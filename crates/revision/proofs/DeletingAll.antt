@@ -57,9 +57,9 @@ bare (suc n) (suc i) = bare n i
 whole : (units : List Element) → ¬ (Cuts units (run (length units) Del (End [])))
 whole units cuts =
     ⊎_elim
-    (λ fates. fates (fate (length units) cuts.0 (omega (arith, inside units cuts.0 cuts.1.0)) ∙ sym (fate (length units) (suc cuts.0) (omega (arith, inside units cuts.0 cuts.1.0)))))
+    (λ fates. fates (fate (length units) cuts.0 (omega (arith, inside units cuts.0 cuts.1)) ∙ sym (fate (length units) (suc cuts.0) (omega (arith, inside units cuts.0 cuts.1)))))
     (λ inserted. inserted (bare (length units) (suc cuts.0)))
-    cuts.1.1
+    cuts.2
 
 accepted_run : (units : List Element) → IsAccepted units (run (length units) Del (End []))
 accepted_run units = (

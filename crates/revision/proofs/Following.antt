@@ -27,13 +27,13 @@ content-one : (keep : ℕ) (past : Past) (step : Step) (change : Change)
     → newest_content (with_step keep past step change) ≡ content_after (newest_content past) step change.delta
 content-one keep past step change =
     let makes = step_makes keep past step change in
-    ap (content_at (with_step keep past step change)) makes.0 ∙ makes.1.0
+    ap (content_at (with_step keep past step change)) makes.0 ∙ makes.1
 
 sources-one : (keep : ℕ) (past : Past) (step : Step) (change : Change)
     → newest_sources (with_step keep past step change) ≡ with_taken change.source change.number (newest past + 1) (newest_sources past)
 sources-one keep past step change =
     let makes = step_makes keep past step change in
-    ap (sources_at (with_step keep past step change)) makes.0 ∙ makes.1.1
+    ap (sources_at (with_step keep past step change)) makes.0 ∙ makes.2
 
 pub content-with_steps : (keep : ℕ) (past : Past) (next : List Next) → newest_content (with_steps keep past next) ≡ content_after_all (newest_content past) next
 content-with_steps keep past [] = refl
@@ -90,15 +90,15 @@ accepted_comes keep past units sources units_are sources_are = record {
 }
 
 -- what is kept beside a past with one step more prepared
-pub prepared_comes : (past : Prepared) (units after : List Element) (next : Option (List Element)) (sources : Table) (taken : Taken) → ComesOf past units next sources
-    → after ≡ units_after (prepared_units past) taken.step taken.delta → taken.revision ≡ prepared_revision past + 1
-    → ComesOf (record past { next = past.next ++ next_of taken ∷ [] }) units (Some after)
-    (record sources { prepared = with_taken taken.source taken.number taken.revision sources.prepared })
-prepared_comes past units after next sources taken comes after_is revision = record {
+pub prepared_comes : (past : Prepared) (units after : List Element) (next : Option (List Element)) (sources : Table) (one : Next) (revision : ℕ)
+    → ComesOf past units next sources → after ≡ units_after (prepared_units past) one.step one.change.delta → revision ≡ prepared_revision past + 1
+    → ComesOf (record past { next = past.next ++ one ∷ [] }) units (Some after)
+    (record sources { prepared = with_taken one.change.source one.change.number revision sources.prepared })
+prepared_comes past units after next sources one revision comes after_is revision_is = record {
   newest = comes.newest;
-  after = after_is ∙ sym (ap (λ (c : Content). c.units) (content-more past (next_of taken)));
+  after = after_is ∙ sym (ap (λ (c : Content). c.units) (content-more past one));
   held = comes.held;
-  prepared = ap₂ (with_taken taken.source taken.number) revision comes.prepared ∙ sym (sources-prepared past (next_of taken));
+  prepared = ap₂ (with_taken one.change.source one.change.number) revision_is comes.prepared ∙ sym (sources-prepared past one);
 }
 
 -- where nothing is prepared, the document is what it will be
@@ -123,13 +123,13 @@ module _ (limits : Limits) (d : PendingDocument) (taken : Taken) (is : IsLimits 
 
   pub next_revision : taken.revision ≡ prepared_revision d.past + 1
   next_revision =
-      let five = next_parts limits (prepared_revision d.past) (prepared_sources d.past) taken parts.1.0 in
+      let five = next_parts limits (prepared_revision d.past) (prepared_sources d.past) taken parts.1 in
       eqb-true _ _ five.0
 
   pub next_light : (stands taken.step taken.delta (prepared_units d.past) ≡ true)
       × (length (units_after (prepared_units d.past) taken.step taken.delta) ≤ 2 ^ 29)
   next_light =
-      let kept = kept-light limits (prepared_units d.past) (prepared_sources d.past) taken parts.1.1 in
+      let kept = kept-light limits (prepared_units d.past) (prepared_sources d.past) taken parts.2 in
       (kept.0, omega (arith, kept.1, is.weight, weight-some (units_after (prepared_units d.past) taken.step taken.delta)))
 
 -- each command's revision is below the bound

@@ -21,6 +21,11 @@ own-same content Edits delta = refl
 own-same content Deletes delta = refl
 own-same content Revives delta = refl
 
+pub own-after : (units : List Element) (step : Step) (delta : List Operation) → units_after units step (own_delta step delta) ≡ units_after units step delta
+own-after units Edits delta = refl
+own-after units Deletes delta = refl
+own-after units Revives delta = refl
+
 -- what comes next by as many takers as deltas
 pub nexts-length : (takers : List Taker) (deltas : List (List Operation)) → length takers ≡ length deltas → length (nexts_by takers deltas) ≡ length deltas
 nexts-length [] [] same = refl

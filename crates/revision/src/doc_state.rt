@@ -488,6 +488,7 @@ fn change_on(alloc: Global, document: &Document, taken: Taken) -> Result<Change,
     ensures named { IfOk result (λ change. is_source_name change.source ≡ true) }
     ensures next { IfOk result (λ change. next_by change.source change.number change.step change.delta ≡ next_of taken) }
     ensures revision { IfOk result (λ change. change.revision ≡ taken.revision) }
+    ensures last { IfOk result (λ change. change.revision < 2 ^ 53) }
     ensures leads { IfOk result (λ change. apply document.now (counted change.delta)
         ≡ units_after document.now change.step change.delta) }
     ensures accepted { IfOk result (λ change. IsAccepted document.now (counted change.delta)) }
