@@ -13,7 +13,7 @@ pub shown-next : (keep : ℕ) (found : DocumentRecord) (taken : Taken)
     → shown (record found { past = with_step keep found.past taken.step (change_of taken) }) ≡ next_shown taken (shown found)
 shown-next keep found taken = λ i. record {
   name = found.name;
-  units = units-with_step keep found.past taken.step (change_of taken) i;
+  content = content-with_step keep found.past taken.step (change_of taken) i;
   revision = newest-with_step keep found.past taken.step (change_of taken) i;
   sources = sources-with_step keep found.past taken.step (change_of taken) i;
 }
