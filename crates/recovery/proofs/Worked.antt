@@ -130,7 +130,7 @@ formatted_found pick = record {
   cells = no_pairs;
   table = None ∷ None ∷ [];
   batches = [];
-  holds = record { laid_out = formatted_laid_out; spell = record { spelled = refl; each = All-nil IsBatch } };
+  holds = record { laid_out = formatted_laid_out; spell = record { spelled = refl; each = All-nil IsBatch }; entries = tt };
   stand = record { same_limits = refl; count = lit≤ tt; each = none_stand pick; names = λ i j a b at_i at_j same. absurd cc };
 }
 
@@ -259,6 +259,7 @@ created_found pick = record {
       spelled = ap (λ (b : List ℕ). b ∷ []) (sym spelled_first);
       each = All-cons IsBatch (creation 0 100 122 ∷ []) [] (is_batch 0 100 122 taken_first) (All-nil IsBatch);
     };
+    entries = tt;
   };
   stand = record { same_limits = refl; count = lit≤ tt; each = first_stands pick; names = one_name (record_with 100 122) };
 }
@@ -358,7 +359,7 @@ created_twice_found pick = record {
   cells = no_pairs;
   table = Some second_segment ∷ None ∷ [];
   batches = both_batches;
-  holds = record { laid_out = created_twice_laid_out; spell = record { spelled = both_spelled; each = both_are } };
+  holds = record { laid_out = created_twice_laid_out; spell = record { spelled = both_spelled; each = both_are }; entries = tt };
   stand = both_stand pick;
 }
 
@@ -411,6 +412,7 @@ turned_found pick = record {
       in_slots = slots_hold turned (Some newer_segment) (Some first_segment) turned_newer turned_older (two_differ (Some 2) (Some 1) (λ n is other. absurd cc));
     };
     spell = record { spelled = both_spelled; each = both_are };
+    entries = tt;
   };
   stand = both_stand pick;
 }

@@ -196,6 +196,7 @@ parts = record {
     spelled = ap (λ (b : List ℕ). b ∷ []) (sym batch_spelled);
     each = All-cons batches.IsBatch (append_x ∷ []) [] append_is_batch (All-nil batches.IsBatch);
   };
+  entries = tt;
 }
 
 -- by the newer cell: the document at revision 2, whose floor that is
