@@ -1,6 +1,6 @@
 -- The test of a change on a document, by what the document would weigh.
 use Rattle.std.proofs.Common.{inl, inr, ◌≡◌, ℕ, ◌+◌, ◌-◌, ◌*◌, ◌≤◌, ◌<◌, ◌^◌, ◌⊎◌, ◌↔◌, min, Bool, true, false, List, [], ◌∷◌, length, Result, Ok, Err, refl, sym, ap, ◌∙◌, true≢false, arith}
-use Rattle.std.specs.Prelude.{◌&&◌, ◌||◌, ◌==◌, not, nat_le}
+use Rattle.std.specs.Prelude.{OnOk, OnErr, IfErr, ◌&&◌, ◌||◌, ◌==◌, not, nat_le}
 use Rattle.std.proofs.lemmas.Bool.{eqb-true}
 use Rattle.std.proofs.lemmas.Bool.Decides.{nat_tests}
 use Rattle.refusal.specs.declared.Refusal.{Refusal}
@@ -11,7 +11,7 @@ use Rattle.delta.specs.Gaps.{counted, apply}
 use Rattle.delta.specs.Places.{IsDefined}
 use Rattle.document.specs.Places.{Cuts}
 use Rattle.revision.specs.Parting.{parts_pair}
-use Rattle.revision.specs.Command.{Step, Edits, Deletes, Revives}
+use Rattle.revision.specs.Command.{Step, Edits, Deletes, Revives, deletes}
 use Rattle.revision.specs.Past.{Content, IsBlankFor, is_content, suits, units_after, own_delta}
 use Rattle.revision.specs.State.{reaches_past, stands_on, stands}
 use Rattle.revision.proofs.Told.{parts_told}
@@ -61,27 +61,43 @@ module _ (delta : List Operation) (units : List Element) (weighed : Result ℕ R
       neither true = refl
       neither false = refl
 
+-- the same of a result
+module _ (delta : List Operation) (units : List Element) (weighed : Result ℕ Refusal)
+    (past_end : (weighed ≡ Err PastEnd) ↔ (¬ (IsDefined units (counted delta))))
+    (cuts : (weighed ≡ Err CutsPair) ↔ (IsDefined units (counted delta) × Cuts units (counted delta))) where
+  pub weighed-ok : OnOk weighed (stands_on delta units ≡ true)
+  weighed-ok = by_result weighed refl where
+    by_result : (w : Result ℕ Refusal) → weighed ≡ w → OnOk w (stands_on delta units ≡ true)
+    by_result (Ok weight) e = stands_where delta units weighed past_end cuts weight e
+    by_result (Err refusal) e = tt
+
+  pub weighed-err : IfErr weighed (λ refusal. (refusal ≡ PastEnd) ⊎ (refusal ≡ CutsPair)) → OnErr weighed (stands_on delta units ≡ false)
+  weighed-err only = by_result weighed refl only where
+    by_result : (w : Result ℕ Refusal) → weighed ≡ w → IfErr w (λ refusal. (refusal ≡ PastEnd) ⊎ (refusal ≡ CutsPair)) → OnErr w (stands_on delta units ≡ false)
+    by_result (Ok weight) e only = tt
+    by_result (Err refusal) e only = fails delta units weighed past_end cuts refusal e only
+
 -- where a change isn't a deletion, its delta stands on what stands in the document, and leads to what stands there after it
-module _ (step : Step) (delta : List Operation) (units : List Element) (other : ¬ (step ≡ Deletes)) (blank : IsBlankFor step units) where
+module _ (step : Step) (delta : List Operation) (units : List Element) (other : deletes step ≡ false) (blank : IsBlankFor step units) where
   pub stands-change : stands step delta units ≡ stands_on delta units
   stands-change = by_step step other blank where
-    by_step : (st : Step) → (¬ (st ≡ Deletes)) → IsBlankFor st units → stands st delta units ≡ stands_on delta units
+    by_step : (st : Step) → deletes st ≡ false → IsBlankFor st units → stands st delta units ≡ stands_on delta units
     by_step Edits other blank = refl
-    by_step Deletes other blank = absurd (other refl)
+    by_step Deletes other blank = absurd (true≢false other)
     by_step Revives other blank = ap (stands_on delta) (sym blank)
 
   pub after-change : units_after units step delta ≡ apply units (counted delta)
   after-change = by_step step other blank where
-    by_step : (st : Step) → (¬ (st ≡ Deletes)) → IsBlankFor st units → units_after units st delta ≡ apply units (counted delta)
+    by_step : (st : Step) → deletes st ≡ false → IsBlankFor st units → units_after units st delta ≡ apply units (counted delta)
     by_step Edits other blank = refl
-    by_step Deletes other blank = absurd (other refl)
+    by_step Deletes other blank = absurd (true≢false other)
     by_step Revives other blank = ap (λ u. apply u (counted delta)) (sym blank)
 
   pub own-change : own_delta step delta ≡ delta
   own-change = by_step step other where
-    by_step : (st : Step) → (¬ (st ≡ Deletes)) → own_delta st delta ≡ delta
+    by_step : (st : Step) → deletes st ≡ false → own_delta st delta ≡ delta
     by_step Edits other = refl
-    by_step Deletes other = absurd (other refl)
+    by_step Deletes other = absurd (true≢false other)
     by_step Revives other = refl
 
 -- a document that is created again has nothing in it

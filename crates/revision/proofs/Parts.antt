@@ -16,9 +16,9 @@ use Rattle.revision.proofs.Room.{room_for_undo}
 use Rattle.revision.proofs.Kept.{stand-more, short-more, short-take, room-since, stand-between, short-between, short-first, short-inserts}
 use Rattle.revision.proofs.KeptDocuments.{kept-prepared, kept-accepted, kept-cut}
 use Rattle.revision.proofs.Replays.{stand-take, stand-drop, drop-here}
-use Rattle.revision.specs.steps.Turning.{turn_or, steps_up_to_turn, turned_floor, live_after_takers}
+use Rattle.revision.specs.steps.Turning.{steps_up_to_turn, turned_floor, live_after_takers}
 use Rattle.revision.proofs.Floors.{newest-from, content-from, deltas-from}
-use Rattle.revision.proofs.Turning.{nexts-length, nexts-more, nexts-take, nexts-drop, nexts-units, nexts-live, nexts-content, lead-more, lead-take, moved, floor_after, steps-from, floor-is}
+use Rattle.revision.proofs.Turning.{nexts-length, nexts-more, nexts-take, nexts-drop, nexts-units, nexts-live, nexts-content, lead-more, lead-take, moved, floor_after, steps-from, floor-is, turns-within}
 
 -- changes by as many sources as deltas
 pub changes-deltas : (takers : List Taker) (deltas : List (List Operation)) → length takers ≡ length deltas → deltas_in (changes_by takers deltas) ≡ deltas
@@ -282,7 +282,7 @@ module _ (parts : Parts) (is : AreParts parts) where
       → floor ≡ max (turned_floor (parts.start + parts.count) parts.floor (steps_up_to_turn (drop parts.count parts.takers))) (parts.start + length parts.deltas - keep)
       → AreParts (record parts { count = length parts.deltas; floor = floor; live = live_after_takers parts.live (drop parts.count parts.takers) })
   accept_are keep floor some most floor_is =
-      let within = turned_within (steps_up_to_turn (drop parts.count parts.takers)) (up_to_length (drop parts.count parts.takers)) in
+      let within = turned_within (steps_up_to_turn (drop parts.count parts.takers)) (turns-within (drop parts.count parts.takers)) in
       let all : applied parts.units (take (length parts.deltas) parts.deltas) ≡ applied parts.units parts.deltas =
       ap (applied parts.units) (take_all (length parts.deltas) parts.deltas (omega arith)) in
       let none : drop (length parts.deltas) parts.takers ≡ [] = drop_all (length parts.deltas) parts.takers (omega (arith, is.same)) in
@@ -292,7 +292,7 @@ module _ (parts : Parts) (is : AreParts parts) where
         same = is.same;
         content = subst (λ (c : Content). is_content c ≡ true)
             (λ i. record { units = (prepared-units ∙ sym all) i; live = prepared-live i }) prepared-is-content;
-        lead = subst (λ (t : List Taker). LeadInTurn _ t (drop (length parts.deltas) parts.deltas)) (sym none) tt;
+        lead = subst (λ (t : List Taker). LeadInTurn (record { units = applied parts.units (take (length parts.deltas) parts.deltas); live = live_after_takers parts.live (drop parts.count parts.takers) }) t (drop (length parts.deltas) parts.deltas)) (sym none) tt;
         count = omega arith;
         start = omega (arith, floor_is, within.0, is.start);
         floor = omega (arith, floor_is, within.1, is.count, some, length-drop parts.count parts.takers, is.same);
@@ -301,16 +301,6 @@ module _ (parts : Parts) (is : AreParts parts) where
         kept = kept-accepted parts.start parts.count (length parts.deltas) parts.units parts.deltas parts.kept is.count is.kept;
       }
     where
-      up_to_length : (takers : List Taker) → steps_up_to_turn takers ≤ length takers
-      up_to_length [] = omega arith
-      up_to_length (first ∷ others) = by_later (steps_up_to_turn others) first.step (up_to_length others)
-        where
-          by_later : (later : ℕ) (step : Step) → later ≤ length others → turn_or later step ≤ length others + 1
-          by_later zero Edits le = omega arith
-          by_later zero Deletes le = omega arith
-          by_later zero Revives le = omega arith
-          by_later (suc later) step le = omega (arith, le)
-
       turned_within : (turns : ℕ) → turns ≤ length (drop parts.count parts.takers)
           → (parts.floor ≤ turned_floor (parts.start + parts.count) parts.floor turns)
           × (turned_floor (parts.start + parts.count) parts.floor turns ≤ parts.start + parts.count + length (drop parts.count parts.takers))

@@ -1,13 +1,13 @@
 -- What is prepared of a past, as it is kept: each delta leads to what stands after its step; and what comes of it once it is accepted.
-use Rattle.std.proofs.Common.{◌≡◌, ℕ, zero, suc, ◌+◌, ◌-◌, ◌≤◌, ◌<◌, max, Bool, true, false, List, [], ◌∷◌, ◌++◌, length, take, drop, map, get_or, length-append, refl, sym, ap, ap₂, subst, ◌∙◌, arith}
-use Rattle.std.specs.Prelude.{◌||◌}
+use Rattle.std.proofs.Common.{◌≡◌, ℕ, zero, suc, ◌+◌, ◌-◌, ◌≤◌, ◌<◌, max, Bool, true, false, List, [], ◌∷◌, ◌++◌, length, take, drop, map, get_or, length-append, refl, sym, ap, ap₂, subst, ◌∙◌, true≢false, arith}
+use Rattle.std.specs.Prelude.{◌||◌, ◌==◌}
 use Rattle.std.proofs.lemmas.List.{drop_all}
 use Rattle.delta.specs.Element.{Element}
 use Rattle.delta.specs.Operation.{Operation}
 use Rattle.delta.specs.Gaps.{counted, apply}
 use Rattle.compose.specs.Many.{applied}
 use Rattle.revision.specs.declared.taker.Taker.{Taker}
-use Rattle.revision.specs.Command.{Step, Edits, Deletes, Revives}
+use Rattle.revision.specs.Command.{Step, Edits, Deletes, Revives, edits}
 use Rattle.revision.specs.Sources.{Sources, with_taken}
 use Rattle.revision.specs.Past.{Past, Content, Change, Next, own_delta, next_by, nexts_by, changes_by, is_content, suits, live_after, units_after, content_after, content_after_all, LeadsTo, LeadInTurn, newest, newest_content, newest_sources, deltas_of, sources_after, sources_at, content_at, from_floor, with_change, rebased, with_step, with_steps}
 use Rattle.revision.specs.Floors.{longer}
@@ -76,7 +76,7 @@ nexts-live content (taker ∷ takers) (delta ∷ deltas) same =
 -- nothing stands in a document that is deleted, however it goes on by steps that suit it
 step-content : (content : Content) (step : Step) (delta : List Operation) → is_content content ≡ true → suits content.live step ≡ true
     → is_content (content_after content step delta) ≡ true
-step-content content Edits delta may suit = ap (λ b. b || _) suit
+step-content content Edits delta may suit = ap (λ b. b || (length (apply content.units (counted delta)) == 0)) suit
 step-content content Deletes delta may suit = refl
 step-content content Revives delta may suit = refl
 
@@ -256,56 +256,38 @@ floor-is keep newest floor first (second ∷ others) some le =
     by_later zero Revives = omega arith
     by_later (suc later) step = omega arith
 
+-- no more of them lead up to it than there are
+pub turns-within : (takers : List Taker) → steps_up_to_turn takers ≤ length takers
+turns-within [] = omega arith
+turns-within (first ∷ others) = by_later (steps_up_to_turn others) first.step (turns-within others)
+  where
+    by_later : (later : ℕ) (step : Step) → later ≤ length others → turn_or later step ≤ length (first ∷ others)
+    by_later zero Edits le = omega arith
+    by_later zero Deletes le = omega arith
+    by_later zero Revives le = omega arith
+    by_later (suc later) step le = omega (arith, le)
+
 -- the last of some that edit, and the last of some that doesn't
-pub turn-edits : (n : ℕ) (takers : List Taker) (t : Taker) → n < length takers → t ≡ get_or takers n t → t.step ≡ Edits
+pub turn-edits : (n : ℕ) (takers : List Taker) (t : Taker) → n < length takers → t ≡ get_or takers n t → edits t.step ≡ true
     → steps_up_to_turn (take (suc n) takers) ≡ steps_up_to_turn (take n takers)
 turn-edits n [] t there same edit = absurd (omega (arith, there))
-turn-edits zero (first ∷ others) t there same edit = ap (λ (s : Step). turn_or 0 s) (ap (λ (u : Taker). u.step) (sym same) ∙ edit)
+turn-edits zero (first ∷ others) t there same edit = by_step first.step (ap (λ (u : Taker). edits u.step) (sym same) ∙ edit)
+  where
+    by_step : (step : Step) → edits step ≡ true → turn_or 0 step ≡ 0
+    by_step Edits e = refl
+    by_step Deletes e = absurd (true≢false (sym e))
+    by_step Revives e = absurd (true≢false (sym e))
 turn-edits (suc n) (first ∷ others) t there same edit =
     ap (λ l. turn_or l first.step) (turn-edits n others t (omega (arith, there)) same edit)
 
-pub turn-here : (n : ℕ) (takers : List Taker) (t : Taker) → n < length takers → t ≡ get_or takers n t → (¬ (t.step ≡ Edits))
+pub turn-here : (n : ℕ) (takers : List Taker) (t : Taker) → n < length takers → t ≡ get_or takers n t → edits t.step ≡ false
     → steps_up_to_turn (take (suc n) takers) ≡ suc n
 turn-here n [] t there same other = absurd (omega (arith, there))
-turn-here zero (first ∷ others) t there same other = by_step first.step (λ e. other (ap (λ (u : Taker). u.step) same ∙ e)) where
-  by_step : (step : Step) → (¬ (step ≡ Edits)) → turn_or 0 step ≡ 1
-  by_step Edits other = absurd (other refl)
-  by_step Deletes other = refl
-  by_step Revives other = refl
+turn-here zero (first ∷ others) t there same other = by_step first.step (ap (λ (u : Taker). edits u.step) (sym same) ∙ other)
+  where
+    by_step : (step : Step) → edits step ≡ false → turn_or 0 step ≡ 1
+    by_step Edits e = absurd (true≢false e)
+    by_step Deletes e = refl
+    by_step Revives e = refl
 turn-here (suc n) (first ∷ others) t there same other =
     ap (λ l. turn_or l first.step) (turn-here n others t (omega (arith, there)) same other)
-
--- whether the document is live is told by the last step that isn't an edit
-pub live-edited : (live : Bool) (takers : List Taker) → steps_up_to_turn takers ≡ 0 → live_after_takers live takers ≡ live
-live-edited live [] none = refl
-live-edited live (first ∷ others) none = by_later (steps_up_to_turn others) first.step refl none (live-edited live others) where
-  by_later : (later : ℕ) (step : Step) → steps_up_to_turn others ≡ later → turn_or later step ≡ 0
-      → (steps_up_to_turn others ≡ 0 → live_after_takers live others ≡ live) → live_after_takers (live_after live step) others ≡ live
-  by_later zero Edits e none later = later e
-  by_later zero Deletes e none later = absurd (omega (arith, none))
-  by_later zero Revives e none later = absurd (omega (arith, none))
-  by_later (suc n) step e none later = absurd (omega (arith, none))
-
-abbrev pub revives : Step → Bool
-revives Edits = false
-revives Deletes = false
-revives Revives = true
-
-pub live-turned : (live : Bool) (takers : List Taker) (n : ℕ) (t : Taker) → steps_up_to_turn takers ≡ suc n → t ≡ get_or takers n t
-    → live_after_takers live takers ≡ revives t.step
-live-turned live [] n t turn same = absurd (omega (arith, turn))
-live-turned live (first ∷ others) n t turn same =
-    by_later (steps_up_to_turn others) n first.step refl turn refl same (λ l m e h. live-turned l others m t e h) where
-  by_later : (later n : ℕ) (step : Step) → steps_up_to_turn others ≡ later → turn_or later step ≡ suc n → first.step ≡ step
-      → t ≡ get_or (first ∷ others) n t
-      → ((l : Bool) (m : ℕ) → steps_up_to_turn others ≡ suc m → t ≡ get_or others m t → live_after_takers l others ≡ revives t.step)
-      → live_after_takers (live_after live step) others ≡ revives t.step
-  by_later zero n Edits e turn is same further = absurd (omega (arith, turn))
-  by_later zero zero Deletes e turn is same further = live-edited false others e ∙ sym (ap (λ (u : Taker). revives u.step) same ∙ ap revives is)
-  by_later zero zero Revives e turn is same further = live-edited true others e ∙ sym (ap (λ (u : Taker). revives u.step) same ∙ ap revives is)
-  by_later zero (suc n) Deletes e turn is same further = absurd (omega (arith, turn))
-  by_later zero (suc n) Revives e turn is same further = absurd (omega (arith, turn))
-  by_later (suc later) zero step e turn is same further = absurd (omega (arith, turn))
-  by_later (suc later) (suc n) step e turn is same further =
-      let one : suc later ≡ suc n = omega (arith, turn) in
-      further (live_after live step) n (e ∙ one) same

@@ -59,6 +59,12 @@ edits Edits = true
 edits Deletes = false
 edits Revives = false
 
+-- it deletes it
+abbrev pub deletes : Step → Bool
+deletes Edits = false
+deletes Deletes = true
+deletes Revives = false
+
 -- A creation is of revision 1, and has number 1; no other command has a name. Revisions and numbers are below 2^53.
 abbrev pub is_kind : Option (List ℕ) → Step → ℕ → ℕ → Bool
 is_kind None step revision number = nat_le (first_of step) revision && nat_lt revision (2 ^ 53) && nat_lt number (2 ^ 53)

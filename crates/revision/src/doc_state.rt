@@ -24,7 +24,7 @@ use crate::past::{Past, Replay};
 use crate::source_table::SourceTable;
 use crate::sources::{Sources, window_in};
 use crate::step::Step;
-use crate::taken::Taken;
+use crate::taken::{Taken, deletes, edits};
 use crate::window::Window;
 use delta::{Builder, Delta, Op};
 use document::Document;
@@ -355,7 +355,7 @@ pub(crate) fn begins(alloc: Global, limits: Limits, taken: &Taken) -> bool
     requires { IsLimits limits }
     ensures { result ≡ spec_begins limits taken.now }
 {
-    if taken.step() != Step::Edits {
+    if !edits(taken.step()) {
         return false;
     }
     let sources = Sources::new(alloc);
@@ -463,7 +463,7 @@ fn weigh_after(document: &Document, taken: &Taken) -> Result<u64, Refusal>
         ≡ min (weight_of (units_after document.now taken.now.step taken.now.delta)) (2 ^ 64 - 1)) }
     ensures err { OnErr result (stands taken.now.step taken.now.delta document.now ≡ false) }
 {
-    if taken.step() == Step::Deletes {
+    if deletes(taken.step()) {
         return Ok(0);
     }
     document.weigh(taken.delta())
@@ -519,7 +519,7 @@ fn kept_delta(alloc: Global, document: &Document, step: Step, delta: Delta) -> R
     ensures short { IfOk result (λ kept. length (apply document.now (counted kept)) ≤ 2 ^ 29) }
     ensures only { IsOkUnless result Refusal.NoMemory }
 {
-    if step == Step::Deletes {
+    if deletes(step) {
         return deleting_all(alloc, document);
     }
     Ok(delta)

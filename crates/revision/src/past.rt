@@ -7,7 +7,7 @@ ghost use Rattle.document.specs.Outcome.{IsAccepted};
 ghost use Rattle.compose.specs.Many.{applied};
 ghost use Rattle.revision.specs.Floors.{raised};
 ghost use Rattle.revision.specs.Late.{late as late_edit, all_inserted, HasCommandRoom};
-ghost use Rattle.revision.specs.Past.{Change, StandInTurn, IsKept, AreKept, newest, newest_units, content_at, deltas_of, deltas_above, undo_of, way_back, way_back_late, Next, is_content, suits, units_after, next_by, with_steps, prepared_content, prepared_units, prepared_revision, without_last, sources_after, sources_at, changes_by};
+ghost use Rattle.revision.specs.Past.{Change, StandInTurn, IsKept, AreKept, newest, newest_units, content_at, deltas_of, deltas_above, undo_of, way_back, way_back_late, Next, is_content, suits, live_after as spec_live_after, units_after, next_by, with_steps, prepared_content, prepared_units, prepared_revision, without_last, sources_after, sources_at, changes_by};
 ghost use Rattle.revision.specs.steps.Turning.{steps_up_to_turn, turned_floor as spec_turned_floor, live_after_takers};
 ghost use Rattle.revision.specs.Name.{is_source_name};
 ghost use Rattle.revision.specs.Replay.{IsReplay};
@@ -17,6 +17,7 @@ use crate::late::{late, past_all};
 use crate::name::Name;
 use crate::sources::Sources;
 use crate::step::Step;
+use crate::taken::edits;
 use crate::taker::Taker;
 use compose::invert;
 use delta::Delta;
@@ -449,7 +450,7 @@ fn up_to_turn(takers: &[Taker]) -> usize
     ensures { result ≡ steps_up_to_turn takers.now }
 {
     let mut count = takers.len();
-    while count > 0 && takers[count - 1].step == Step::Edits {
+    while count > 0 && edits(takers[count - 1].step) {
         count -= 1;
     }
     count
@@ -471,9 +472,20 @@ fn turned_floor(newest: u64, floor: u64, turns: usize) -> u64
 fn live_after(takers: &[Taker], live: bool) -> bool
     ensures { result ≡ live_after_takers live takers.now }
 {
-    match up_to_turn(takers) {
-        0 => live,
-        count => takers[count - 1].step == Step::Revives,
+    let mut now = live;
+    for taker in takers {
+        now = live_after_step(now, taker.step);
+    }
+    now
+}
+
+fn live_after_step(live: bool, step: Step) -> bool
+    ensures { result ≡ spec_live_after live step }
+{
+    match step {
+        Step::Edits => live,
+        Step::Deletes => false,
+        Step::Revives => true,
     }
 }
 

@@ -2,7 +2,7 @@
 ghost use Rattle.std.specs.Prelude.{◌≡◌, ◌↔◌, ◌<◌, ◌^◌, ◌+◌, ◌-◌, [], min, Some, None, length, option_map, IfOk, IsOkUnless, IsTrue};
 ghost use Rattle.revision.specs.Spellable.{IsSpellable};
 ghost use Rattle.revision.specs.Width as wide;
-ghost use Rattle.revision.specs.Command.{Edits, Deletes, Revives, IsTaken, step_width, width_of};
+ghost use Rattle.revision.specs.Command.{Edits, Deletes, Revives, edits as spec_edits, deletes as spec_deletes, IsTaken, step_width, width_of};
 
 use crate::name::Name;
 use crate::step::Step;
@@ -301,6 +301,28 @@ impl Taken {
             && has_same_name(self.name(), other.name())
             && is_same_name(self.source(), other.source())
             && is_same_delta(self.delta(), other.delta())
+    }
+}
+
+/// Whether a step edits the document.
+pub(crate) fn edits(step: Step) -> bool
+    ensures { result ≡ spec_edits step }
+{
+    match step {
+        Step::Edits => true,
+        Step::Deletes => false,
+        Step::Revives => false,
+    }
+}
+
+/// Whether a step deletes the document.
+pub(crate) fn deletes(step: Step) -> bool
+    ensures { result ≡ spec_deletes step }
+{
+    match step {
+        Step::Edits => false,
+        Step::Deletes => true,
+        Step::Revives => false,
     }
 }
 

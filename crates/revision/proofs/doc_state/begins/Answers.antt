@@ -1,4 +1,5 @@
-use Rattle.std.proofs.Common.{[], sym, ap₂, ◌∙◌}
+use Rattle.std.proofs.Common.{[], sym, ap, ap₂, ◌∙◌}
+use Rattle.revision.specs.Command.{edits}
 use Rattle.std.specs.Prelude.{◌&&◌}
 use Rattle.revision.specs.Past.{empty_past}
 use Rattle.revision.specs.Sources.{Sources}
@@ -14,4 +15,4 @@ returns c =
     let d : PendingDocument = record { name = []; past = record { past = empty_past; next = [] } } in
     c.is_some.ensures ∙ c.follows_at.ensures
     ∙ ap₂ (λ u (s : Sources). comes_next limits 0 s taken && keeps limits u s taken) c.empty-document.ensures c.new-sources.ensures
-    ∙ sym (follows_prepared limits d taken) ∙ follows-empty limits [] taken c.requires
+    ∙ sym (follows_prepared limits d taken) ∙ follows-empty limits [] taken c.requires (ap edits (sym c.step.ensures.step) ∙ (sym c.edits.ensures ∙ c.if-not-edits.false))

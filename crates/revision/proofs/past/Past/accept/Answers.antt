@@ -1,10 +1,12 @@
-use Rattle.std.proofs.Common.{[], ◌≡◌, ℕ, ◌+◌, ◌-◌, max, Bool, List, length, drop, sym, ap, ap₂, subst, ◌∙◌, arith}
+use Rattle.std.proofs.Common.{[], ◌≡◌, ℕ, ◌+◌, ◌-◌, ◌<◌, ◌^◌, max, Bool, List, length, drop, sym, ap, ap₂, subst, ◌∙◌, arith}
 use Rattle.revision.specs.declared.taker.Taker.{Taker}
 use Rattle.revision.specs.Past.{Parts, Prepared, AreParts, seen, with_steps}
 use Rattle.revision.specs.steps.PastView.{parts_of}
 use Rattle.revision.specs.steps.Turning.{steps_up_to_turn, turned_floor, live_after_takers}
 use Rattle.revision.proofs.Parts.{accept_is, accept_are, nothing_prepared}
 use Rattle.revision.proofs.FromBase.{slice-from}
+use Rattle.revision.proofs.Turning.{turns-within}
+use Rattle.std.proofs.lemmas.List.{length-drop}
 use Rattle.revision.proofs.past.Past.accept.Goals as goal
 
 pub returns-then-self-len : goal.returns-then-self-len
@@ -45,3 +47,10 @@ invariant_of-self c =
     subst (λ (n : ℕ). AreParts (record parts { count = n; floor = c.max-self-inside.result; live = c.live_after-live.result })) (sym all)
     (subst (λ (l : Bool). AreParts (record parts { count = length parts.deltas; floor = c.max-self-inside.result; live = l })) (sym live)
     (accept_are parts c.self.invariant c.args.keep c.max-self-inside.result c.requires.some c.requires.bound floor_is))
+
+pub turned_floor-requires : goal.turned_floor-requires
+turned_floor-requires c =
+    let parts : Parts = parts_of c.self.inside in
+    let added = slice-from parts.count c.as_slice.result.now ∙ ap (λ (l : List Taker). drop parts.count l) c.as_slice.ensures.value in
+    let turns : c.up_to_turn-turns.result ≡ steps_up_to_turn (drop parts.count parts.takers) = c.up_to_turn-turns.ensures ∙ ap steps_up_to_turn added in
+    omega (arith, turns, turns-within (drop parts.count parts.takers), length-drop parts.count parts.takers, c.self.invariant.same, c.self.invariant.count, c.self.invariant.revision)
