@@ -142,20 +142,21 @@ taken_bound (Some name) step revision number kind =
     let one : revision ≡ 1 = eqb-true revision 1 (and_parts _ (revision == 1) first.0).1 in
     omega (arith, one)
 
+-- a live document may be edited
+pub suits-edits : (step : Step) → edits step ≡ true → suits true step ≡ true
+suits-edits Edits h = refl
+suits-edits Deletes h = refl
+suits-edits Revives h = absurd (true≢false (sym h))
+
 -- a creation begins a document just where it edits and follows the empty one
 pub follows-empty : (limits : Limits) (name : List ℕ) (taken : Taken) → IsLimits limits → edits taken.step ≡ true
     → follows limits (with_prepared limits.keep (record { name = name; past = record { past = empty_past; next = [] } })) taken ≡ begins limits taken
 follows-empty limits name taken is edit =
     by_first (suits true taken.step) (edits taken.step) (taken.revision == 1) (taken.number == 1) (nat_le taken.number last_of_all) (has_place limits taken.source empty)
-    (keeps limits [] empty taken) (suits_edits taken.step edit) edit
+    (keeps limits [] empty taken) (suits-edits taken.step edit) edit
     (lt-ltb 0 limits.sources (omega (arith, is.some_source)))
     (λ one. le-leb taken.number last_of_all (omega (arith, eqb-true taken.number 1 one)))
   where
-    suits_edits : (step : Step) → edits step ≡ true → suits true step ≡ true
-    suits_edits Edits h = refl
-    suits_edits Deletes h = refl
-    suits_edits Revives h = absurd (true≢false (sym h))
-
     by_first : (s e a b c p k : Bool) → s ≡ true → e ≡ true → p ≡ true → (b ≡ true → c ≡ true) → (s && (a && true && b && c && p) && k) ≡ (e && a && b && k)
     by_first s e false b c p k suit edit place some = rw (suit, edit) refl
     by_first s e true false c p k suit edit place some = rw (suit, edit) refl

@@ -1,5 +1,6 @@
 use Rattle.std.proofs.Common.{◌≡◌, ◌+◌, ◌-◌, ℕ, suc, true, false, take, sym, ap, ◌∙◌, arith}
 use Rattle.std.specs.Prelude.{length}
+use Rattle.revision.specs.declared.taker.Taker.{Taker}
 use Rattle.revision.specs.Command.{edits}
 use Rattle.revision.specs.steps.Turning.{steps_up_to_turn}
 use Rattle.revision.proofs.Turning.{turn-edits, turn-here}
@@ -10,7 +11,7 @@ loop-count-preserved c =
     let n : ℕ = c.loop-count.count - 1 in
     let takers = c.args.takers.now in
     let whole : suc n ≡ c.loop-count.count = omega (arith, c.loop-count-test.true) in
-    let edit : edits c.index-takers-count.result.step ≡ true = sym c.edits.ensures ∙ c.if-edits.true in
+    let edit : edits c.index-takers-count.result.step ≡ true = ap (λ (t : Taker). edits t.step) c.index-takers-count.is ∙ sym c.edits.ensures ∙ c.if-edits.true in
     record {
       within = omega (arith, c.loop-count.invariant.within);
       same = sym (turn-edits n takers c.index-takers-count.result (omega (arith, c.loop-count.invariant.within, c.loop-count-test.true)) c.index-takers-count.is edit)
@@ -22,7 +23,7 @@ returns-else-edits c =
     let n : ℕ = c.loop-count.count - 1 in
     let takers = c.args.takers.now in
     let whole : suc n ≡ c.loop-count.count = omega (arith, c.loop-count-test.true) in
-    let other : edits c.index-takers-count.result.step ≡ false = sym c.edits.ensures ∙ c.if-edits.false in
+    let other : edits c.index-takers-count.result.step ≡ false = ap (λ (t : Taker). edits t.step) c.index-takers-count.is ∙ sym c.edits.ensures ∙ c.if-edits.false in
     sym (sym c.loop-count.invariant.same
     ∙ (ap (λ m. steps_up_to_turn (take m takers)) (sym whole)
     ∙ (turn-here n takers c.index-takers-count.result (omega (arith, c.loop-count.invariant.within, c.loop-count-test.true)) c.index-takers-count.is other ∙ whole)))
