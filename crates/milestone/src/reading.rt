@@ -167,7 +167,8 @@ fn mark(format: Format, bytes: &[u8]) -> Result<(bool, &[u8]), Unread>
 
 // the mark as the second format spells it
 fn mark_in_byte(bytes: &[u8]) -> Result<(bool, &[u8]), Unread>
-    ensures found { IfOk result (λ x. bytes.now ≡ spelling.mark Format.Two x.0 ++ x.1.now) }
+    ensures found { IfOk result (λ x. (spells_mark Format.Two x.0 ≡ true)
+        × (bytes.now ≡ spelling.mark Format.Two x.0 ++ x.1.now)) }
     ensures none { IfErr result (λ e. e ≡ Unread.Malformed
         → BeginsNone (spelling.mark Format.Two) (λ live. spells_mark Format.Two live ≡ true) bytes.now) }
 {
