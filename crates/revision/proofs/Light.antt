@@ -95,7 +95,7 @@ blank-for content Revives may suit = nothing content.units (by_mark content.live
 
   nothing : (units : List Element) → (length units == 0) ≡ true → units ≡ []
   nothing [] e = refl
-  nothing (x ∷ units) e = absurd (omega (arith, eqb-true (length units + 1) 0 e))
+  nothing (x ∷ units) e = absurd (omega (arith, eqb-true (length (x ∷ units)) 0 e))
 
 same_test : (x y m : ℕ) → (x ≤ m → y ≤ m) → (y ≤ m → x ≤ m) → nat_le x m ≡ nat_le y m
 same_test x y m there back = by_tests (nat_le x m) (nat_le y m) refl refl where
