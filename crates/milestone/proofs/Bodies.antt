@@ -1,5 +1,5 @@
 -- The body of a cell, part by part: what begins it, and which one it is where its parts are known.
-use Rattle.std.proofs.Common.{◌≡◌, ℕ, ◌^◌, ◌<◌, Bool, true, false, List, [], ◌∷◌, ◌++◌, length, drop, get_or, true≢false, refl, sym, ◌∙◌, ap, subst, arith, append_assoc, append-nil}
+use Rattle.std.proofs.Common.{◌≡◌, ℕ, ◌^◌, ◌<◌, Bool, true, false, List, [], ◌∷◌, ◌++◌, length, true≢false, refl, sym, ◌∙◌, ap, subst, arith, append_assoc, append-nil}
 use Rattle.std.specs.Int.{w32, w64}
 use Rattle.std.specs.List.{AllByRecursion}
 use Rattle.std.proofs.lemmas.Bool.{and_parts, and_from}
@@ -13,9 +13,10 @@ use Rattle.revision.specs.State.{last_of_all, is_window, are_sources}
 use Rattle.journal.specs.Spelling.{number, text16}
 use Rattle.journal.proofs.CallerLemmas.{one_number32_spelling, one_number64_spelling}
 use Rattle.history.specs.Cell.{Cell}
-use Rattle.milestone.specs.CellSpelling.{Format, One, Two, mark_byte, mark, spells_mark, spells, have_one, spells_all, cell_body_in, IsCellIn}
+use Rattle.milestone.specs.CellSpelling.{Format, One, Two, mark, spells_mark, spells, have_one, spells_all, cell_body_in, IsCellIn}
 use Rattle.milestone.specs.steps.Reading.{BeginsNone, IsWithin, IsContent, content_bytes, IsSource, AreSources, sources_bytes}
 use Rattle.milestone.proofs.Fields.{one_name, one_content, one_sources}
+use Rattle.milestone.proofs.Marks.{one_mark}
 
 -- ---- windows that a format spells, one by one and all
 
@@ -91,18 +92,6 @@ behind_document format cell more = text16 cell.name ++ behind_name format cell m
 cell_parts : (format : Format) (n : ℕ) (cell : Cell) (more : List ℕ) → cell_body_in format n cell ++ more ≡ number w32 n ++ behind_document format cell more
 unfolding cell_body_in content_bytes
 cell_parts format n cell more = simp append_assoc
-
--- one mark stands there
-one_byte : (a b : Bool) → mark_byte a ≡ mark_byte b → a ≡ b
-one_byte true true same = refl
-one_byte true false same = absurd (omega (arith, same))
-one_byte false true same = absurd (omega (arith, same))
-one_byte false false same = refl
-
-one_mark : (format : Format) (a b : Bool) (x y : List ℕ) → spells_mark format a ≡ true → spells_mark format b ≡ true → mark format a ++ x ≡ mark format b ++ y
-    → (a ≡ b) × (x ≡ y)
-one_mark One a b x y is_a is_b same = (is_a ∙ sym is_b, same)
-one_mark Two a b x y is_a is_b same = (one_byte a b (ap (λ (l : List ℕ). get_or l 0 0) same), ap (λ (l : List ℕ). drop 1 l) same)
 
 -- the bytes are the body of no cell of this document
 abbrev pub IsNone : Format → ℕ → List ℕ → Type 0

@@ -14,8 +14,8 @@ use std::alloc::Global;
 use std::marker::Model;
 
 /// What a milestone is made of: what stood in a document at some revision, as the inserts that make it, the deltas in turn that lead from
-/// there to a later one, and the document's mark, live or deleted, and its sources there. It stands apart from the store, so that the deltas can be composed in
-/// another thread.
+/// there to a later one, and the document's mark, live or deleted, and its sources there. It stands apart from the store, so that the
+/// deltas can be composed in another thread.
 #[derive(Drop)]
 pub struct Job {
     document: u32,
@@ -44,7 +44,8 @@ impl Model for Job {
 impl Job {
     /// A job for the document of this number, counted from 0 in order of creation, at a revision of 1 to 2^53 - 1. The base only inserts.
     /// Each delta is accepted by the document that those before it make of what the base makes of the empty one, the base lengths and the
-    /// output lengths of all sum to at most 2^48, they make nothing where the document is deleted, and the sources have numbers of 1 to 2^53 - 1 and revisions of 1 to this one. It takes no memory.
+    /// output lengths of all sum to at most 2^48, they make nothing where the document is deleted, and the sources have numbers of 1 to
+    /// 2^53 - 1 and revisions of 1 to this one. It takes no memory.
     pub fn new(
         document: u32,
         name: Name,

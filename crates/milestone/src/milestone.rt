@@ -9,7 +9,8 @@ use revision::{Name, Sources};
 use std::marker::Model;
 
 /// A document at a revision, with its name and its sources there, seen as what a cell holds. The name has 1 to 64 characters, the
-/// revision is 1 to 2^53 - 1, nothing stands in a document that is deleted, and each source has a name of 1 to 32 characters and a window as one may have at the revision.
+/// revision is 1 to 2^53 - 1, nothing stands in a document that is deleted, and each source has a name of 1 to 32 characters and a window
+/// as one may have at the revision.
 #[derive(Drop)]
 pub struct Milestone {
     name: Name,

@@ -1,5 +1,5 @@
 //! Reading the body of a cell: each part of the spelling has one function, which answers what it read and the bytes behind it.
-ghost use Rattle.std.specs.Prelude.{◌≡◌, ◌+◌, ◌≤◌, ◌<◌, ◌^◌, ◌++◌, ◌∷◌, [], List, ℕ, true, false, length, OnOk, OnErr, IfOk, IfErr, IfSome, IfNone};
+ghost use Rattle.std.specs.Prelude.{◌≡◌, ◌+◌, ◌≤◌, ◌<◌, ◌^◌, ◌++◌, ◌∷◌, [], List, ℕ, Bool, true, false, length, OnOk, OnErr, IfOk, IfErr, IfSome, IfNone};
 ghost use Rattle.std.specs.Int.{w32, w64};
 ghost use Rattle.std.specs.Ordering.{is_lt};
 ghost use Rattle.attributes.specs.Map.{by_bytes, insert};
@@ -161,12 +161,38 @@ fn mark(format: Format, bytes: &[u8]) -> Result<(bool, &[u8]), Unread>
 {
     match format {
         Format::One => Ok((true, bytes)),
-        Format::Two => match byte(bytes) {
-            Some((LIVE, rest)) => Ok((true, rest)),
-            Some((DELETED, rest)) => Ok((false, rest)),
-            _ => Err(Unread::Malformed),
-        },
+        Format::Two => mark_in_byte(bytes),
     }
+}
+
+// the mark as the second format spells it
+fn mark_in_byte(bytes: &[u8]) -> Result<(bool, &[u8]), Unread>
+    ensures found { IfOk result (λ x. (spells_mark Format.Two x.0 ≡ true)
+        × (bytes.now ≡ spelling.mark Format.Two x.0 ++ x.1.now)) }
+    ensures none { IfErr result (λ e. e ≡ Unread.Malformed
+        → BeginsNone (spelling.mark Format.Two) (λ live. spells_mark Format.Two live ≡ true) bytes.now) }
+{
+    let Some((read, rest)) = byte(bytes) else {
+        return Err(Unread::Malformed);
+    };
+    let Some(live) = mark_of(read) else {
+        return Err(Unread::Malformed);
+    };
+    Ok((live, rest))
+}
+
+// the mark that a byte stands for
+fn mark_of(byte: u8) -> Option<bool>
+    ensures found { IfSome result (λ live. byte ≡ spelling.mark_byte live) }
+    ensures none { IfNone result ((live : Bool) → byte ≡ spelling.mark_byte live → ⊥) }
+{
+    if byte == LIVE {
+        return Some(true);
+    }
+    if byte == DELETED {
+        return Some(false);
+    }
+    None
 }
 
 // a document with its mark: nothing stands in one that is deleted

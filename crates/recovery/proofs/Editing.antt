@@ -1,13 +1,14 @@
 -- Whether all entries edit, asked list by list of their documents.
 use Rattle.std.proofs.Common.{◌≡◌, ◌↔◌, ℕ, zero, suc, ◌<◌, ◌≤◌, Bool, true, false, cond, List, [], ◌∷◌, length, get_or, refl, sym, subst, ◌∙◌, arith}
-use Rattle.std.specs.Prelude.{◌&&◌, ◌==◌, nat_lt, All, IsTrue}
+use Rattle.std.specs.Prelude.{◌&&◌, ◌==◌, nat_lt, Vec, All, IsTrue}
+use Rattle.std.specs.declared.alloc.Global.{Global}
 use Rattle.std.specs.List.{AllByRecursion}
 use Rattle.std.proofs.lemmas.Bool.{and_parts, and_from, ltb-true, eq-eqb, cond_both}
 use Rattle.std.proofs.lemmas.List.Elements.{All-from_recursion, recursion_from_All}
 use Rattle.revision.specs.Command.{Taken, edits}
 use Rattle.history.specs.Entries.{of_document}
 use Rattle.recovery.proofs.Parts.{all-below}
-use Rattle.recovery.specs.steps.Reading.{are_below, all_edit, all_lists_edit, AreByDocument}
+use Rattle.recovery.specs.steps.Reading.{lists_of, are_below, all_edit, all_lists_edit, AreByDocument}
 
 -- the entries of one document are some of all
 own-edit : (number : ℕ) (entries : List Taken) → all_edit entries ≡ true → all_edit (of_document number entries) ≡ true
@@ -33,12 +34,12 @@ edit-own docs (first ∷ others) below each =
     rest true t l h = (and_parts (edits t.step) (all_edit l) h).1
     rest false t l h = h
 
-list-at : (lists : List (List Taken)) (n : ℕ) → all_lists_edit lists ≡ true → n < length lists → all_edit (get_or lists n []) ≡ true
+list-at : (lists : List (Vec Taken Global)) (n : ℕ) → all_lists_edit lists ≡ true → n < length (lists_of lists) → all_edit (get_or (lists_of lists) n []) ≡ true
 list-at [] n h lt = absurd (omega (arith, lt))
-list-at (first ∷ others) zero h lt = (and_parts (all_edit first) (all_lists_edit others) h).0
-list-at (first ∷ others) (suc n) h lt = list-at others n (and_parts (all_edit first) (all_lists_edit others) h).1 (omega (arith, lt))
+list-at (first ∷ others) zero h lt = (and_parts (all_edit first.items) (all_lists_edit others) h).0
+list-at (first ∷ others) (suc n) h lt = list-at others n (and_parts (all_edit first.items) (all_lists_edit others) h).1 (omega (arith, lt))
 
-lists-from : (lists : List (List Taken)) → ((n : ℕ) → n < length lists → all_edit (get_or lists n []) ≡ true) → all_lists_edit lists ≡ true
+lists-from : (lists : List (Vec Taken Global)) → ((n : ℕ) → n < length (lists_of lists) → all_edit (get_or (lists_of lists) n []) ≡ true) → all_lists_edit lists ≡ true
 lists-from [] each = refl
 lists-from (first ∷ others) each = and_from _ _ (each 0 (omega arith)) (lists-from others (λ n lt. each (suc n) (omega (arith, lt))))
 
@@ -59,11 +60,12 @@ none-past [] (suc n) le = refl
 none-past (first ∷ others) zero le = absurd (omega (arith, le))
 none-past (first ∷ others) (suc n) le = none-past others n (omega (arith, le))
 
-pub entries_edit : (entries : List Taken) (lists : List (List Taken)) (result : Bool) → AreByDocument entries lists → result ≡ all_lists_edit lists
+pub entries_edit : (entries : List Taken) (lists : List (Vec Taken Global)) (result : Bool) → AreByDocument entries (lists_of lists) → result ≡ all_lists_edit lists
     → IsTrue result ↔ All (λ (taken : Taken). edits taken.step ≡ true) entries
 entries_edit entries lists result by is =
-    let below : are_below (length lists) entries ≡ true = all-below (length lists) entries (λ number past. sym (by number) ∙ none-past lists number past) in (
-      λ yes. All-from_recursion _ entries (edit-all entries (edit-own (length lists) entries below
+    let docs : ℕ = length (lists_of lists) in
+    let below : are_below docs entries ≡ true = all-below docs entries (λ number past. sym (by number) ∙ none-past (lists_of lists) number past) in (
+      λ yes. All-from_recursion _ entries (edit-all entries (edit-own docs entries below
           (λ number lt. subst (λ l. all_edit l ≡ true) (by number) (list-at lists number (sym is ∙ yes) lt)))),
       λ each. is ∙ lists-from lists (λ n lt. subst (λ l. all_edit l ≡ true) (sym (by n)) (own-edit n entries (all-edit entries (recursion_from_All _ entries each)))),
     )

@@ -3,7 +3,6 @@ ghost use Rattle.std.specs.Prelude.{◌≡◌, ◌⊎◌, true, OnOk, OnErr, IfO
 ghost use Rattle.std.specs.String.{string_bytes};
 ghost use Rattle.std.specs.Io.KnownBytes.{Appends};
 ghost use Rattle.revision.specs.Pending.{record_of};
-ghost use Rattle.revision.specs.State.{revision_of};
 ghost use Rattle.session.specs.Output.{AppendsFront};
 ghost use Rattle.server.specs.Dump as spec;
 
@@ -39,20 +38,34 @@ fn line_of(alloc: Global, document: &DocState) -> Result<String, Refusal>
     ensures ok { IfOk result (λ line. string_bytes line ≡ spec.document_line (record_of document.now)) }
     ensures only { IfErr result (λ e. e ≡ Refusal.NoMemory) }
 {
+    let content = content_text(alloc, document)?;
+    let name = document.name().as_str();
+    let line = line_with(alloc, name, document.revision(), document.floor(), &content)?;
+    Ok(line)
+}
+
+// what stands in a document, or that it is deleted
+fn content_text(alloc: Global, document: &DocState) -> Result<String, Refusal>
+    ensures ok { IfOk result (λ text. string_bytes text ≡ spec.content_text (record_of document.now)) }
+    ensures only { IfErr result (λ e. e ≡ Refusal.NoMemory) }
+{
     if !document.is_live() {
-        return Ok(line_with(alloc, document, "deleted")?);
+        let text = String::from_str(alloc, "deleted")?;
+        return Ok(text);
     }
     let delta = document.document().as_delta(alloc)?;
     let content = write_delta(alloc, &delta)?;
-    Ok(line_with(alloc, document, &content)?)
+    Ok(content)
 }
 
-fn line_with(alloc: Global, document: &DocState, content: &str) -> Result<String, AllocError>
-    ensures { IfOk result (λ line. string_bytes line
-        ≡ spec.line_of document.now.name (revision_of (record_of document.now)) document.now.past.past.floor content.now) }
+fn line_with(
+    alloc: Global,
+    name: &str,
+    revision: u64,
+    floor: u64,
+    content: &str,
+) -> Result<String, AllocError>
+    ensures { IfOk result (λ line. string_bytes line ≡ spec.line_of name.now revision floor content.now) }
 {
-    let name = document.name().as_str();
-    let revision = document.revision();
-    let floor = document.floor();
     format!(in alloc; "{name} {revision} {floor} {content}\n")
 }

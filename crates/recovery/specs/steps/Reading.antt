@@ -54,14 +54,14 @@ abbrev pub are_below : ℕ → List Taken → Bool
 are_below docs [] = true
 are_below docs (first ∷ others) = nat_lt first.document docs && are_below docs others
 
--- all of these edit, and all in these lists do
+-- all of these edit, and all in these vectors do
 abbrev pub all_edit : List Taken → Bool
 all_edit [] = true
 all_edit (first ∷ others) = edits first.step && all_edit others
 
-abbrev pub all_lists_edit : List (List Taken) → Bool
+abbrev pub all_lists_edit : List (Vec Taken Global) → Bool
 all_lists_edit [] = true
-all_lists_edit (first ∷ others) = all_edit first && all_lists_edit others
+all_lists_edit (first ∷ others) = all_edit first.items && all_lists_edit others
 
 -- the entries by their documents: at each number stand those of its document, in order
 abbrev pub AreByDocument : List Taken → List (List Taken) → Type 0

@@ -71,7 +71,7 @@ pub(super) fn are_entries_in(format: Format, lists: &[Vec<Taken>]) -> bool
 }
 
 fn lists_edit(lists: &[Vec<Taken>]) -> bool
-    ensures { result ≡ all_lists_edit (lists_of lists.now) }
+    ensures { result ≡ all_lists_edit lists.now }
 {
     for list in lists {
         if !all_edit(list) {
