@@ -101,8 +101,9 @@ impl RawFile for HostFile {
         }
     }
 
+    // (the data alone: that the file was written to at some time needn't last)
     fn sync(&mut self) -> Result<(), Fault> {
-        match self.file.sync_all() {
+        match self.file.sync_data() {
             Ok(()) => {
                 self.record.note_sync();
                 Ok(())

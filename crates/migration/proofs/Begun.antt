@@ -1,5 +1,5 @@
 -- A store of the second format may begin with the documents of one of the first format, whose sources have their last numbers alone.
-use Rattle.std.proofs.Common.{◌≡◌, ℕ, zero, suc, ◌≤◌, ◌<◌, true, List, [], ◌∷◌, length, map, Option, Some, refl, sym, ◌∙◌, ap, subst, arith}
+use Rattle.std.proofs.Common.{◌≡◌, ℕ, zero, suc, ◌≤◌, ◌<◌, true, List, [], ◌∷◌, length, map, Some, refl, sym, ◌∙◌, ap, subst, arith}
 use Rattle.std.specs.Prelude.{slice_get, get_or}
 use Rattle.std.proofs.lemmas.Bool.{and_from, le-leb, lt-ltb}
 use Rattle.std.proofs.lemmas.List.{length-map}
@@ -13,7 +13,7 @@ use Rattle.revision.specs.Invariants.{IsLimits, IsPast, IsState, KeepsAt}
 use Rattle.revision.proofs.CallerLemmas.{cut_stays, cut_weighs, empty_is_state, adopting_keeps}
 use Rattle.history.specs.Cell.{Cell, CellKeeps, record_of_cell}
 use Rattle.history.specs.Law.{begun_with}
-use Rattle.milestone.specs.CellSpelling.{One}
+use Rattle.milestone.specs.declared.format.Format.TheVariants.{One}
 use Rattle.recovery.specs.declared.shape.Shape.{Shape}
 use Rattle.recovery.specs.Found.{limits_in, limits_of}
 use Rattle.recovery.specs.Formatting.{MayBegin}
@@ -29,7 +29,7 @@ there_is (x ∷ xs) (suc i) inside = there_is xs i (omega (arith, inside))
 from_map : (start : List Cell) (i : ℕ) (found : DocumentRecord) → slice_get (map record_of_cell start) i ≡ Some found
     → (cell : Cell) × (slice_get start i ≡ Some cell) × (record_of_cell cell ≡ found)
 from_map [] i found is = absurd (cc)
-from_map (first ∷ others) zero found is = let same : record_of_cell first ≡ found = cc in (first, (refl, same))
+from_map (first ∷ others) zero found is = let same : record_of_cell first ≡ found = cc in (first, refl, same)
 from_map (first ∷ others) (suc i) found is = from_map others i found is
 
 -- ---- one document
@@ -118,11 +118,11 @@ module _ (shape : Shape) (state : State) (start : List Cell) (is : IsState state
     names = λ i j a b here there same.
         let one = from_map start i a here in
         let other = from_map start j b there in
-        is.names i j (from i one.0 one.1.0).0 (from j other.0 other.1.0).0 (from i one.0 one.1.0).1 (from j other.0 other.1.0).1
-        (sym (name_of i one.0 one.1.0) ∙ (ap (λ (d : DocumentRecord). d.name) one.1.1 ∙ (same ∙ (sym (ap (λ (d : DocumentRecord). d.name) other.1.1) ∙ name_of j other.0 other.1.0))));
+        is.names i j (from i one.0 one.1).0 (from j other.0 other.1).0 (from i one.0 one.1).1 (from j other.0 other.1).1
+        (sym (name_of i one.0 one.1) ∙ (ap (λ (d : DocumentRecord). d.name) one.2 ∙ (same ∙ (sym (ap (λ (d : DocumentRecord). d.name) other.2) ∙ name_of j other.0 other.1))));
     each = λ number found here.
         let one = from_map start number found here in
-        subst (λ (d : DocumentRecord). IsPast (limits_of shape) d.past) one.1.1 (alone (limits_of shape) one.0 are (each_kept number one.0 one.1.0));
+        subst (λ (d : DocumentRecord). IsPast (limits_of shape) d.past) one.2 (alone (limits_of shape) one.0 are (each_kept number one.0 one.1));
   }
 
   pub may_begin : AreSpelled start → MayBegin shape start

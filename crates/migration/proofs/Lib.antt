@@ -1,3 +1,4 @@
 mod Begun
 pub mod Cut
+mod Light
 mod Moments

@@ -10,7 +10,6 @@ use Rattle.recovery.specs.declared.shape.Shape.{Shape}
 use Rattle.recovery.specs.Layout.{Names}
 use Rattle.recovery.specs.Found.{FoundAs, limits_of}
 use Rattle.recovery.specs.Formatting.{IsUnformatted}
-use Rattle.migration.specs.declared.migrate.Old.{Old}
 
 -- a document at its newest revision, with the last number of each of its sources
 pub record IsCutTo (document : DocumentRecord) (cell : Cell) : Type 0 where
@@ -24,13 +23,6 @@ pub record AreCut (state : State) (start : List Cell) : Type 0 where
   pub count : length start ≡ length state.documents
   pub each : (number : ℕ) (document : DocumentRecord) (cell : Cell) → slice_get state.documents number ≡ Some document → slice_get start number ≡ Some cell
       → IsCutTo document cell
-
--- what was read of the old device, as the new one is formatted with it
-abbrev pub shape_of : Old → Shape
-shape_of old = old.shape
-
-abbrev pub start_of : Old → List Cell
-start_of old = old.start.items
 
 -- each has a spelling as the cell of its number
 abbrev pub AreSpelled : List Cell → Type 0

@@ -7,6 +7,6 @@
 #![tactic(auto)]
 
 mod cutting;
-mod migrate;
+mod migrating;
 
-pub use migrate::{Old, migrate};
+pub use migrating::{Old, migrate};

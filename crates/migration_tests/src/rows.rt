@@ -136,14 +136,45 @@ fn other_devices_are_refused(rt: HostRuntime) {
     assert_eq!(&rt; CELL.len(), 57);
 }
 
+// Bytes of a device that isn't formatted.
+fn unformatted(rt: &(impl Abort + AllocGlobal), len: usize) -> Vec<u8> {
+    let mut bytes = Vec::new(rt.alloc());
+    bytes.resize(len, 0x77).expect(rt, "memory");
+    if let Some(gate) = bytes.first_mut() {
+        *gate = 0;
+    }
+    bytes
+}
+
 #[test]
 fn a_new_device_may_be_too_short(rt: HostRuntime) {
     for len in [63, LEN - 1] {
+        let bytes = unformatted(&rt, len);
         let mut old = device_of(&rt, &old_bytes(&rt));
-        let mut new = MemDisk::new(rt.alloc(), len).expect(&rt, "memory");
+        let mut new = device_of(&rt, &bytes);
         assert_eq!(&rt;
             migrate(rt.alloc(), &mut old, &mut new),
             Err(Refusal::BadShape)
         );
+        assert!(&rt; new.bytes() == bytes.as_slice());
+    }
+}
+
+// A byte of a device.
+fn has(rt: &(impl Abort + AllocGlobal), bytes: &[u8], place: usize, wanted: u8) {
+    assert!(rt; bytes.get(place) == Some(&wanted), "{place}");
+}
+
+#[test]
+fn what_the_layout_does_not_name_stays(rt: HostRuntime) {
+    let mut old = device_of(&rt, &old_bytes(&rt));
+    let mut new = device_of(&rt, &unformatted(&rt, 2_000));
+    assert_eq!(&rt; migrate(rt.alloc(), &mut old, &mut new), Ok(()));
+    let store = opened(&rt, new.bytes(), Pick::Newer)
+        .ok()
+        .expect(&rt, "a store");
+    has_both(&rt, &store);
+    for place in [33, 63, 1_600, 1_999] {
+        has(&rt, new.bytes(), place, 0x77);
     }
 }

@@ -69,14 +69,30 @@ fn each_call_of_the_new_device_fails(rt: HostRuntime) {
     }
 }
 
+// How many calls of the old device it takes.
+fn calls_of_the_old(rt: &(impl Abort + AllocGlobal)) -> u64 {
+    let mut old = device_of(rt, &old_bytes(rt));
+    let mut new = device_of(rt, &filled(rt));
+    assert_eq!(rt; migrate(rt.alloc(), &mut old, &mut new), Ok(()));
+    old.calls().len() as u64
+}
+
+// It ends there, the old device stays, and the new one has seen no call.
+fn ends_at_the_old_device(rt: &(impl Abort + AllocGlobal), plan: FaultPlan) {
+    let bytes = old_bytes(rt);
+    let mut old = FaultDisk::new(device_of(rt, &bytes), plan);
+    let mut new = device_of(rt, &filled(rt));
+    let refused = migrate(rt.alloc(), &mut old, &mut new);
+    assert_eq!(rt; refused, Err(Refusal::Fault));
+    assert!(rt; old.disk().bytes() == bytes.as_slice() && new.calls().is_empty());
+}
+
 #[test]
-fn the_old_device_fails(rt: HostRuntime) {
-    for call in 0..8 {
-        let plan = FaultPlan::fail(call, Left::Nothing);
-        let mut old = FaultDisk::new(device_of(&rt, &old_bytes(&rt)), plan);
-        let mut new = device_of(&rt, &filled(&rt));
-        let refused = migrate(rt.alloc(), &mut old, &mut new);
-        assert_eq!(&rt; refused, Err(Refusal::Fault), "{call}");
-        assert!(&rt; new.calls().is_empty());
+fn each_call_of_the_old_device_fails_or_stops(rt: HostRuntime) {
+    let calls = calls_of_the_old(&rt);
+    assert!(&rt; calls > 0);
+    for call in 0..calls {
+        ends_at_the_old_device(&rt, FaultPlan::fail(call, Left::Nothing));
+        ends_at_the_old_device(&rt, FaultPlan::stop(call, Left::Nothing));
     }
 }

@@ -1,10 +1,11 @@
 -- A content names one shape at most.
-use Rattle.std.proofs.Common.{◌≡◌, ℕ, ◌<◌, ◌^◌, List, take, drop, refl, sym, ◌∙◌, ap, arith}
+use Rattle.std.proofs.Common.{◌≡◌, ℕ, ◌<◌, ◌^◌, List, take, drop, get_or, sym, ◌∙◌, ap, arith}
 use Rattle.std.specs.Int.{w32, to_le_bytes, from_le_bytes}
 use Rattle.std.proofs.lemmas.Nat.{from_le_bytes-to_le_bytes_4}
 use Rattle.recovery.specs.declared.shape.Shape.{Shape}
 use Rattle.std.proofs.lemmas.List.{take-take}
-use Rattle.milestone.specs.CellSpelling.{Format, One, Two}
+use Rattle.milestone.specs.declared.format.Format.{Format}
+use Rattle.milestone.specs.declared.format.Format.TheVariants.{One, Two}
 use Rattle.recovery.specs.Shape.{letters, superblock_in}
 use Rattle.recovery.specs.Layout.{NamesIn, Names, IsOldFormat}
 use Rattle.recovery.proofs.Superblocks.{Ranges, ranges_of, has_numbers}
@@ -32,4 +33,5 @@ pub new_letters : (content : List ℕ) (shape : Shape) → Names content shape �
 new_letters content shape names old =
     let there : take 8 (superblock_in Two shape) ≡ take 8 (drop 1 content) = ap (take 8) (sym names.named) ∙ take-take 8 32 (drop 1 content) (omega arith) in
     let same : letters Two ≡ letters One = there ∙ old.spelled in
-    absurd cc
+    let last : get_or (letters Two) 7 0 ≡ get_or (letters One) 7 0 = ap (λ (l : List ℕ). get_or l 7 0) same in
+    absurd (omega (arith, last))

@@ -18,7 +18,7 @@ use Rattle.milestone.specs.Job.{Job, cell_of_job}
 use Rattle.recovery.specs.declared.shape.Shape.{Shape}
 use Rattle.recovery.specs.declared.store.Store.{Store}
 use Rattle.recovery.specs.Faults.{FailsAtFaults}
-use Rattle.recovery.specs.Found.{HoldsParts}
+use Rattle.recovery.specs.Found.{commands_of, HoldsParts}
 use Rattle.recovery.specs.Jobs.{highest}
 use Rattle.recovery.specs.Goes.{Goes}
 use Rattle.recovery.specs.Open.{IsOpen, AreBothNewest, IsOnePut, newest_cell, device_of, state_of}
@@ -26,7 +26,7 @@ use Rattle.recovery.specs.Run.{IsPutAt}
 use Rattle.recovery.specs.steps.Freeing.{reached_in, IsPutOf, IsHalfPut}
 use Rattle.recovery.proofs.FoundOnce.{cells_same, slots_same}
 use Rattle.recovery.proofs.Named.{named_same}
-use Rattle.milestone.specs.CellSpelling.{Two}
+use Rattle.milestone.specs.declared.format.Format.TheVariants.{Two}
 use Rattle.recovery.proofs.Faults.{works_still}
 use Rattle.recovery.proofs.HandedOut.{same_some}
 use Rattle.recovery.proofs.PutCells.{pair_own, pair_other}

@@ -11,8 +11,8 @@ ghost use Rattle.segments.specs.Ring.{size_of, end_of};
 ghost use Rattle.recovery.specs.Shape.{is_in_range, layout_length};
 ghost use Rattle.recovery.specs.Layout.{IsFormatted, IsOfFormat, IsOldFormat, NamesIn, HoldsSlots};
 ghost use Rattle.recovery.specs.Cells.{AreCellsOf};
-ghost use Rattle.history.specs.Cell.{Newer};
-ghost use Rattle.milestone.specs.CellSpelling.{One, Two};
+ghost use Rattle.history.specs.declared.pick.Pick.TheVariants.{Newer};
+ghost use Rattle.milestone.specs.declared.format.Format.TheVariants.{One, Two};
 ghost use Rattle.recovery.specs.Formatting.{IsOnlySynced};
 ghost use Rattle.recovery.specs.Found.{Found, FoundIn, limits_of, limits_in};
 ghost use Rattle.recovery.specs.steps.Reading.{IsRingOf, IsReadAs};
@@ -119,6 +119,7 @@ pub fn read_old<D: Disk>(alloc: Global, disk: &mut D) -> Result<OldStore, Refusa
 
     // The sync alone moves the device on.
     ensures only_synced { IsOnlySynced (history_of ⟦<D as Disk>⟧ disk.old) (history_of ⟦<D as Disk>⟧ disk.new) }
+    ensures synced { OnOk result (D.unsynced disk.new ≡ []) }
     ensures honest { D.honest disk.new → D.honest disk.old }
     ensures faults { CountsFaultsAs ⟦<D as Disk>⟧ Refusal.Fault result disk.old disk.new }
 {

@@ -30,6 +30,7 @@ pub fn file_in<'a>(alloc: Global, words: &'a [&'a str]) -> Result<Option<&'a str
     Ok(match Invocation::parse(alloc, words)? {
         Invocation::Format { path, shape: _ } => Some(path),
         Invocation::Serve { path, .. } | Invocation::Dump { path, older: _ } => Some(path),
+        Invocation::Migrate { old, new: _ } => Some(old),
         Invocation::Delta(_) => None,
     })
 }

@@ -16,6 +16,7 @@
 //!     Ok(match Invocation::parse(alloc, words)? {
 //!         Invocation::Format { path, shape: _ } => Some(path),
 //!         Invocation::Serve { path, .. } | Invocation::Dump { path, older: _ } => Some(path),
+//!         Invocation::Migrate { old, new: _ } => Some(old),
 //!         Invocation::Delta(_) => None,
 //!     })
 //! }

@@ -1,5 +1,5 @@
 -- Schedules, computed. What comes of each is worked out by hand.
-use Rattle.std.specs.Prelude.{◌≡◌, ℕ, true, false, List, [], ◌∷◌, ◌++◌, length, map, refl, codes}
+use Rattle.std.specs.Prelude.{◌≡◌, ℕ, zero, suc, ◌+◌, true, false, List, [], ◌∷◌, ◌++◌, length, map, refl, codes}
 use Rattle.std.specs.Char.{encode_utf8}
 use Rattle.std.specs.Char.Utf16.{utf16_chars}
 use Rattle.refusal.specs.declared.Refusal.TheVariants.{TooOld}
@@ -159,10 +159,23 @@ sends_nothing_while_stopped : tickets_after (retried ++ Crash 0 ∷ Submit creat
 unfolding utf16_chars encode_utf8 insert
 sends_nothing_while_stopped = refl
 
--- a number that isn't the last one isn't sent again
-sends_no_older : tickets_after (Submit create ∷ Submit (edit 2 1) ∷ Resend create ∷ []) ≡ (TakenAt 1, 1) ∷ (TakenAt 2, 2) ∷ []
+-- Any number of the sender's window is sent again, the one before its last one too; a number below that isn't.
+sends_an_older_one : tickets_after (Submit create ∷ Submit (edit 2 1) ∷ Resend create ∷ []) ≡ (TakenAt 1, 1) ∷ (TakenAt 2, 2) ∷ (AgainAt 1, 2) ∷ []
 unfolding utf16_chars encode_utf8 insert
-sends_no_older = refl
+sends_an_older_one = refl
+
+-- so many edits, of which the first has the number above this one
+abbrev edits : ℕ → ℕ → List Event
+edits number zero = []
+edits number (suc others) = Submit (edit (number + 1) number) ∷ edits (number + 1) others
+
+sends_the_lowest : length (tickets_after (Submit create ∷ edits 1 15 ++ Resend create ∷ [])) ≡ 17
+unfolding utf16_chars encode_utf8 insert
+sends_the_lowest = refl
+
+sends_none_below : length (tickets_after (Submit create ∷ edits 1 16 ++ Resend create ∷ [])) ≡ 17
+unfolding utf16_chars encode_utf8 insert
+sends_none_below = refl
 
 -- After a failed batch the store is opened again, with or without it; tickets of before are gone.
 tickets_are_gone : acks_after (Submit create ∷ Take 1 ∷ Device Failed ∷ Open 1 (0 ∷ []) ∷ Ack 0 ∷ []) ≡ []

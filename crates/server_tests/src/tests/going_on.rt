@@ -1,4 +1,4 @@
-use super::{call, format_small, is_served, path, prints, remove, runs};
+use super::{call, format_sized, is_served, path, prints, remove, runs};
 use std::fs::File;
 use std::io;
 use std::net::{Net, TcpListener, TcpStream};
@@ -7,7 +7,9 @@ use std::rt::Files;
 use std::sync::Wait;
 use std::thread::Threads;
 
-/// The two slots of a small store hold some nine edits of this kind.
+/// The two slots of a store of this size hold some 14 edits of this kind, and a cell a document of four letters with a whole window.
+const SIZE: &str = "384";
+
 const EDITS: u64 = 200;
 
 /// Two documents, of which the second one alone is edited.
@@ -116,7 +118,7 @@ fn is_held<
     assert!(rt; found, "{dumped}");
 }
 
-/// A store takes twenty times what its journal holds, and each edit is acknowledged; the edits above a number come in a further run.
+/// A store takes more than ten times what its journal holds, and each edit is acknowledged; the edits above a number come in a further run.
 fn goes_on<
     R: Files<File = File>
         + AllocGlobal
@@ -138,7 +140,7 @@ fn goes_on<
 fn a_store_outlives_its_journal(rt: HostRuntime) {
     let path = path(&rt, "outlives").expect(&rt, "a path");
     for parted in [2, 101, EDITS] {
-        format_small(&rt, path.as_str());
+        format_sized(&rt, path.as_str(), SIZE, "4");
         goes_on(&rt, path.as_str(), "256", parted);
         remove(&rt, path.as_str());
     }
@@ -148,7 +150,7 @@ fn a_store_outlives_its_journal(rt: HostRuntime) {
 fn and_with_milestones_that_lie_elsewhere(rt: HostRuntime) {
     let path = path(&rt, "elsewhere").expect(&rt, "a path");
     for (every, parted) in [("1", EDITS), ("2", 100), ("65536", 199)] {
-        format_small(&rt, path.as_str());
+        format_sized(&rt, path.as_str(), SIZE, "4");
         goes_on(&rt, path.as_str(), every, parted);
         remove(&rt, path.as_str());
     }

@@ -116,6 +116,61 @@ fn a_store_of_the_first_format_is_brought_over(rt: HostRuntime) {
     remove(&rt, new);
 }
 
+/// A file of these bytes is brought over to, and becomes that many bytes, of which one behind the layout is as it was.
+fn is_filled<
+    R: Files<File = File>
+        + AllocGlobal
+        + Net<Listener = TcpListener, Stream = TcpStream>
+        + Threads
+        + Wait
+        + Sync
+        + Abort,
+>(rt: &R, old: &str, new: &str, bytes: &[u8]) {
+    fs::write(rt, new, bytes).expect(rt, "the file");
+    migrates(rt, old, new, (0, "", ""));
+    let after = fs::read(rt, new).expect(rt, "the file");
+    assert!(rt; after.len() == bytes.len() && after.last() == bytes.last());
+    remove(rt, new);
+}
+
+/// A new file that is missing gets the layout's length; one that is too short is refused, and any other keeps its length.
+#[test]
+fn a_new_file_is_used_as_it_is(rt: HostRuntime) {
+    let old = path(&rt, "kept").expect(&rt, "a path");
+    let new = path(&rt, "used").expect(&rt, "a path");
+    let (old, new) = (old.as_str(), new.as_str());
+    old_store(&rt, old);
+    let before = fs::read(&rt, old).expect(&rt, "the file");
+    migrates(&rt, old, new, (0, "", ""));
+    let made = fs::read(&rt, new).expect(&rt, "the file");
+    assert!(&rt; made.len() == 1_600);
+    remove(&rt, new);
+    fs::write(&rt, new, [0x77; 1_599].as_slice()).expect(&rt, "the file");
+    migrates(&rt, old, new, (1, "", "error 33 BadShape\n"));
+    let short = fs::read(&rt, new).expect(&rt, "the file");
+    assert!(&rt; short.as_slice() == [0x77; 1_599].as_slice());
+    is_filled(&rt, old, new, [0x77; 2_000].as_slice());
+    let after = fs::read(&rt, old).expect(&rt, "the file");
+    assert!(&rt; after.as_slice() == before.as_slice());
+    remove(&rt, old);
+}
+
+/// What is wrong with the old file is told before the new one is looked at.
+#[test]
+fn the_old_file_is_looked_at_first(rt: HostRuntime) {
+    let old = path(&rt, "first").expect(&rt, "a path");
+    let new = path(&rt, "second").expect(&rt, "a path");
+    let (old, new) = (old.as_str(), new.as_str());
+    format_small(&rt, new);
+    fs::write(&rt, old, [0; 64].as_slice()).expect(&rt, "the file");
+    migrates(&rt, old, new, (1, "", "error 30 NotFormatted\n"));
+    remove(&rt, old);
+    format_small(&rt, old);
+    migrates(&rt, old, new, (1, "", "error 39 NotOld\n"));
+    remove(&rt, old);
+    remove(&rt, new);
+}
+
 /// Files that aren't of the first format make no new file.
 #[test]
 fn what_is_not_of_the_first_format_makes_no_file(rt: HostRuntime) {

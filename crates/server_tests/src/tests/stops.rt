@@ -20,6 +20,16 @@ const SMALL: Shape = Shape {
     keep: 2,
 };
 
+/// One whose cells hold a document of four letters with a whole window. The device has 2,112 bytes.
+const ROOMY: Shape = Shape {
+    slots: 2,
+    slot: 256,
+    docs: 2,
+    cell: 384,
+    sources: 4,
+    keep: 2,
+};
+
 const LINES: &str = "{\"do\":\"hello\",\"source\":\"a\"}\n\
     {\"do\":\"create\",\"doc\":\"d\",\"n\":1,\"ops\":[{\"insert\":\"z\"}]}\n";
 
@@ -39,8 +49,24 @@ const STOPS: [(u8, &str, &str); 2] = [
 
 /// A device with a store without documents.
 fn formatted(rt: &(impl Abort + AllocGlobal)) -> MemDisk {
-    let mut disk = MemDisk::new(rt.alloc(), 1_600).expect(rt, "memory");
-    assert_eq!(rt; format_device(rt.alloc(), &mut disk, SMALL), Ok(()));
+    with_store(
+        rt,
+        MemDisk::new(rt.alloc(), 1_600).expect(rt, "memory"),
+        SMALL,
+    )
+}
+
+fn roomy(rt: &(impl Abort + AllocGlobal)) -> MemDisk {
+    with_store(
+        rt,
+        MemDisk::new(rt.alloc(), 2_112).expect(rt, "memory"),
+        ROOMY,
+    )
+}
+
+/// A device that was formatted, and of which no call is known.
+fn with_store(rt: &(impl Abort + AllocGlobal), mut disk: MemDisk, shape: Shape) -> MemDisk {
+    assert_eq!(rt; format_device(rt.alloc(), &mut disk, shape), Ok(()));
     let bytes = disk.bytes().to_vec(rt.alloc()).expect(rt, "memory");
     MemDisk::holding(rt.alloc(), bytes)
 }
@@ -137,7 +163,7 @@ fn a_create_stopped_while_its_gate_opens_is_lost_or_kept(rt: HostRuntime) {
     }
 }
 
-/// The journal of the small store is freed a few times on the way to this revision.
+/// The journal of such a store is freed a few times on the way to this revision.
 const LAST: u64 = 16;
 
 const CREATE: &str = "{\"do\":\"create\",\"doc\":\"d\",\"n\":1,\"ops\":[{\"insert\":\"zzzz\"}]}\n";
@@ -186,7 +212,7 @@ fn holds_taken(rt: &(impl Abort + AllocGlobal), disk: MemDisk, taken: u64) {
 
 /// The device stops at a call. What was taken before is there after a crash.
 fn outlives<R: Threads + Wait + Abort + AllocGlobal + Sync>(rt: &R, lines: &str, plan: FaultPlan) {
-    if let Ok(store) = opened(rt, FaultDisk::new(formatted(rt), plan)) {
+    if let Ok(store) = opened(rt, FaultDisk::new(roomy(rt), plan)) {
         let (stopped, written) = ended(rt, store, lines);
         holds_taken(rt, after_crash(rt, &stopped), taken_in(written.as_str()));
     }
@@ -194,7 +220,7 @@ fn outlives<R: Threads + Wait + Abort + AllocGlobal + Sync>(rt: &R, lines: &str,
 
 /// How many calls are made where nothing goes wrong, and each line is answered as taken.
 fn calls_of<R: Threads + Wait + Abort + AllocGlobal + Sync>(rt: &R, lines: &str) -> u64 {
-    let store = opened(rt, FaultDisk::new(formatted(rt), never())).expect(rt, "a store");
+    let store = opened(rt, FaultDisk::new(roomy(rt), never())).expect(rt, "a store");
     let (whole, written) = ended(rt, store, lines);
     assert_eq!(rt; taken_in(written.as_str()), LAST);
     whole.disk().calls().len() as u64

@@ -19,10 +19,6 @@ pub returns-in_err-body-clause-any_moment : goal.returns-in_err-body-clause-any_
 returns-in_err-body-clause-any_moment g c synced unformatted = from_sync (just_synced c.reads_open_gate.ensures.only_synced) synced (inl unformatted)
 
 -- after the writes
-pub returns-in_err-write_with-clause-any_moment : goal.returns-in_err-write_with-clause-any_moment
-returns-in_err-write_with-clause-any_moment g c synced unformatted =
-    from_sync (synced_and_written c.reads_open_gate.ensures.only_synced c.in_ok-is_open.ensures.synced unformatted c.write_with.ensures.any_moment) synced (inl unformatted)
-
 pub returns-clause-any_moment : goal.returns-clause-any_moment
 returns-clause-any_moment g c synced unformatted =
     from_sync (synced_and_written c.reads_open_gate.ensures.only_synced c.in_ok-is_open.ensures.synced unformatted c.write_with.ensures.any_moment) synced (inl unformatted)

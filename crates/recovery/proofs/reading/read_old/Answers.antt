@@ -1,7 +1,7 @@
 use Rattle.std.proofs.Common.{◌∙◌, ℕ, List, sym, subst, rules}
 use Rattle.std.proofs.lemmas.Result.{err_from_is_err_and}
-use Rattle.history.specs.Cell.{Newer}
-use Rattle.milestone.specs.CellSpelling.{One}
+use Rattle.history.specs.declared.pick.Pick.TheVariants.{Newer}
+use Rattle.milestone.specs.declared.format.Format.TheVariants.{One}
 use Rattle.recovery.specs.Layout.{IsFormatted, NamesIn}
 use Rattle.recovery.specs.Found.{FoundIn}
 use Rattle.recovery.proofs.FoundOnce.{found_once_in}
@@ -32,8 +32,6 @@ returns-in_err-shape-clause-damaged g c =
     let p = err_from_is_err_and c.from_residual-in_err-shape.result c.from_residual-in_err-shape.ensures.1 in
     rw p.1 (λ is honest. (
       subst IsFormatted c.is_synced_as.ensures.seen (c.in_err-shape.ensures.formatted (sym p.2 ∙ is) honest),
-      (
-        λ two. search rules,
-        λ found holds. c.in_err-shape.ensures.damaged (sym p.2 ∙ is) honest found (subst (λ (l : List ℕ). FoundIn One l Newer found) (sym c.is_synced_as.ensures.seen) holds),
-      ),
+      λ two. search rules,
+      λ found holds. c.in_err-shape.ensures.damaged (sym p.2 ∙ is) honest found (subst (λ (l : List ℕ). FoundIn One l Newer found) (sym c.is_synced_as.ensures.seen) holds),
     ))

@@ -1,14 +1,15 @@
 //! Reading a store of the first format, and putting it on a new device.
-ghost use Rattle.std.specs.Prelude.{◌≡◌, ◌⊎◌, ◌<◌, ◌^◌, [], true, length, Err, OnOk, IfOk, IfErr};
+ghost use Rattle.std.specs.Prelude.{◌≡◌, ◌⊎◌, ◌<◌, ◌^◌, [], true, length, Err, OnOk, IfOk, IfErr, IsErrOf};
 ghost use Rattle.disk.specs.Calls.{CountsFaultsAs};
 ghost use Rattle.disk.specs.Crash.{history_of};
-ghost use Rattle.history.specs.Cell.{Newer};
-ghost use Rattle.milestone.specs.CellSpelling.{One, Two};
+ghost use Rattle.disk.specs.Device.{Rose};
+ghost use Rattle.history.specs.declared.pick.Pick.TheVariants.{Newer};
+ghost use Rattle.milestone.specs.declared.format.Format.TheVariants.{One, Two};
 ghost use Rattle.revision.specs.State.{State as StateValue};
-ghost use Rattle.recovery.specs.Shape.{is_in_range, layout_length};
+ghost use Rattle.recovery.specs.Shape.{layout_length};
 ghost use Rattle.recovery.specs.Layout.{IsFormatted, IsOfFormat};
 ghost use Rattle.recovery.specs.Found.{FoundIn};
-ghost use Rattle.recovery.specs.Formatting.{Fits, MayBegin, IsUnformatted, IsBegunStore, IsUnformattedOrBegun, IsOnlySynced, LeavesFromSync};
+ghost use Rattle.recovery.specs.Formatting.{Fits, IsUnformatted, IsBegunStore, IsUnformattedOrBegun, IsOnlySynced, LeavesFromSync};
 ghost use Rattle.migration.specs.Migrated.{AreCut, IsMigrated, IsUnformattedOrMigrated};
 
 use crate::cutting::cut_all;
@@ -17,14 +18,26 @@ use milestone::Milestone;
 use recovery::{OldStore, Shape, format_with, read_old};
 use refusal::Refusal;
 use std::alloc::Global;
+use std::marker::Model;
 
 /// What was read of a store of the first format: its shape, and its documents as the new store begins with them.
 #[derive(Drop)]
 pub struct Old {
     shape: Shape,
     start: Vec<Milestone>,
-    ghost in_range: { is_in_range shape ≡ true },
-    ghost begins: { MayBegin shape start.items },
+}
+
+impl Model for Old {
+    ghost use Rattle.std.specs.Prelude.{◌≡◌, true};
+    ghost use Rattle.recovery.specs.Shape.{is_in_range};
+    ghost use Rattle.recovery.specs.Formatting.{MayBegin};
+    ghost use Rattle.migration.specs.Old as spec;
+
+    ghost Value = { spec.Old };
+
+    ghost view = { λ o. record { shape = o.shape; start = o.start.items } };
+
+    ghost invariant = { λ o. (is_in_range o.shape ≡ true) × MayBegin o.shape o.start.items };
 }
 
 /// Brings the store of the first format on `old` over to `new`, whose superblock's gate has to be closed. The old device is synced and
@@ -33,6 +46,7 @@ pub struct Old {
 pub fn migrate<A: Disk, B: Disk>(alloc: Global, old: &mut A, new: &mut B) -> Result<(), Refusal>
     // The old device is read alone.
     ensures old { IsOnlySynced (history_of ⟦<A as Disk>⟧ old.old) (history_of ⟦<A as Disk>⟧ old.new) }
+    ensures synced_old { OnOk result (A.unsynced old.new ≡ []) }
     ensures not_formatted { result ≡ Err Refusal.NotFormatted → A.honest old.new → ¬ IsFormatted (A.seen old.old) }
     ensures not_old { result ≡ Err Refusal.NotOld → A.honest old.new → IsOfFormat Two (A.seen old.old) }
     ensures damaged { result ≡ Err Refusal.Damaged → A.honest old.new → IsFormatted (A.seen old.old)
@@ -58,11 +72,16 @@ pub fn migrate<A: Disk, B: Disk>(alloc: Global, old: &mut A, new: &mut B) -> Res
         → IsOnlySynced (history_of ⟦<B as Disk>⟧ new.old) (history_of ⟦<B as Disk>⟧ new.new) }
     ensures bad_shape { result ≡ Err Refusal.BadShape → A.honest old.new → (state : StateValue)
         → (is : FoundIn One (A.seen old.old) Newer state) → ¬ Fits is.shape (length (B.seen new.old)) }
+    // All but `Fault` and `NoMemory` come before the first write.
+    ensures refused { IfErr result (λ e. (e ≡ Refusal.Fault) ⊎ ((e ≡ Refusal.NoMemory)
+        ⊎ IsOnlySynced (history_of ⟦<B as Disk>⟧ new.old) (history_of ⟦<B as Disk>⟧ new.new))) }
     // Neither is told of before the old store is found.
     ensures old_first { IfErr result (λ e. (e ≡ Refusal.AlreadyFormatted) ⊎ (e ≡ Refusal.BadShape) → A.honest old.new
         → (state : StateValue) × FoundIn One (A.seen old.old) Newer state) }
     ensures memory { result ≡ Err Refusal.NoMemory → IsUnformatted (B.seen new.old) → IsUnformatted (B.seen new.new) }
     ensures length { length (B.seen new.new) ≡ length (B.seen new.old) }
+    ensures failed { IsErrOf result Refusal.Fault → Rose (A.faults old.old) (A.faults old.new)
+        ⊎ Rose (B.faults new.old) (B.faults new.new) }
     ensures only { IfErr result (λ e. (e ≡ Refusal.NotFormatted) ⊎ ((e ≡ Refusal.NotOld) ⊎ ((e ≡ Refusal.Damaged)
         ⊎ ((e ≡ Refusal.BadShape) ⊎ ((e ≡ Refusal.AlreadyFormatted) ⊎ ((e ≡ Refusal.NoMemory)
         ⊎ (e ≡ Refusal.Fault))))))) }
@@ -72,16 +91,14 @@ pub fn migrate<A: Disk, B: Disk>(alloc: Global, old: &mut A, new: &mut B) -> Res
 }
 
 impl Old {
-    ghost use Rattle.migration.specs.Migrated.{start_of, shape_of};
-
     /// Reads a device of the first format, and writes nothing.
     pub fn read<A: Disk>(alloc: Global, disk: &mut A) -> Result<Old, Refusal>
         ensures found { OnOk result (A.honest disk.new
             → (state : StateValue) × FoundIn One (A.seen disk.old) Newer state) }
         ensures cut { IfOk result (λ old. A.honest disk.new → (state : StateValue)
-            → FoundIn One (A.seen disk.old) Newer state → AreCut state (start_of old)) }
+            → FoundIn One (A.seen disk.old) Newer state → AreCut state old.start) }
         ensures shape { IfOk result (λ old. A.honest disk.new → (state : StateValue)
-            → (is : FoundIn One (A.seen disk.old) Newer state) → is.shape ≡ shape_of old) }
+            → (is : FoundIn One (A.seen disk.old) Newer state) → is.shape ≡ old.shape) }
         ensures not_formatted { IfErr result (λ e. e ≡ Refusal.NotFormatted → A.honest disk.new
             → ¬ IsFormatted (A.seen disk.old)) }
         ensures not_old { IfErr result (λ e. e ≡ Refusal.NotOld → A.honest disk.new
@@ -92,6 +109,7 @@ impl Old {
         ensures only { IfErr result (λ e. (e ≡ Refusal.NotFormatted) ⊎ ((e ≡ Refusal.NotOld)
             ⊎ ((e ≡ Refusal.Damaged) ⊎ ((e ≡ Refusal.NoMemory) ⊎ (e ≡ Refusal.Fault))))) }
         ensures only_synced { IsOnlySynced (history_of ⟦<A as Disk>⟧ disk.old) (history_of ⟦<A as Disk>⟧ disk.new) }
+        ensures synced { OnOk result (A.unsynced disk.new ≡ []) }
         ensures honest { A.honest disk.new → A.honest disk.old }
         ensures faults { CountsFaultsAs ⟦<A as Disk>⟧ Refusal.Fault result disk.old disk.new }
     {
@@ -102,7 +120,7 @@ impl Old {
 
     /// How many bytes the layout of the store has.
     pub fn device_len(&self) -> u64
-        ensures len { result ≡ layout_length (shape_of self.now) }
+        ensures len { result ≡ layout_length self.now.shape }
         ensures bound { result < 2 ^ 44 }
     {
         self.shape.device_len()
@@ -111,9 +129,9 @@ impl Old {
     /// Makes a device a store that begins with the documents.
     pub fn put_on<B: Disk>(&self, alloc: Global, disk: &mut B) -> Result<(), Refusal>
         ensures from_sync { IsUnformatted (B.seen disk.old)
-            → LeavesFromSync (IsUnformattedOrBegun (shape_of self.now) (start_of self.now))
+            → LeavesFromSync (IsUnformattedOrBegun self.now.shape self.now.start)
             (history_of ⟦<B as Disk>⟧ disk.old) (history_of ⟦<B as Disk>⟧ disk.new) }
-        ensures done { OnOk result (IsBegunStore (shape_of self.now) (start_of self.now) (B.seen disk.new)) }
+        ensures done { OnOk result (IsBegunStore self.now.shape self.now.start (B.seen disk.new)) }
         ensures synced { OnOk result (B.unsynced disk.new ≡ []) }
         ensures kept { B.honest disk.new → IsFormatted (B.seen disk.old)
             → IsOnlySynced (history_of ⟦<B as Disk>⟧ disk.old) (history_of ⟦<B as Disk>⟧ disk.new) }
@@ -121,7 +139,9 @@ impl Old {
             → IsFormatted (B.seen disk.old) }
         ensures formatted { B.honest disk.new → IsFormatted (B.seen disk.old)
             → (result ≡ Err Refusal.AlreadyFormatted) ⊎ (result ≡ Err Refusal.Fault) }
-        ensures bad_shape { result ≡ Err Refusal.BadShape → ¬ Fits (shape_of self.now) (length (B.seen disk.old)) }
+        ensures bad_shape { result ≡ Err Refusal.BadShape → ¬ Fits self.now.shape (length (B.seen disk.old)) }
+        ensures refused { IfErr result (λ e. (e ≡ Refusal.Fault) ⊎ ((e ≡ Refusal.NoMemory)
+            ⊎ IsOnlySynced (history_of ⟦<B as Disk>⟧ disk.old) (history_of ⟦<B as Disk>⟧ disk.new))) }
         ensures memory { result ≡ Err Refusal.NoMemory → IsUnformatted (B.seen disk.old) → IsUnformatted (B.seen disk.new) }
         ensures only { IfErr result (λ e. (e ≡ Refusal.BadShape) ⊎ ((e ≡ Refusal.AlreadyFormatted)
             ⊎ ((e ≡ Refusal.NoMemory) ⊎ (e ≡ Refusal.Fault)))) }
