@@ -2,7 +2,7 @@
 ghost use Rattle.std.specs.Prelude.{◌≡◌, ◌↔◌, ◌⊎◌, ◌&&◌, false, nat_lt, nat_le, IfErr, OnOk, OnErr, IsErrOf};
 ghost use Rattle.revision.specs.Past.{is_content as spec_is_content};
 ghost use Rattle.revision.specs.Window.{ascend};
-ghost use Rattle.revision.specs.State.{adopts, adopted, are_sources as spec_are_sources, is_window as spec_is_window, weight_of};
+ghost use Rattle.revision.specs.State.{adopts, adopted, is_mark_at as spec_is_mark_at, are_sources as spec_are_sources, is_window as spec_is_window, weight_of};
 
 use crate::doc_state::DocState;
 use crate::limits::Limits;
@@ -67,13 +67,20 @@ impl State {
         (self.documents().len() as u64) < u64::from(limits.docs())
             && self.find(name).is_none()
             && is_content(document, live)
-            && (live || revision >= 2)
+            && is_mark_at(live, revision)
             && 1 <= revision
             && revision <= LAST
             && sources.count() as u64 <= u64::from(limits.sources())
             && are_sources(revision, sources.entries())
             && is_light(limits, document, sources)
     }
+}
+
+// whether a document may be live or deleted at a revision: it isn't deleted as the first one
+fn is_mark_at(live: bool, revision: u64) -> bool
+    ensures { result ≡ spec_is_mark_at live revision }
+{
+    live || revision >= 2
 }
 
 // whether nothing stands in a document that is deleted
