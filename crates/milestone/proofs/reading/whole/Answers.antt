@@ -84,7 +84,7 @@ returns-clause-found c =
     c.in_ok-live.live c.in_ok-live.rest.now c.in_ok-live.ensures.found.0 c.in_ok-live.ensures.found.1
     c.in_ok-document.document c.in_ok-document.rest.now c.in_ok-document.ensures.found.0 c.in_ok-document.ensures.found.1
     c.in_ok-sources.sources c.in_ok-sources.rest.now c.in_ok-sources.ensures.found.0 c.in_ok-sources.ensures.found.1 c.in_ok-document-2.ensures.content nothing in
-    subst (λ (m : Cell). IsCellIn c.args.format c.args.number m × (c.args.bytes.now ≡ cell_body_in c.args.format c.args.number m)) 
+    subst (λ (m : Cell). IsCellIn c.args.format c.args.number m × (c.args.bytes.now ≡ cell_body_in c.args.format c.args.number m))
     (sym (c.new.ensures ∙ ap (λ (p : List Element × Bool). record {
       name = c.in_ok-name.name;
       revision = c.in_ok-revision.revision;

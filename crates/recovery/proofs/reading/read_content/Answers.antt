@@ -109,7 +109,7 @@ returns-clause-read g c honest =
           in_slots = slots_of content shape ring read.table c.in_ok-ring.ensures.place fits;
         };
         spell = spell-all read.table own.groups (subst (λ (s : List Segment). SpellGroups s own.groups) segments own.spell);
-        entries = subst (AreEntriesIn c.args.format) (sym (commands-all own.groups)) 
+        entries = subst (AreEntriesIn c.args.format) (sym (commands-all own.groups))
             ((c.are_entries_in.ensures (commands_in own.groups) (subst (AreByDocument (commands_in own.groups)) (sym (ap lists_of c.as_slice.ensures.value)) own.by)).0 c.if-not-are_entries_in.false);
       };
       fits = fits;
