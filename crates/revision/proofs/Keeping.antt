@@ -462,6 +462,15 @@ adopted-content state name content revision sources h =
     (seven (nat_lt (length state.documents) state.limits.docs) (is_none (find name 0 state.documents)) (is_content content) (is_mark_at content.live revision) (nat_le 1 revision)
     (nat_le revision last_of_all) (nat_le (count_of sources) state.limits.sources) last.0).2
 
+-- and its name is new
+pub adopted-fresh : (state : State) (name : List ℕ) (content : Content) (revision : ℕ) (sources : Sources) → adopts state name content revision sources ≡ true
+    → is_none (find name 0 state.documents) ≡ true
+adopted-fresh state name content revision sources h =
+    let light = and_parts _ _ h in
+    let last = and_parts _ _ light.0 in
+    (seven (nat_lt (length state.documents) state.limits.docs) (is_none (find name 0 state.documents)) (is_content content) (is_mark_at content.live revision) (nat_le 1 revision)
+    (nat_le revision last_of_all) (nat_le (count_of sources) state.limits.sources) last.0).1
+
 pub adopting_keeps : AdoptingKeeps
 adopting_keeps state name content revision sources is h =
     let light = and_parts (nat_lt (length state.documents) state.limits.docs && is_none (find name 0 state.documents) && is_content content && is_mark_at content.live revision && nat_le 1 revision

@@ -1,8 +1,8 @@
 //! A document is added with what stands in it, without the past before.
-ghost use Rattle.std.specs.Prelude.{◌≡◌, ◌↔◌, ◌⊎◌, ◌&&◌, false, nat_lt, nat_le, IfErr, OnOk, OnErr, IsErrOf};
+ghost use Rattle.std.specs.Prelude.{◌≡◌, ◌↔◌, ◌⊎◌, ◌&&◌, false, length, is_none, nat_lt, nat_le, IfErr, OnOk, OnErr, IsErrOf};
 ghost use Rattle.revision.specs.Past.{is_content as spec_is_content};
 ghost use Rattle.revision.specs.Window.{ascend};
-ghost use Rattle.revision.specs.State.{adopts, adopted, are_sources as spec_are_sources, is_window as spec_is_window, weight_of};
+ghost use Rattle.revision.specs.State.{adopts, adopted, find, is_mark_at as spec_is_mark_at, are_sources as spec_are_sources, is_window as spec_is_window, weight_of};
 
 use crate::doc_state::DocState;
 use crate::limits::Limits;
@@ -64,16 +64,33 @@ impl State {
             ≡ adopts self.now name.now (record { units = document.now; live = live }) revision sources.now }
     {
         let limits = self.limits();
-        (self.documents().len() as u64) < u64::from(limits.docs())
-            && self.find(name).is_none()
-            && is_content(document, live)
-            && (live || revision >= 2)
+        self.has_room_for(name, document, live, revision)
             && 1 <= revision
             && revision <= LAST
             && sources.count() as u64 <= u64::from(limits.sources())
             && are_sources(revision, sources.entries())
             && is_light(limits, document, sources)
     }
+
+    // whether there is room for a document of this name, which is live or deleted as it may be at a revision
+    fn has_room_for(&self, name: &Name, document: &Document, live: bool, revision: u64) -> bool
+        ensures { result
+            ≡ (nat_lt (length self.now.documents) self.now.limits.docs
+            && is_none (find name.now 0 self.now.documents)
+            && spec_is_content (record { units = document.now; live = live }) && spec_is_mark_at live revision) }
+    {
+        (self.documents().len() as u64) < u64::from(self.limits().docs())
+            && self.find(name).is_none()
+            && is_content(document, live)
+            && is_mark_at(live, revision)
+    }
+}
+
+// whether a document may be live or deleted at a revision: it isn't deleted as the first one
+fn is_mark_at(live: bool, revision: u64) -> bool
+    ensures { result ≡ spec_is_mark_at live revision }
+{
+    live || revision >= 2
 }
 
 // whether nothing stands in a document that is deleted

@@ -508,7 +508,12 @@ fn change_on(alloc: Global, document: &Document, taken: Taken) -> Result<Change,
 }
 
 // The delta that leads from this document to what stands after a step. Refused for want of memory alone.
-fn kept_delta(alloc: Global, document: &Document, step: Step, delta: Delta) -> Result<Delta, Refusal>
+fn kept_delta(
+    alloc: Global,
+    document: &Document,
+    step: Step,
+    delta: Delta,
+) -> Result<Delta, Refusal>
     requires blank { IsBlankFor step document.now }
     requires own { IsDeltaOf step delta }
     requires stands { stands step delta document.now ≡ true }
