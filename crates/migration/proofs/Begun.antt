@@ -13,7 +13,7 @@ use Rattle.revision.specs.Invariants.{IsLimits, IsPast, IsState, KeepsAt}
 use Rattle.revision.proofs.CallerLemmas.{cut_stays, cut_weighs, empty_is_state, adopting_keeps}
 use Rattle.history.specs.Cell.{Cell, CellKeeps, record_of_cell}
 use Rattle.history.specs.Law.{begun_with}
-use Rattle.milestone.specs.CellSpelling.{One}
+use Rattle.milestone.specs.declared.format.Format.TheVariants.{One}
 use Rattle.recovery.specs.declared.shape.Shape.{Shape}
 use Rattle.recovery.specs.Found.{limits_in, limits_of}
 use Rattle.recovery.specs.Formatting.{MayBegin}

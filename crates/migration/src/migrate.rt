@@ -2,8 +2,8 @@
 ghost use Rattle.std.specs.Prelude.{◌≡◌, ◌⊎◌, ◌<◌, ◌^◌, [], true, length, Err, OnOk, IfOk, IfErr};
 ghost use Rattle.disk.specs.Calls.{CountsFaultsAs};
 ghost use Rattle.disk.specs.Crash.{history_of};
-ghost use Rattle.history.specs.Cell.{Newer};
-ghost use Rattle.milestone.specs.CellSpelling.{One, Two};
+ghost use Rattle.history.specs.declared.pick.Pick.TheVariants.{Newer};
+ghost use Rattle.milestone.specs.declared.format.Format.TheVariants.{One, Two};
 ghost use Rattle.revision.specs.State.{State as StateValue};
 ghost use Rattle.recovery.specs.Shape.{is_in_range, layout_length};
 ghost use Rattle.recovery.specs.Layout.{IsFormatted, IsOfFormat};

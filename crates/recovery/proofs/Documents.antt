@@ -14,7 +14,8 @@ use Rattle.history.specs.Found.{unread, StandsFor, StandFor}
 use Rattle.history.specs.Reading.{HasRead, entered, enters, is_there, ReadsNext, NothingLeft}
 use Rattle.history.proofs.CallerLemmas.{reading_begins, reading_goes_on, reading_ends, reading_finds}
 use Rattle.milestone.specs.declared.cells.Cells.{Cells}
-use Rattle.milestone.specs.CellSpelling.{Format, One, Two}
+use Rattle.milestone.specs.declared.format.Format.{Format}
+use Rattle.milestone.specs.declared.format.Format.TheVariants.{One, Two}
 use Rattle.milestone.specs.OneCell.{HoldsPairIn}
 use Rattle.milestone.specs.Cells.{FitsIn, place_of, size_of}
 use Rattle.milestone.proofs.CallerLemmas.{one_pair}

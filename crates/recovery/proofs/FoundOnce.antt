@@ -16,7 +16,8 @@ use Rattle.segments.specs.Slot.{Segment}
 use Rattle.segments.proofs.CallerLemmas.{one_table}
 use Rattle.recovery.specs.declared.shape.Shape.{Shape}
 use Rattle.recovery.specs.Shape.{cells_place, slots_place}
-use Rattle.milestone.specs.CellSpelling.{Format, Two}
+use Rattle.milestone.specs.declared.format.Format.{Format}
+use Rattle.milestone.specs.declared.format.Format.TheVariants.{Two}
 use Rattle.recovery.specs.Layout.{HoldsCellsIn, HoldsSlots}
 use Rattle.segments.specs.Order.{bodies_of}
 use Rattle.recovery.specs.Found.{FoundIn, Found, RunsWith, HoldsPartsIn, HoldsParts, SpellBatches, limits_in, limits_of, commands_of}

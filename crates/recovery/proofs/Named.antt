@@ -4,7 +4,8 @@ use Rattle.std.specs.Int.{w32, to_le_bytes, from_le_bytes}
 use Rattle.std.proofs.lemmas.Nat.{from_le_bytes-to_le_bytes_4}
 use Rattle.recovery.specs.declared.shape.Shape.{Shape}
 use Rattle.std.proofs.lemmas.List.{take-take}
-use Rattle.milestone.specs.CellSpelling.{Format, One, Two}
+use Rattle.milestone.specs.declared.format.Format.{Format}
+use Rattle.milestone.specs.declared.format.Format.TheVariants.{One, Two}
 use Rattle.recovery.specs.Shape.{letters, superblock_in}
 use Rattle.recovery.specs.Layout.{NamesIn, Names, IsOldFormat}
 use Rattle.recovery.proofs.Superblocks.{Ranges, ranges_of, has_numbers}

@@ -26,7 +26,7 @@ use Rattle.recovery.specs.Run.{IsPutAt}
 use Rattle.recovery.specs.steps.Freeing.{reached_in, IsPutOf, IsHalfPut}
 use Rattle.recovery.proofs.FoundOnce.{cells_same, slots_same}
 use Rattle.recovery.proofs.Named.{named_same}
-use Rattle.milestone.specs.CellSpelling.{Two}
+use Rattle.milestone.specs.declared.format.Format.TheVariants.{Two}
 use Rattle.recovery.proofs.Faults.{works_still}
 use Rattle.recovery.proofs.HandedOut.{same_some}
 use Rattle.recovery.proofs.PutCells.{pair_own, pair_other}

@@ -19,7 +19,7 @@ use Rattle.history.proofs.CallerLemmas.{stand_is_state, reading_finds}
 use Rattle.segments.specs.Slot.{Segment}
 use Rattle.segments.specs.Order.{bodies_of, segments_of}
 use Rattle.recovery.specs.declared.shape.Shape.{Shape}
-use Rattle.milestone.specs.CellSpelling.{Format}
+use Rattle.milestone.specs.declared.format.Format.{Format}
 use Rattle.recovery.specs.Layout.{NamesIn, HoldsCellsIn, HoldsSlots}
 use Rattle.recovery.specs.Found.{FoundIn, AreEntriesIn, HoldsPartsIn, SpellBatches, limits_in, commands_of}
 use Rattle.recovery.specs.steps.Reading.{are_below, AreByDocument, SpellGroups, commands_in}

@@ -6,7 +6,8 @@ use Rattle.std.proofs.lemmas.Bool.{cases_lt}
 use Rattle.std.proofs.lemmas.Nat.{le_bytes_4, from_le_bytes-to_le_bytes_4}
 use Rattle.std.proofs.lemmas.List.{drop-drop, drop_all, append-nil, get_or-take, get_or-drop, get_or_past}
 use Rattle.recovery.specs.declared.shape.Shape.{Shape}
-use Rattle.milestone.specs.CellSpelling.{Format, One, Two}
+use Rattle.milestone.specs.declared.format.Format.{Format}
+use Rattle.milestone.specs.declared.format.Format.TheVariants.{One, Two}
 use Rattle.recovery.specs.Shape.{is_in_range, letters, superblock_in}
 
 -- the numbers of a shape in range

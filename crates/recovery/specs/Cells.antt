@@ -3,7 +3,8 @@ use Rattle.std.specs.Prelude.{◌≡◌, ℕ, Option, Some, None, List, length, 
 use Rattle.history.specs.Cell.{Pair, cells_at}
 use Rattle.milestone.specs.declared.cells.Cells.{Cells}
 use Rattle.milestone.specs.Revisions.{lowest_of, highest_of}
-use Rattle.milestone.specs.CellSpelling.{Format, Two}
+use Rattle.milestone.specs.declared.format.Format.{Format}
+use Rattle.milestone.specs.declared.format.Format.TheVariants.{Two}
 use Rattle.milestone.specs.Cells.{FitsIn, place_of, size_of, number_of, revisions_of}
 use Rattle.recovery.specs.declared.shape.Shape.{Shape}
 use Rattle.recovery.specs.Shape.{cells_place}

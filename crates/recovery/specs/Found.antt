@@ -13,7 +13,8 @@ use Rattle.history.specs.Running.{Runs}
 use Rattle.segments.specs.Slot.{Segment}
 use Rattle.segments.specs.Order.{bodies_of}
 use Rattle.recovery.specs.declared.shape.Shape.{Shape}
-use Rattle.milestone.specs.CellSpelling.{Format, One, Two}
+use Rattle.milestone.specs.declared.format.Format.{Format}
+use Rattle.milestone.specs.declared.format.Format.TheVariants.{One, Two}
 use Rattle.recovery.specs.Layout.{IsLaidOutIn}
 
 -- what a further number of a window weighs: nothing where cells don't have it

@@ -2,7 +2,8 @@
 use Rattle.std.specs.Prelude.{◌≡◌, ◌≢◌, ℕ, ◌<◌, ◌≤◌, true, Option, List, length, take, drop, slice_index}
 use Rattle.journal.specs.Area.{open_gate}
 use Rattle.history.specs.Cell.{Pair, cells_at}
-use Rattle.milestone.specs.CellSpelling.{Format, One, Two}
+use Rattle.milestone.specs.declared.format.Format.{Format}
+use Rattle.milestone.specs.declared.format.Format.TheVariants.{One, Two}
 use Rattle.milestone.specs.OneCell.{HoldsPairIn}
 use Rattle.segments.specs.Slot.{Segment}
 use Rattle.segments.specs.Table.{HoldsTable}

@@ -1,7 +1,8 @@
 -- The numbers that a store is made with, and where its parts lie on the device.
 use Rattle.std.specs.Prelude.{ℕ, ◌+◌, ◌*◌, ◌&&◌, nat_le, Bool, List, ◌++◌, codes}
 use Rattle.std.specs.Int.{w32, to_le_bytes}
-use Rattle.milestone.specs.CellSpelling.{Format, One, Two}
+use Rattle.milestone.specs.declared.format.Format.{Format}
+use Rattle.milestone.specs.declared.format.Format.TheVariants.{One, Two}
 use Rattle.recovery.specs.declared.shape.Shape.{Shape}
 
 -- low and high count

@@ -18,7 +18,7 @@ use Rattle.segments.specs.Ring.{Fits, at_of, size_of, known_numbers}
 use Rattle.recovery.specs.declared.shape.Shape.{Shape}
 use Rattle.recovery.specs.declared.reading.RecoveredStore.{RecoveredStore}
 use Rattle.recovery.specs.Shape.{slots_place}
-use Rattle.milestone.specs.CellSpelling.{Format}
+use Rattle.milestone.specs.declared.format.Format.{Format}
 use Rattle.recovery.specs.Layout.{HoldsCellsIn}
 use Rattle.recovery.specs.Cells.{IsCellsOf, AreCellsOf, FitEachIn}
 use Rattle.recovery.specs.Marks.{marks_of}

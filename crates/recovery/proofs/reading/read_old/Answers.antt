@@ -1,7 +1,7 @@
 use Rattle.std.proofs.Common.{◌∙◌, ℕ, List, sym, subst, rules}
 use Rattle.std.proofs.lemmas.Result.{err_from_is_err_and}
-use Rattle.history.specs.Cell.{Newer}
-use Rattle.milestone.specs.CellSpelling.{One}
+use Rattle.history.specs.declared.pick.Pick.TheVariants.{Newer}
+use Rattle.milestone.specs.declared.format.Format.TheVariants.{One}
 use Rattle.recovery.specs.Layout.{IsFormatted, NamesIn}
 use Rattle.recovery.specs.Found.{FoundIn}
 use Rattle.recovery.proofs.FoundOnce.{found_once_in}
