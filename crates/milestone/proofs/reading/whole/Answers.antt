@@ -1,4 +1,6 @@
-use Rattle.std.proofs.Common.{◌≡◌, ◌∙◌, Bool, List, [], sym, ap, subst, arith, rules}
+use Rattle.std.proofs.Common.{◌≡◌, ◌∙◌, ◌<◌, ℕ, zero, suc, Bool, false, List, [], refl, sym, ap, subst, arith, rules}
+use Rattle.std.specs.Prelude.{◌==◌}
+use Rattle.std.proofs.lemmas.Bool.{eqb-false}
 use Rattle.std.proofs.lemmas.List.{nil_from_length}
 use Rattle.std.proofs.lemmas.Result.{err_from_is_err_and}
 use Rattle.delta.specs.Element.{Element}
@@ -63,6 +65,10 @@ returns-in_err-sources-clause-none c =
     c.in_ok-document.document c.in_ok-document.rest.now c.in_ok-document.ensures.found.0 c.in_ok-document.ensures.found.1
     (c.in_err-sources.ensures.none (sym why.2 ∙ is)))
 
+some_left : (n : ℕ) → (n == 0) ≡ false → 0 < n
+some_left zero none = absurd (eqb-false 0 0 none refl)
+some_left (suc n) none = omega arith
+
 pub returns-then-not-is_empty-clause-none : goal.returns-then-not-is_empty-clause-none
 returns-then-not-is_empty-clause-none c = λ is.
     at_end c.args.format c.args.number (omega arith) c.args.bytes.now _ c.in_ok-rest.ensures.found
@@ -70,7 +76,8 @@ returns-then-not-is_empty-clause-none c = λ is.
     c.in_ok-revision.revision c.in_ok-revision.rest.now c.in_ok-revision.ensures.found.0 c.in_ok-revision.ensures.found.1
     c.in_ok-live.live c.in_ok-live.rest.now c.in_ok-live.ensures.found.0 c.in_ok-live.ensures.found.1
     c.in_ok-document.document c.in_ok-document.rest.now c.in_ok-document.ensures.found.0 c.in_ok-document.ensures.found.1
-    c.in_ok-sources.sources c.in_ok-sources.rest.now c.in_ok-sources.ensures.found.0 c.in_ok-sources.ensures.found.1 (search rules)
+    c.in_ok-sources.sources c.in_ok-sources.rest.now c.in_ok-sources.ensures.found.0 c.in_ok-sources.ensures.found.1
+    (some_left _ (sym c.is_empty.ensures ∙ c.if-not-is_empty.true))
 
 pub new-requires-clause-sources : goal.new-requires-clause-sources
 new-requires-clause-sources c = all_last c.args.format c.in_ok-revision.revision c.in_ok-sources.sources c.in_ok-sources.ensures.found.0
