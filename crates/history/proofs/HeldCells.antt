@@ -2,7 +2,9 @@
 use Rattle.std.proofs.Common.{◌≡◌, ℕ, zero, suc, ◌+◌, ◌-◌, ◌≤◌, ◌<◌, true, List, [], ◌∷◌, length, take, drop, Option, Some, None, refl, sym, ap, subst, ◌∙◌, ⊎_elim, arith}
 use Rattle.std.specs.Prelude.{slice_get}
 use Rattle.std.proofs.lemmas.Bool.{and_parts, cases_lt}
-use Rattle.revision.specs.Command.{Taken, Step, Edits, Deletes, Revives}
+use Rattle.revision.specs.Command.{Taken}
+use Rattle.revision.specs.declared.step.Step.{Step}
+use Rattle.revision.specs.declared.step.Step.TheVariants.{Edits, Deletes, Revives}
 use Rattle.revision.specs.Past.{Past, Change, newest, from_floor}
 use Rattle.revision.specs.Floors.{longer}
 use Rattle.revision.specs.State.{Limits, DocumentRecord, revision_of, newest_revision, change_of, continues, record_after, all_continue}

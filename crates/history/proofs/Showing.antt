@@ -2,7 +2,9 @@
 use Rattle.std.proofs.Common.{◌≡◌, ℕ, ◌+◌, ◌-◌, ◌≤◌, max, true, List, [], ◌∷◌, ◌++◌, length, Option, Some, None, length-append, refl, sym, ap, subst, ◌∙◌, arith}
 use Rattle.std.specs.Prelude.{◌&&◌, ◌==◌, not, nat_le}
 use Rattle.std.proofs.lemmas.Bool.{and_parts, eqb-true}
-use Rattle.revision.specs.Command.{Taken, Step, Edits, Deletes, Revives, edits}
+use Rattle.revision.specs.Command.{Taken, edits}
+use Rattle.revision.specs.declared.step.Step.{Step}
+use Rattle.revision.specs.declared.step.Step.TheVariants.{Edits, Deletes, Revives}
 use Rattle.revision.specs.Sources.{Sources, window_of, with_taken}
 use Rattle.revision.specs.Past.{Past, Content, Change, suits, content_after, newest, newest_content, newest_sources, content_at, sources_at, empty_past, from_floor, rebased, with_step}
 use Rattle.revision.specs.Floors.{longer}

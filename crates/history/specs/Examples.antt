@@ -6,7 +6,8 @@ use Rattle.attributes.specs.Map.{empty, insert}
 use Rattle.attributes.specs.Attributes.{changed_by}
 use Rattle.delta.specs.Element.{Element, letters}
 use Rattle.delta.specs.Operation.{insert_text, retain}
-use Rattle.revision.specs.Command.{Taken, Edits, Deletes, Revives}
+use Rattle.revision.specs.Command.{Taken}
+use Rattle.revision.specs.declared.step.Step.TheVariants.{Edits, Deletes, Revives}
 use Rattle.revision.specs.Sources.{with_taken}
 use Rattle.revision.specs.State.{Limits, DocumentRecord, units_of, all_continue, record_after_all}
 use Rattle.history.specs.Entries.{of_document}

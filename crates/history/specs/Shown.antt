@@ -1,6 +1,8 @@
 -- A store's history, and what a document shows of it.
 use Rattle.std.specs.Prelude.{ℕ, ◌≡◌, ◌≤◌, Option, Some, None, List, [], ◌∷◌, ◌++◌, slice_get}
-use Rattle.revision.specs.Command.{Taken, Step, Edits, Deletes, Revives}
+use Rattle.revision.specs.Command.{Taken}
+use Rattle.revision.specs.declared.step.Step.{Step}
+use Rattle.revision.specs.declared.step.Step.TheVariants.{Edits, Deletes, Revives}
 use Rattle.revision.specs.Past.{Past, Change, content_after, empty_past, newest, newest_content, rebased, from_floor}
 use Rattle.revision.specs.Floors.{longer}
 use Rattle.revision.specs.State.{DocumentRecord, State, change_of}

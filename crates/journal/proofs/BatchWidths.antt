@@ -4,7 +4,9 @@ use Rattle.std.specs.List.{flat_map}
 use Rattle.std.proofs.lemmas.List.{length-append}
 use Rattle.std.proofs.lemmas.List.Sums.{sum_by-cons}
 use Rattle.delta.specs.Operation.{Operation}
-use Rattle.revision.specs.Command.{Taken, Step, Edits, Deletes, Revives, name_width, step_width, width_of}
+use Rattle.revision.specs.Command.{Taken, name_width, step_width, width_of}
+use Rattle.revision.specs.declared.step.Step.{Step}
+use Rattle.revision.specs.declared.step.Step.TheVariants.{Edits, Deletes, Revives}
 use Rattle.std.specs.Int.{w32}
 use Rattle.journal.specs.Spelling.{number}
 use Rattle.journal.specs.BatchSpelling.{created_name, step_delta, entry, batch, batch_width}

@@ -8,7 +8,9 @@ use Rattle.std.proofs.lemmas.List.Elements.{All-from_recursion, recursion_from_A
 use Rattle.std.proofs.lemmas.Option.{cond_some, option_and_then_some, same_Some, some_pair_parts}
 use Rattle.delta.specs.Operation.{Operation}
 use Rattle.revision.specs.Name.{is_document_name, is_source_name}
-use Rattle.revision.specs.Command.{Taken, Step, Edits, Deletes, Revives, IsTaken, first_of, is_kind}
+use Rattle.revision.specs.Command.{Taken, IsTaken, first_of, is_kind}
+use Rattle.revision.specs.declared.step.Step.{Step}
+use Rattle.revision.specs.declared.step.Step.TheVariants.{Edits, Deletes, Revives}
 use Rattle.journal.specs.Spelling.{number, text16}
 use Rattle.journal.specs.DeltaSpelling.{delta}
 use Rattle.journal.specs.BatchSpelling.{created_name, step_delta, entry, batch, IsBatch}

@@ -2,7 +2,8 @@
 use Rattle.std.proofs.Common.{◌≡◌, Some, None, [], ◌∷◌, refl}
 use Rattle.attributes.specs.Map.{empty}
 use Rattle.delta.specs.Operation.{insert_text, retain}
-use Rattle.revision.specs.Command.{Taken, Edits, Deletes, Revives}
+use Rattle.revision.specs.Command.{Taken}
+use Rattle.revision.specs.declared.step.Step.TheVariants.{Edits, Deletes, Revives}
 use Rattle.journal.specs.Spelling.{number, text16, text32}
 use Rattle.journal.specs.BatchSpelling.{created_name, step_delta, entry, batch}
 use Rattle.journal.specs.DeltaSpelling.{value, new_value, pairs, operation, delta}

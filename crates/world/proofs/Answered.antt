@@ -8,7 +8,9 @@ use Rattle.refusal.specs.declared.Refusal.TheVariants.{Exists, Gap, OldNumber, T
 use Rattle.attributes.specs.Map.{empty}
 use Rattle.delta.specs.Element.{Element}
 use Rattle.delta.specs.Operation.{Operation}
-use Rattle.revision.specs.Command.{Taken, Step, Edits, Deletes, Revives, width_of, Action, Create, Edit, Undo, Delete, Command}
+use Rattle.revision.specs.Command.{Taken, width_of, Action, Create, Edit, Undo, Delete, Command}
+use Rattle.revision.specs.declared.step.Step.{Step}
+use Rattle.revision.specs.declared.step.Step.TheVariants.{Edits, Deletes, Revives}
 use Rattle.revision.specs.State.{reaches_past, Limits, DocumentRecord, State, revision_of, units_of, sources_of, is_live, find, last_of_all, weight_after, has_place}
 use Rattle.revision.specs.Parting.{parts_pair}
 use Rattle.revision.specs.Late.{late}

@@ -2,7 +2,8 @@
 use Rattle.std.proofs.Common.{◌≡◌, ℕ, ◌+◌, ◌-◌, ◌≤◌, [], ◌∷◌, refl, sym, ap, ◌∙◌, arith}
 use Rattle.std.specs.Prelude.{max}
 use Rattle.std.proofs.lemmas.List.{length-append}
-use Rattle.revision.specs.Command.{Step, Edits, Deletes, Revives}
+use Rattle.revision.specs.declared.step.Step.{Step}
+use Rattle.revision.specs.declared.step.Step.TheVariants.{Edits, Deletes, Revives}
 use Rattle.revision.specs.Sources.{with_taken}
 use Rattle.revision.specs.Past.{Change, Past, content_after, newest, newest_content, newest_sources, content_at, sources_at, from_floor, with_change, rebased, with_step}
 use Rattle.revision.specs.Floors.{longer}

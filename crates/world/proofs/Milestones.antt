@@ -3,7 +3,9 @@ use Rattle.std.proofs.Common.{◌≡◌, ◌⊎◌, ℕ, zero, suc, ◌+◌, ◌
 use Rattle.std.specs.Prelude.{◌&&◌, nat_le, max, min, slice_get}
 use Rattle.std.proofs.lemmas.List.{at_drop_more}
 use Rattle.std.proofs.lemmas.Bool.{le-leb}
-use Rattle.revision.specs.Command.{Taken, Step, Edits, Deletes, Revives}
+use Rattle.revision.specs.Command.{Taken}
+use Rattle.revision.specs.declared.step.Step.{Step}
+use Rattle.revision.specs.declared.step.Step.TheVariants.{Edits, Deletes, Revives}
 use Rattle.revision.specs.Past.{Change, Past, newest, empty_past, from_floor, with_change, with_step}
 use Rattle.revision.specs.State.{Limits, DocumentRecord, State, revision_of, change_of, last_of_all, record_by_name, set_document, fold}
 use Rattle.revision.specs.Floors.{longer, raised, raised_each}

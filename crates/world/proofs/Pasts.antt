@@ -1,6 +1,6 @@
 -- What a document shows comes of its past however far back that goes, and goes on with each step.
 use Rattle.std.proofs.Common.{◌≡◌, ℕ, ◌+◌, ◌≤◌, ap, ◌∙◌, arith}
-use Rattle.revision.specs.Command.{Step}
+use Rattle.revision.specs.declared.step.Step.{Step}
 use Rattle.revision.specs.Sources.{with_taken}
 use Rattle.revision.specs.Past.{Change, Past, newest, newest_content, newest_sources, content_after, content_at, sources_at, from_floor, with_step}
 use Rattle.revision.proofs.CallerLemmas.{from_twice, from_newest, step_makes}

@@ -2,7 +2,8 @@
 use Rattle.std.specs.Prelude.{ℕ, zero, suc, ◌==◌, ◌^◌, nat_lt, if◌then◌else◌, Option, Some, None, List, [], ◌∷◌, length}
 use Rattle.std.specs.Int.{w32, w64}
 use Rattle.revision.specs.Name.{is_source_name, is_document_name}
-use Rattle.revision.specs.Command.{Taken, Edits, Deletes, Revives}
+use Rattle.revision.specs.Command.{Taken}
+use Rattle.revision.specs.declared.step.Step.TheVariants.{Edits, Deletes, Revives}
 use Rattle.journal.specs.steps.Reading.{◌>>=◌, number_at, fixed_at, within_at, byte_at, name_at}
 use Rattle.journal.specs.steps.DeltaReading.{delta_at}
 

@@ -84,7 +84,8 @@ fn tag(taken: &Taken) -> u8
 // the delta, which a deletion doesn't have
 #[tactic(auto, unfolding(crate::specs::BatchSpelling::step_delta))]
 fn put_step_delta(out: &mut Vec<u8>, taken: &Taken) -> Result<(), AllocError>
-    ensures { OnOk result (out.new.items ≡ out.old.items ++ batches.step_delta taken.now.step taken.now.delta) }
+    ensures spelled { OnOk result (out.new.items ≡ out.old.items ++ batches.step_delta taken.now.step taken.now.delta) }
+    ensures taken { IsTaken taken.now }
 {
     match taken.step() {
         Step::Edits => write_delta(out, taken.delta()),
