@@ -34,7 +34,7 @@ ROUND = 200  # lines that are sent ahead
 NAMES = {
     1: "BadLine", 2: "BadMessage", 3: "BadOps", 4: "TooManyOps", 5: "NoHello", 6: "NoDocument", 7: "Exists", 8: "BadName", 9: "Gap",
     10: "OldNumber", 11: "TooManySources", 12: "Future", 13: "TooOld", 14: "PastEnd", 15: "CutsPair", 16: "TooHeavy", 17: "TooWide",
-    18: "RevisionsSpent", 19: "NothingToUndo", 20: "TooManyDocuments", 23: "LineTooLong",
+    18: "RevisionsSpent", 19: "NothingToUndo", 20: "TooManyDocuments", 23: "LineTooLong", 40: "Deleted",
 }  # fmt: skip
 OF_LINES = {1, 2, 3, 4, 5, 8, 23}  # refusals that a line gets by its form; the others are those of commands and reads
 
@@ -51,6 +51,7 @@ MEMBERS = {
     "create": {"doc", "n", "ops"},
     "edit": {"doc", "n", "base", "ops"},
     "undo": {"doc", "n"},
+    "delete": {"doc", "n"},
     "fetch": {"doc"},
     "since": {"doc", "rev"},
     "subscribe": {"doc", "rev"},
@@ -214,6 +215,7 @@ class Lines:
     def __init__(self, seed):
         self.random = random.Random(seed)
         self.rev, self.last, self.length = collections.Counter(), collections.Counter(), collections.Counter()
+        self.deleted = set()
 
     def pick(self, items):
         return items[int(self.random.random() * len(items))]
@@ -245,14 +247,16 @@ class Lines:
 
     def message(self):
         doc = self.pick(DOCS) if not self.chance(12) else self.pick(("d4", "no", "d0" * 20))
-        do = self.pick(("create", "edit", "edit", "edit", "edit", "undo", "fetch", "fetch", "since", "subscribe", "unsubscribe", "hello"))
+        usual = "create" if doc in self.deleted else "edit"
+        do = "delete" if self.chance(100) else self.pick(("create", usual, "edit", "edit", "edit", "undo", "fetch", "fetch", "since", "subscribe", "unsubscribe", "hello"))
         rev = self.number_near(self.rev[doc])
         members = [("do", f'"{do}"')]
         if do == "hello":
             return [*members, ("source", '"s"')]
         members.append(("doc", f'"{doc}"'))
-        if do in ("create", "edit", "undo"):
-            members.append(("n", "1" if do == "create" else self.number_near(self.last[doc] + 1)))
+        if do in ("create", "edit", "undo", "delete"):
+            is_first = do == "create" and doc not in self.deleted
+            members.append(("n", "1" if is_first else self.number_near(self.last[doc] + 1)))
         if do in ("create", "edit"):
             members.append(("ops", self.ops(doc)))
         if do == "edit":
@@ -291,7 +295,7 @@ class Lines:
         elif way == "ops":
             members[place] = "ops", "[" + ",".join(self.pick(OPERATIONS) for _ in range(self.pick((1, 2, 5)))) + "]"
         else:
-            members[0] = "do", '"%s"' % self.pick(("drop", "Fetch", "fetch ", "delete", "list", "migrate", "", "fetch\\u0000"))
+            members[0] = "do", '"%s"' % self.pick(("drop", "Fetch", "fetch ", "delete", "remove", "list", "migrate", "", "fetch\\u0000"))
         return members
 
     def line(self):
@@ -333,6 +337,11 @@ class Lines:
         """Takes over what a reply tells of a document."""
         doc = reply.get("doc")
         if reply.get("ok") in ("taken", "again"):
+            if reply["ok"] == "taken" and b'"delete"' in line and b'"ops"' not in line:
+                self.deleted.add(doc)
+                self.length[doc] = 0
+            elif reply["ok"] == "taken":
+                self.deleted.discard(doc)
             self.rev[doc] = max(self.rev[doc], reply["rev"])
             self.last[doc] = max(self.last[doc], reply["n"])
         elif reply.get("ok") == "doc":

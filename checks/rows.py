@@ -114,6 +114,14 @@ ROWS = [
         0,
     ),
     (
+        "a deletion, and a creation again",
+        DEEP,
+        b"".join([HELLO, CREATE, line(do="subscribe", doc="d", rev=1), line(do="delete", doc="d", n=2), FETCH, fetch(1), since(2)])
+        + b"".join([line(do="delete", doc="d", n=2), line(do="delete", doc="d", n=3), edit(3, 2, {"insert": "q"})])
+        + b"".join([creation({"insert": "n"}, n=3), creation({"insert": "n"}), edit(4, 1, {"insert": "q"}), FETCH]),
+        0,
+    ),
+    (
         "65 older revisions, and the first again",
         DEEP,
         b"".join([HELLO, CREATE] + [edit(n, n - 1, {"insert": "a"}) for n in range(2, 67)] + [fetch(r) for r in [*range(1, 66), 1]]),

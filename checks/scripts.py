@@ -35,6 +35,13 @@ def undo(doc, n):
     return {"do": "undo", "doc": doc, "n": n}
 
 
+def deletion(doc, n):
+    return {"do": "delete", "doc": doc, "n": n}
+
+
+COMMANDS = ("create", "edit", "undo", "delete")
+
+
 def fetch(doc, *rev):
     return {"do": "fetch", "doc": doc, **({"rev": rev[0]} if rev else {})}
 
@@ -110,6 +117,31 @@ SCRIPTS = [
             ("b", [fetch("d"), edit("d", 1, 4, delete(1)), undo("d", 1), fetch("g")]),  # TooHeavy, NothingToUndo, NoDocument
         ],
         {"d": (4, [insert("Hei")]), "e": (2, [])},
+    ),
+    Script(
+        "a document that is deleted and created again",
+        ROOMY,
+        [],
+        [
+            (
+                "a",
+                [
+                    create("d", insert("Hi")),
+                    edit("d", 2, 1, retain(2), insert("!")),
+                    deletion("d", 3),
+                    fetch("d"),  # Deleted
+                    deletion("d", 4),  # Deleted
+                    create("d", insert("?")),  # again
+                    {**create("d", insert("n")), "n": 4},
+                    edit("d", 5, 2, insert("q")),  # TooOld
+                    edit("d", 5, 4, retain(1), insert("o")),
+                    create("e"),
+                    deletion("e", 2),
+                ],
+            ),
+            ("b", [fetch("d"), fetch("e"), edit("d", 1, 5, insert("("))]),  # Deleted
+        ],
+        {"d": (6, [insert("(no")]), "e": (2, None)},
     ),
     Script(
         "sessions in a store of the default shape",
@@ -273,12 +305,12 @@ class Session:
 
 
 def dumped(store, pick):
-    """What `dump` prints of a store: of each document its revision and its operations."""
+    """What `dump` prints of a store: of each document its revision and its operations, None where it is deleted."""
     documents = {}
     for line in undisturbed("dump", store, "--pick", pick).decode().splitlines():
         name, rev, floor, content = line.split(" ", 3)
         agree(0 <= int(floor) <= int(rev), f"a floor of {floor} at revision {rev}")
-        documents[name] = int(rev), json.loads(content)["ops"]
+        documents[name] = int(rev), None if content == "deleted" else json.loads(content)["ops"]
     return documents
 
 
@@ -391,7 +423,13 @@ class Play:
             if self.script.wanted is None:
                 docs = {doc for _, doc in self.last}
                 replies = {doc: self.session.ask(fetch(doc)) for doc in sorted(docs)}
-                self.states.append({doc: (it["rev"], it["ops"]) for doc, it in replies.items()})
+                self.states.append({doc: self.held(doc, it) for doc, it in replies.items()})
+
+    def held(self, doc, reply):
+        """What a fetch shows of a document: its revision and its operations, None where it is deleted."""
+        if reply.get("code") != 40:
+            return reply["rev"], reply["ops"]
+        return max(rev for (_, other), mine in self.last.items() if other == doc for _, rev in mine), None
 
     def begin_again(self):
         """Starts the program again. It knows the source's last commands that were acknowledged."""
@@ -409,7 +447,7 @@ class Play:
     def documents(self, pending):
         """What the store may hold now: what was acknowledged, or that and the command that is pending."""
         wanted = self.script.wanted or self
-        is_command = pending is not None and pending["do"] in ("create", "edit", "undo")
+        is_command = pending is not None and pending["do"] in COMMANDS
         return wanted.states[self.taken : self.taken + (2 if is_command else 1)]
 
     def check_held(self, pending):
@@ -433,14 +471,15 @@ class Play:
 
     def check_failed(self, message):
         """After StoreFailed each command gets it, reads get it or an answer, and the session's end says so."""
-        command = message if message["do"] in ("create", "edit", "undo") else undo("nothing", 1)
+        command = message if message["do"] in COMMANDS else undo("nothing", 1)
         for _ in range(2):
             reply = self.session.ask(command)
             agree(reply.get("code") == 21, f"a command after StoreFailed: {reply}")
         for doc in self.documents(None)[0]:
             reply = self.session.ask(fetch(doc))
             held = [state.get(doc) for state in self.documents(message)]
-            agree(reply.get("code") == 21 or (reply["rev"], reply["ops"]) in held, f"a fetch after StoreFailed: {reply}")
+            is_held = any(it is not None and it[1] is None for it in held) if reply.get("code") == 40 else None
+            agree(reply.get("code") == 21 or is_held or self.held(doc, reply) in held, f"a fetch after StoreFailed: {reply}")
         ended = self.session.end()
         agree(ended == (1, STORE_FAILED), f"after StoreFailed the session ended with {ended}")
         self.check_held(message)

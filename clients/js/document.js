@@ -68,7 +68,7 @@ async function fetchCreated(client, name, ops) {
     try {
       return await client.fetch(name);
     } catch (error) {
-      if (error.code !== Refusal.NoDocument) throw error;
+      if (error.code !== Refusal.NoDocument && error.code !== Refusal.Deleted) throw error;
     }
     await new Promise((resolve) => setTimeout(resolve, pauses.next()));
   }

@@ -31,4 +31,5 @@ export const Refusal = {
   StoreFailed: 21,
   NoMemory: 22,
   LineTooLong: 23,
+  Deleted: 40,
 };

@@ -18,7 +18,8 @@ const MOST_COMMANDS = 16; // that are on their way: a server answers so many of 
  * @property {number} [sendings]
  * @property {number} [number]
  * @property {boolean} [counts]  its number was the next one
- * @property {boolean} [isBehind]  since it was sent, one before it wasn't taken: then it is answered Gap, or NoDocument, and is sent again
+ * @property {boolean} [isBehind]  since it was sent, one before it wasn't taken: then it is answered Gap, NoDocument or Exists, and is
+ *   sent again
  * @property {RichdError} [trouble]  what it was refused by, and is sent again for all the same
  */
 
@@ -35,6 +36,7 @@ export class Line {
   #items = [];
   /** @type {number | undefined} the number of the next command, where it is known */
   #number;
+  #isDeleted = false; // as far as is known: then a creation has the next number, and else the first
   #isLearning = false;
   #pauses = new Pauses();
   /** @type {ReturnType<typeof setTimeout> | undefined} */
@@ -105,9 +107,10 @@ export class Line {
   /** @param {Item} item */
   #hasNumber(item) {
     if (item.number !== undefined) return true;
-    item.number = item.message.do === "create" ? 1 : this.#number;
+    item.number = item.message.do === "create" && !this.#isDeleted ? 1 : this.#number;
     item.counts = item.number !== undefined && item.number === this.#number;
     if (item.counts) this.#number += 1;
+    if (item.message.do === "delete" && item.number !== undefined) this.#isDeleted = true;
     return item.number !== undefined;
   }
 
@@ -137,6 +140,7 @@ export class Line {
 
   /** @param {Item} item @param {RichdError | null} error @param {Reply} [reply] */
   #settle(item, error, reply) {
+    if (error?.code === Refusal.Deleted) this.#isDeleted = true;
     if (error?.code === 0) {
       item.isSent = false; // the session has ended, and the next one goes on here
     } else if (error?.code === Refusal.NoMemory || error?.code === Refusal.StoreFailed) {
@@ -144,7 +148,7 @@ export class Line {
       item.trouble = error;
       for (const other of this.#items.slice(this.#items.indexOf(item) + 1)) other.isBehind ||= item.isCommand && other.isCommand && other.isSent;
       this.#rest();
-    } else if (item.isBehind && (error?.code === Refusal.Gap || error?.code === Refusal.NoDocument)) {
+    } else if (item.isBehind && [Refusal.Gap, Refusal.NoDocument, Refusal.Exists].includes(error?.code)) {
       Object.assign(item, { isSent: false, sendings: 0 });
       this.#pump();
     } else if (item.isCommand && this.#isMisnumbered(item, error, reply)) {
@@ -168,7 +172,8 @@ export class Line {
    * @param {Reply} [reply]
    */
   #isMisnumbered(item, error, reply) {
-    if (item.message.do === "create") return false;
+    if (item.message.do === "create" && item.number === 1 && error?.code !== Refusal.OldNumber) return false;
+    if (item.message.do === "create") this.#isDeleted = true; // else its number would say nothing
     if (error?.code === Refusal.Gap) return true;
     return item.sendings === 1 && (error?.code === Refusal.OldNumber || reply?.ok === "again");
   }
@@ -176,6 +181,7 @@ export class Line {
   /** @param {Item} item @param {Reply} reply */
   #count(item, reply) {
     if (item.message.do !== "create") return;
+    if (reply.ok === "taken") this.#isDeleted = false;
     if (reply.ok === "taken") this.#number ??= 2;
     else if (item.counts && item.sendings === 1) this.#free(item, undefined); // it was taken long ago, and others behind it perhaps
   }

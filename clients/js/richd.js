@@ -79,7 +79,7 @@ export class Client extends EventTarget {
   }
 
   /**
-   * Creates a document. A source that created it before, and did nothing more, gets the same answer.
+   * Creates a document, or one that was deleted again. A source that created it before, and did nothing more, gets the same answer.
    * @param {string} doc
    * @param {Op[]} ops
    * @param {Limits} [limits]
@@ -106,6 +106,15 @@ export class Client extends EventTarget {
    */
   undo(doc, limits) {
     return this.#command(doc, { do: "undo" }, limits);
+  }
+
+  /**
+   * Deletes a document. Its name stays, and `create` makes it again.
+   * @param {string} doc
+   * @param {Limits} [limits]
+   */
+  delete(doc, limits) {
+    return this.#command(doc, { do: "delete" }, limits);
   }
 
   /**

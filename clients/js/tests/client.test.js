@@ -127,6 +127,29 @@ test("a command that found no memory and wasn't taken is sent before those behin
   assert.deepEqual((await client.fetch("d")).ops, [{ insert: "1234ab" }]);
 });
 
+test("a document is deleted and created again, each with the next number", async (t) => {
+  const { client } = await pair(t);
+  await client.create("d", [{ insert: "ab" }]);
+  const calls = [client.edit("d", [{ insert: "x" }], 1), client.delete("d"), client.create("d", [{ insert: "n" }])];
+  assert.deepEqual((await Promise.all(calls)).map(({ rev }) => rev), [2, 3, 4]);
+  assert.deepEqual(await client.fetch("d"), { rev: 4, ops: [{ insert: "n" }] });
+  await client.delete("d");
+  await assert.rejects(client.fetch("d"), { code: 40, name: "Deleted" });
+  await assert.rejects(client.edit("d", [], 5), { code: 40 });
+  assert.deepEqual(await client.create("d", [{ insert: "m" }]), { rev: 6 });
+});
+
+test("a source that was used before creates what somebody deleted, by its next number", async (t) => {
+  const { client, server } = await pair(t);
+  await client.create("d", [{ insert: "ab" }]);
+  await client.delete("d");
+  const later = await connect({ ...server.address, source: "ann" });
+  t.after(() => later.close());
+  const document = await later.open("d", { create: [{ insert: "n" }] });
+  assert.equal(document.revision, 3);
+  assert.deepEqual(document.contents.ops, [{ insert: "n" }]);
+});
+
 test("a source that was used before finds its next number", async (t) => {
   const { client, server } = await pair(t);
   await client.create("d", [{ insert: "ab" }]);

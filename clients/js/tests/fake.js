@@ -55,6 +55,8 @@ export class Documents {
     if (doc === undefined) return refusal(6, "NoDocument");
     const newest = doc.deltas.length;
     if (message.do === "edit") return this.#edit(doc, message, source);
+    if (message.do === "delete") return this.#delete(doc, message, source);
+    if (message.do !== "unsubscribe" && doc.isDeleted) return refusal(40, "Deleted");
     if (message.rev > newest) return refusal(12, "Future");
     const rev = message.rev ?? newest;
     if (rev < doc.floor) return refusal(13, "TooOld");
@@ -89,6 +91,7 @@ export class Documents {
   #create(doc, { doc: name, n, ops }, source) {
     const revs = doc?.sources.get(source) ?? []; // by number, from 1 on
     if (inWindow(revs, n)) return { doc: name, n, ok: "again", rev: revs[n - 1] };
+    if (doc?.isDeleted) return this.#misnumbered(revs, n) ?? this.#turn(doc, name, source, n, ops, false);
     if (doc !== undefined) return refusal(7, "Exists");
     if (n > 1) return refusal(9, "Gap");
     this.#docs.set(name, { deltas: [ops], sources: new Map([[source, [1]]]), floor: 0 });
@@ -98,13 +101,35 @@ export class Documents {
   #edit(doc, { doc: name, n, base, ops }, source) {
     const revs = doc.sources.get(source) ?? [];
     if (inWindow(revs, n)) return { doc: name, n, ok: "again", rev: revs[n - 1] };
-    if (n < revs.length) return refusal(10, "OldNumber");
-    if (n > revs.length + 1) return refusal(9, "Gap");
+    const misnumbered = this.#misnumbered(revs, n);
+    if (misnumbered) return misnumbered;
+    if (doc.isDeleted) return refusal(40, "Deleted");
     if (base > doc.deltas.length) return refusal(12, "Future");
     if (base < doc.floor) return refusal(13, "TooOld");
     const late = doc.deltas.slice(base).reduce((delta, done) => new Delta(done).transform(delta, true), new Delta(ops));
     const rev = doc.deltas.push(late.ops);
     doc.sources.set(source, [...revs, rev]);
+    return { doc: name, n, ok: "taken", rev };
+  }
+
+  #delete(doc, { doc: name, n }, source) {
+    const revs = doc.sources.get(source) ?? [];
+    if (inWindow(revs, n)) return { doc: name, n, ok: "again", rev: revs[n - 1] };
+    const refused = this.#misnumbered(revs, n) ?? (doc.isDeleted ? refusal(40, "Deleted") : undefined);
+    const length = new Delta(this.at(name)).length();
+    return refused ?? this.#turn(doc, name, source, n, [{ delete: length }], true);
+  }
+
+  #misnumbered(revs, n) {
+    if (n < revs.length) return refusal(10, "OldNumber");
+    return n > revs.length + 1 ? refusal(9, "Gap") : undefined;
+  }
+
+  // A deletion, or a creation of what was deleted: nothing older is held from then on.
+  #turn(doc, name, source, n, ops, isDeleted) {
+    const rev = doc.deltas.push(ops);
+    doc.sources.set(source, [...(doc.sources.get(source) ?? []), rev]);
+    Object.assign(doc, { floor: rev, isDeleted });
     return { doc: name, n, ok: "taken", rev };
   }
 }

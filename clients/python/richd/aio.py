@@ -98,7 +98,7 @@ class Client(Owner):
         self._task = asyncio.get_running_loop().create_task(self._live())
 
     async def create(self, doc: str, ops: Delta) -> Taken:
-        """Makes a document of these inserts, at revision 1."""
+        """Makes a document of these inserts, at revision 1, or as the next revision where it is deleted."""
         return await self._answer(lambda done: self._core.create(doc, ops, done))
 
     async def edit(self, doc: str, ops: Delta, base: int) -> Taken:
@@ -108,6 +108,10 @@ class Client(Owner):
     async def undo(self, doc: str) -> Taken:
         """Takes back this source's last change of a document, past what others did since."""
         return await self._answer(lambda done: self._core.undo(doc, done))
+
+    async def delete(self, doc: str) -> Taken:
+        """Deletes a document. Its name stays, and `create` makes it again."""
+        return await self._answer(lambda done: self._core.delete(doc, done))
 
     async def fetch(self, doc: str, rev: Optional[int] = None) -> Contents:
         """A document at a revision, or at the newest."""
@@ -123,7 +127,7 @@ class Client(Owner):
         return Following(self, doc, rev)
 
     async def open(self, doc: str, create: Optional[Delta] = None) -> Document:
-        """A document to type into. Where it isn't there, and `create` has inserts, it is made of them; another client may do so too."""
+        """A document to type into. Where it isn't there or is deleted, and `create` has inserts, it is made of them; another client may do so too."""
         return Document(self, doc, await self._answer(lambda done: fetch_or_create(self._core, doc, create, done)))
 
     async def close(self) -> None:

@@ -83,7 +83,7 @@ class Client(Owner):
             raise TimeoutError("the server didn't greet in time")
 
     def create(self, doc: str, ops: Delta) -> Taken:
-        """Makes a document of these inserts, at revision 1."""
+        """Makes a document of these inserts, at revision 1, or as the next revision where it is deleted."""
         return self._wait(self.ahead.create(doc, ops))
 
     def edit(self, doc: str, ops: Delta, base: int) -> Taken:
@@ -93,6 +93,10 @@ class Client(Owner):
     def undo(self, doc: str) -> Taken:
         """Takes back this source's last change of a document, past what others did since."""
         return self._wait(self.ahead.undo(doc))
+
+    def delete(self, doc: str) -> Taken:
+        """Deletes a document. Its name stays, and `create` makes it again."""
+        return self._wait(self.ahead.delete(doc))
 
     def fetch(self, doc: str, rev: Optional[int] = None) -> Contents:
         """A document at a revision, or at the newest."""
@@ -108,7 +112,7 @@ class Client(Owner):
         return Following(self, doc, rev)
 
     def open(self, doc: str, create: Optional[Delta] = None) -> Document:
-        """A document to type into. Where it isn't there, and `create` has inserts, it is made of them; another client may do so too."""
+        """A document to type into. Where it isn't there or is deleted, and `create` has inserts, it is made of them; another client may do so too."""
         return Document(self, doc, self._wait(self.ahead._begin(lambda core, done: fetch_or_create(core, doc, create, done))))
 
     def close(self) -> None:
@@ -227,6 +231,9 @@ class Ahead:
 
     def undo(self, doc: str) -> Future[Taken]:
         return self._begin(lambda core, done: core.undo(doc, done))
+
+    def delete(self, doc: str) -> Future[Taken]:
+        return self._begin(lambda core, done: core.delete(doc, done))
 
     def fetch(self, doc: str, rev: Optional[int] = None) -> Future[Contents]:
         return self._begin(lambda core, done: core.fetch(doc, rev, done))

@@ -64,13 +64,13 @@ class Request:
 
 
 class Command(Request):
-    """A create, an edit or an undo. It gets its number when it is sent first. One that `waits` is not answered StoreFailed: it is on
+    """A create, an edit, an undo or a delete. It gets its number when it is sent first. One that `waits` is not answered StoreFailed: it is on
     its way until the server tells whether it was taken."""
 
     def __init__(self, message: Message, done: Done, waits: bool):
         super().__init__(message, done)
         self.waits = waits
-        self.is_behind = False  # since it was sent, one before it wasn't taken: then it is answered Gap, or NoDocument, and is sent again
+        self.is_behind = False  # since it was sent, one before it wasn't taken: then it is answered Gap, NoDocument or Exists, and is sent again
 
 
 class Commands:
@@ -136,6 +136,9 @@ class Core:
 
     def undo(self, doc: str, done: Done) -> None:
         self._command(Command(messages.undo(doc, 0), done, waits=False))
+
+    def delete(self, doc: str, done: Done) -> None:
+        self._command(Command(messages.delete(doc, 0), done, waits=False))
 
     def fetch(self, doc: str, rev: Optional[int], done: Done) -> None:
         self._ask(Request(messages.fetch(doc, rev), done))
@@ -345,7 +348,7 @@ class Core:
         if error is not None and error.code == messages.STORE_FAILED:
             self._keep(commands, command, error)
             return
-        if error is not None and error.code in (messages.GAP, messages.NO_DOCUMENT) and command.is_behind:
+        if error is not None and error.code in (messages.GAP, messages.NO_DOCUMENT, messages.EXISTS) and command.is_behind:
             self._postponed.append(command)
             self._go_on(commands)
             return

@@ -15,6 +15,7 @@ GAP = 9
 TOO_OLD = 13
 STORE_FAILED = 21
 NO_MEMORY = 22
+DELETED = 40
 
 
 class Refused(Exception):
@@ -34,7 +35,7 @@ class Unexpected(Exception):
 
 
 class Taken(NamedTuple):
-    """A create, an edit or an undo was taken, made revision `rev`, and is on the disk. `again` says that it had been taken before it
+    """A create, an edit, an undo or a delete was taken, made revision `rev`, and is on the disk. `again` says that it had been taken before it
     was sent the last time, as after a cut that took the reply along."""
 
     rev: int
@@ -78,6 +79,10 @@ def undo(doc: str, n: int) -> Message:
     return {"do": "undo", "doc": doc, "n": n}
 
 
+def delete(doc: str, n: int) -> Message:
+    return {"do": "delete", "doc": doc, "n": n}
+
+
 def fetch(doc: str, rev: Optional[int] = None) -> Message:
     return {"do": "fetch", "doc": doc} if rev is None else {"do": "fetch", "doc": doc, "rev": rev}
 
@@ -116,6 +121,7 @@ _REPLIES: Dict[str, Dict[str, Set[str]]] = {
     "create": _COMMAND,
     "edit": _COMMAND,
     "undo": _COMMAND,
+    "delete": _COMMAND,
     "fetch": {"doc": {"rev", "ops"}},
     "since": {"since": {"rev", "deltas"}},
     "subscribe": {"subscribed": set()},

@@ -239,6 +239,19 @@ class Numbers(CoreTest):
         self.comes(self.refusal(6, "NoDocument"))
         self.assertEqual((one.only.code, two.only.code), (20, 6))
 
+    def test_a_document_is_deleted_and_created_again_by_the_next_numbers(self):
+        answers = [Answer() for _ in range(3)]
+        self.core.edit("d", [{"insert": "x"}], 1, answers[0])
+        self.core.delete("d", answers[1])
+        self.core.create("d", [{"insert": "n"}], answers[2])
+        creation = {"do": "create", "doc": "d", "ops": [{"insert": "n"}]}
+        self.sends(self.edit(1), {"do": "delete", "doc": "d", "n": 2}, {**creation, "n": 3})
+        # the edit is refused, so the deletion has a gap before it, and the creation finds the document there
+        self.comes(self.refusal(16, "TooHeavy"), self.refusal(9, "Gap"), self.refusal(7, "Exists"))
+        self.sends({"do": "delete", "doc": "d", "n": 1}, {**creation, "n": 2})
+        self.comes(self.taken(1, 2), self.taken(2, 3))
+        self.assertEqual([answer.only for answer in answers[1:]], [Taken(2), Taken(3)])
+
     def test_a_gap_that_no_refusal_explains_is_told(self):
         self.begin(d=5)
         answer = Answer()

@@ -70,6 +70,7 @@ fn command_to(rt: &(impl Abort + AllocGlobal), document: u32, number: u64) -> Co
             Command::edit(name, source, like.number(), *base, delta)
         }
         Action::Undo => panic!(rt; "an undo"),
+        Action::Delete => panic!(rt; "a deletion"),
     };
     made.expect(rt, "a command")
 }

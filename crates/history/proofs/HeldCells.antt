@@ -3,6 +3,8 @@ use Rattle.std.proofs.Common.{◌≡◌, ℕ, zero, suc, ◌+◌, ◌-◌, ◌�
 use Rattle.std.specs.Prelude.{slice_get}
 use Rattle.std.proofs.lemmas.Bool.{and_parts, cases_lt}
 use Rattle.revision.specs.Command.{Taken}
+use Rattle.revision.specs.declared.step.Step.{Step}
+use Rattle.revision.specs.declared.step.Step.TheVariants.{Edits, Deletes, Revives}
 use Rattle.revision.specs.Past.{Past, Change, newest, from_floor}
 use Rattle.revision.specs.Floors.{longer}
 use Rattle.revision.specs.State.{Limits, DocumentRecord, revision_of, newest_revision, change_of, continues, record_after, all_continue}
@@ -10,7 +12,7 @@ use Rattle.revision.proofs.CallerLemmas.{from_longer}
 use Rattle.history.specs.Entries.{of_document}
 use Rattle.history.specs.Cell.{Cell, Pair, cell_of, record_of_cell}
 use Rattle.history.specs.Found.{started}
-use Rattle.history.specs.Shown.{whole_after, whole_of, Order, base_at, whole_at, Shows, PlacesShow}
+use Rattle.history.specs.Shown.{longer_by, whole_after, whole_of, Order, base_at, whole_at, Shows, PlacesShow}
 use Rattle.history.specs.Running.{IsCellOf, IsCellAt, Runs}
 use Rattle.history.specs.Law.{HeldIsCell, CellsStay}
 use Rattle.history.proofs.Showing.{newest-longer, newest-shown, newest-after, record-more, places-itself, from-shown, revision-shown}
@@ -33,17 +35,45 @@ cut_at past revision = record (from_floor past revision) { changes = [] }
 cut-newest : (past : Past) (revision : ℕ) → newest past ≤ revision → cut_at past revision ≡ from_floor past revision
 cut-newest past revision all = ap (λ l. record (from_floor past revision) { changes = l }) (sym (none-left (revision - past.floor) past.changes (omega (arith, all))))
 
--- further commands leave what stood at a revision before
+-- the floor of what commands make is never below the one before
+step-rises : (past : Past) (step : Step) (change : Change) → past.floor ≤ (longer_by past step change).floor
+step-rises past Edits change = omega arith
+step-rises past Deletes change = omega arith
+step-rises past Revives change = omega arith
+
+rises : (before whole : DocumentRecord) (others : List Taken) → whole_of (Some before) others ≡ Some whole → before.past.floor ≤ whole.past.floor
+rises before whole [] is = omega (arith, ap (λ (d : DocumentRecord). d.past.floor) (some_same before whole is))
+rises before whole (first ∷ others) is =
+    omega (arith, step-rises before.past first.step (change_of first), rises (record before { past = longer_by before.past first.step (change_of first) }) whole others is)
+
+-- Further commands leave what stood at a revision before, where none of them deletes the document or creates it again: the floor would then be
+-- above it.
+abbrev IsLeft : DocumentRecord → DocumentRecord → ℕ → Type 0
+IsLeft before whole revision =
+    (cut_at whole.past revision ≡ cut_at before.past revision) × (whole.name ≡ before.name) × (whole.past.floor ≡ before.past.floor)
+
 further : (before whole : DocumentRecord) (others : List Taken) (revision : ℕ) → whole_of (Some before) others ≡ Some whole
-    → before.past.floor ≤ revision → revision ≤ newest before.past
-    → (cut_at whole.past revision ≡ cut_at before.past revision) × (whole.name ≡ before.name) × (whole.past.floor ≡ before.past.floor)
-further before whole [] revision is above within =
+    → before.past.floor ≤ revision → revision ≤ newest before.past → whole.past.floor ≤ revision → IsLeft before whole revision
+further before whole [] revision is above within low =
     let same : whole ≡ before = sym (some_same before whole is) in
     (ap (λ (d : DocumentRecord). cut_at d.past revision) same, ap (λ (d : DocumentRecord). d.name) same, ap (λ (d : DocumentRecord). d.past.floor) same)
-further before whole (first ∷ others) revision is above within =
-    let next : DocumentRecord = record before { past = longer before.past (change_of first) } in
-    let later = further next whole others revision is above (omega (arith, within, newest-longer before.past (change_of first))) in
-    (later.0 ∙ ap (λ (p : Past). record p { changes = [] }) (sym (from_longer before.past revision (change_of first) above within)), later.1, later.2)
+further before whole (first ∷ others) revision is above within low =
+    by_step first.step is
+    (further (record before { past = longer before.past (change_of first) }) whole others revision)
+    (λ st. rises (record before { past = longer_by before.past st (change_of first) }) whole others)
+  where
+    by_step : (step : Step) → whole_of (Some (record before { past = longer_by before.past step (change_of first) })) others ≡ Some whole
+        → (whole_of (Some (record before { past = longer before.past (change_of first) })) others ≡ Some whole
+        → before.past.floor ≤ revision → revision ≤ newest (longer before.past (change_of first)) → whole.past.floor ≤ revision
+        → IsLeft (record before { past = longer before.past (change_of first) }) whole revision)
+        → ((st : Step) → whole_of (Some (record before { past = longer_by before.past st (change_of first) })) others ≡ Some whole
+        → (longer_by before.past st (change_of first)).floor ≤ whole.past.floor)
+        → IsLeft before whole revision
+    by_step Edits is left over =
+        let later = left is above (omega (arith, within, newest-longer before.past (change_of first))) low in
+        (later.0 ∙ ap (λ (p : Past). record p { changes = [] }) (sym (from_longer before.past revision (change_of first) above within)), later.1, later.2)
+    by_step Deletes is left over = absurd (omega (arith, over Deletes is, low, within))
+    by_step Revives is left over = absurd (omega (arith, over Revives is, low, within))
 
 -- what the first commands make, up to a revision
 record Cut (base : Option DocumentRecord) (commands : List Taken) (whole : DocumentRecord) (revision : ℕ) : Type 0 where
@@ -58,9 +88,9 @@ record Cut (base : Option DocumentRecord) (commands : List Taken) (whole : Docum
 
 cut : (limits : Limits) (base found : Option DocumentRecord) (commands : List Taken) (whole : DocumentRecord) (revision : ℕ) → PlacesShow base found
     → all_continue limits found commands ≡ true → whole_of base commands ≡ Some whole → newest_revision base ≤ revision → 1 ≤ revision
-    → revision ≤ newest whole.past → Cut base commands whole revision
-cut limits None found [] whole revision shows h is above some within = absurd (cc)
-cut limits (Some before) found [] whole revision shows h is above some within =
+    → revision ≤ newest whole.past → whole.past.floor ≤ revision → Cut base commands whole revision
+cut limits None found [] whole revision shows h is above some within low = absurd (cc)
+cut limits (Some before) found [] whole revision shows h is above some within low =
     let same : whole ≡ before = sym (some_same before whole is) in
     let long : newest whole.past ≡ newest before.past = ap (λ (d : DocumentRecord). newest d.past) same in
     record {
@@ -73,10 +103,10 @@ cut limits (Some before) found [] whole revision shows h is above some within =
       reached = omega (arith, above, within, long);
       same = ap (λ (d : DocumentRecord). cut_at d.past revision) same;
     }
-cut limits base found (taken ∷ others) whole revision shows h is above some within =
+cut limits base found (taken ∷ others) whole revision shows h is above some within low =
     ⊎_elim (λ (under : revision < newest_revision base + 1). here base is above under)
     (λ (over : newest_revision base + 1 ≤ revision).
-    there (cut limits (whole_after base taken) (record_after limits.keep found taken) others whole revision next parts.1 is (omega (arith, long, over)) some within))
+    there (cut limits (whole_after base taken) (record_after limits.keep found taken) others whole revision next parts.1 is (omega (arith, long, over)) some within low))
     (cases_lt revision (newest_revision base + 1))
   where
     parts : (continues limits found taken ≡ true) × (all_continue limits (record_after limits.keep found taken) others ≡ true)
@@ -91,7 +121,7 @@ cut limits base found (taken ∷ others) whole revision shows h is above some wi
     here : (b : Option DocumentRecord) → whole_of b (taken ∷ others) ≡ Some whole → newest_revision b ≤ revision → revision < newest_revision b + 1 → Cut b (taken ∷ others) whole revision
     here None is above under = absurd (omega (arith, under, some))
     here (Some before) is above under =
-        let later = further before whole (taken ∷ others) revision is (omega (arith, above)) (omega (arith, under)) in
+        let later = further before whole (taken ∷ others) revision is (omega (arith, above)) (omega (arith, under)) low in
         record {
           count = 0;
           within = omega arith;
@@ -120,8 +150,7 @@ base-below : (start : Option Cell) (commands : List Taken) (whole : DocumentReco
     → newest_revision (started start) ≤ whole.past.floor
 base-below None commands whole is = omega arith
 base-below (Some cell) commands whole is =
-    let later = further (record_of_cell cell) whole commands cell.revision is (omega arith) (omega arith) in
-    omega (arith, later.2)
+    omega (arith, rises (record_of_cell cell) whole commands is)
 
 held-is-cell : (limits : Limits) (start : Option Cell) (commands : List Taken) (whole found : DocumentRecord) (revision : ℕ)
     → all_continue limits (started start) commands ≡ true → whole_of (started start) commands ≡ Some whole → Shows whole found
@@ -129,7 +158,7 @@ held-is-cell : (limits : Limits) (start : Option Cell) (commands : List Taken) (
 held-is-cell limits start commands whole found revision h is shows held some there =
     let number = revision-shown whole found shows in
     let part = cut limits (started start) (started start) commands whole revision (places-itself (started start)) h is
-    (omega (arith, base-below start commands whole is, shows.above, held)) some (omega (arith, there, number)) in
+    (omega (arith, base-below start commands whole is, shows.above, held)) some (omega (arith, there, number)) (omega (arith, shows.above, held)) in
     let shown : Shows part.first (record_of_cell (cell_of found revision)) = record {
       name = shows.name ∙ part.name;
       above = part.floor;

@@ -6,8 +6,9 @@ use Rattle.std.proofs.lemmas.List.{take-append-drop, length-take-le}
 use Rattle.compose.specs.Many.{applied}
 use Rattle.revision.specs.Command.{Taken}
 use Rattle.revision.specs.Sources.{Sources, count_of}
-use Rattle.revision.specs.Past.{Content, newest, sources_after}
-use Rattle.revision.specs.State.{Limits, DocumentRecord, State, revision_of, newest_revision, content_of, sources_of, weight_of, are_sources, all_continue, record_after_all}
+use Rattle.delta.specs.Element.{Element}
+use Rattle.revision.specs.Past.{Content, is_content, newest, sources_after}
+use Rattle.revision.specs.State.{Limits, DocumentRecord, State, revision_of, newest_revision, content_of, sources_of, weight_of, is_mark_at, are_sources, all_continue, record_after_all}
 use Rattle.revision.specs.Agree.{PlacesAgree}
 use Rattle.revision.specs.Invariants.{IsLimits, IsPast, IsRecord}
 use Rattle.revision.proofs.CallerLemmas.{agreeing_continue, continuing_keeps, empty_is_state, adopting_keeps}
@@ -38,6 +39,9 @@ nothing (suc n) = refl
 cell-units : (cell : Cell) → (content_of (record_of_cell cell)).units ≡ cell.content.units
 cell-units cell = ap (applied cell.content.units) (nothing (cell.revision + 0 - cell.revision))
 
+cell-content : (cell : Cell) → content_of (record_of_cell cell) ≡ cell.content
+cell-content cell = ap (λ (u : List Element). record { units = u; live = cell.content.live }) (cell-units cell)
+
 cell-sources : (cell : Cell) → sources_of (record_of_cell cell) ≡ cell.sources
 cell-sources cell = ap (sources_after cell.revision cell.sources) (nothing (cell.revision + 0 - cell.revision))
 
@@ -48,13 +52,16 @@ agreeing-keeps limits (Some found) cell past agree =
     let number : revision_of found ≡ cell.revision + 0 = agree.revision in
     let here : revision_of found ≡ cell.revision = omega (arith, number) in
     let kept = past.each (newest found.past) (omega arith) (omega arith) in
-    let units : (content_of found).units ≡ cell.content.units = ap (λ (c : Content). c.units) agree.content ∙ cell-units cell in
+    let content : content_of found ≡ cell.content = agree.content ∙ cell-content cell in
+    let units : (content_of found).units ≡ cell.content.units = ap (λ (c : Content). c.units) content in
     let sources : sources_of found ≡ cell.sources = agree.sources ∙ cell-sources cell in
     record {
       first = omega (arith, past.first, here);
       last = omega (arith, past.last, here);
       count = subst (λ s. count_of s ≤ limits.sources) sources kept.count;
       sources = subst (λ r. are_sources r cell.sources.entries ≡ true) here (subst (λ (s : Sources). are_sources (revision_of found) s.entries ≡ true) sources kept.sources);
+      content = subst (λ (c : Content). is_content c ≡ true) content kept.content;
+      mark = subst (λ r. is_mark_at cell.content.live r ≡ true) here (subst (λ (c : Content). is_mark_at c.live (revision_of found) ≡ true) content kept.mark);
       weight = subst (λ u. weight_of limits u cell.sources ≤ limits.weight) units
           (subst (λ s. weight_of limits (content_of found).units s ≤ limits.weight) sources kept.weight);
     }
@@ -64,8 +71,8 @@ pub cell-past : (limits : Limits) (cell : Cell) → IsLimits limits → CellKeep
 cell-past limits cell is kept =
     let nothing : State = record { limits = limits; documents = [] } in
     let adopted = adopting_keeps nothing cell.name cell.content cell.revision cell.sources (empty_is_state limits is)
-    (and_from _ _ (and_from _ _ (and_from _ _ (and_from _ _ (and_from _ _ (and_from _ _ (lt-ltb 0 limits.docs (omega (arith, is.some_document))) refl)
-    (le-leb _ _ kept.first)) (le-leb _ _ kept.last)) (le-leb _ _ kept.count)) kept.sources) (le-leb _ _ kept.weight)) in
+    (and_from _ _ (and_from _ _ (and_from _ _ (and_from _ _ (and_from _ _ (and_from _ _ (and_from _ _ (and_from _ _ (lt-ltb 0 limits.docs (omega (arith, is.some_document))) refl)
+    kept.content) kept.mark) (le-leb _ _ kept.first)) (le-leb _ _ kept.last)) (le-leb _ _ kept.count)) kept.sources) (le-leb _ _ kept.weight)) in
     adopted.each 0 (record_of_cell cell) refl
 
 pub started-kept : (limits : Limits) (cell : Option Cell) → IsLimits limits → OfOpen (CellKeeps limits) cell → IsRecord limits (started cell)

@@ -112,7 +112,7 @@ next-some state last cell entries room fresh stands of =
     let named : last.name ≡ cell.name = name-stays state.limits.keep (record_of_cell cell) (unread (Some cell) entries) last (sym stands.is) in
     let free : is_none (find cell.name 0 state.documents) ≡ true = subst (λ n. is_none (find n 0 state.documents) ≡ true) named fresh in (
       refl,
-      and_from _ _ (and_from _ _ (and_from _ _ (and_from _ _ (and_from _ _ (and_from _ _ (lt-ltb _ _ room) free)
+      and_from _ _ (and_from _ _ (and_from _ _ (and_from _ _ (and_from _ _ (and_from _ _ (and_from _ _ (and_from _ _ (lt-ltb _ _ room) free) kept.content) kept.mark)
           (le-leb _ _ kept.first)) (le-leb _ _ kept.last)) (le-leb _ _ kept.count)) kept.sources) (le-leb _ _ kept.weight),
       all-grow-there (entered state (Some cell)) (length state.documents) (record_of_cell cell) (unread (Some cell) entries)
           (at-end state.documents (record_of_cell cell)) of stands.continue,

@@ -5,7 +5,8 @@ use Rattle.std.proofs.lemmas.Bool.{and_parts, eqb-true, leb-true, cond_both, cas
 use Rattle.std.proofs.lemmas.Option.{slice_get_past}
 use Rattle.revision.specs.Command.{Taken}
 use Rattle.revision.specs.Sources.{count_of}
-use Rattle.revision.specs.State.{Limits, DocumentRecord, State, find, last_of_all, weight_of, are_sources, continues_by_name, continues, record_by_name, record_after, all_continue, record_after_all, all_grow, fold, adopts}
+use Rattle.revision.specs.Past.{is_content}
+use Rattle.revision.specs.State.{Limits, DocumentRecord, State, find, last_of_all, weight_of, is_mark_at, are_sources, continues_by_name, continues, record_by_name, record_after, all_continue, record_after_all, all_grow, fold, adopts}
 use Rattle.revision.specs.Invariants.{IsState}
 use Rattle.revision.proofs.CallerLemmas.{empty_is_state, adopting_keeps}
 use Rattle.history.specs.Entries.{of_document, above}
@@ -157,18 +158,23 @@ module _ (cells : List Pair) (entries : List Taken) (pick : Pick) (state : State
 -- what a cell keeps that may be added
 adopts-keeps : (state : State) (cell : Cell) → adopts state cell.name cell.content cell.revision cell.sources ≡ true → CellKeeps state.limits cell
 adopts-keeps state cell h =
-    let light = and_parts (nat_lt (length state.documents) state.limits.docs && is_none (find cell.name 0 state.documents) && nat_le 1 cell.revision && nat_le cell.revision last_of_all
+    let light = and_parts (nat_lt (length state.documents) state.limits.docs && is_none (find cell.name 0 state.documents) && is_content cell.content && is_mark_at cell.content.live cell.revision && nat_le 1 cell.revision && nat_le cell.revision last_of_all
     && nat_le (count_of cell.sources) state.limits.sources && are_sources cell.revision cell.sources.entries) (nat_le (weight_of state.limits cell.content.units cell.sources) state.limits.weight) h in
-    let sources = and_parts (nat_lt (length state.documents) state.limits.docs && is_none (find cell.name 0 state.documents) && nat_le 1 cell.revision && nat_le cell.revision last_of_all
+    let sources = and_parts (nat_lt (length state.documents) state.limits.docs && is_none (find cell.name 0 state.documents) && is_content cell.content && is_mark_at cell.content.live cell.revision && nat_le 1 cell.revision && nat_le cell.revision last_of_all
     && nat_le (count_of cell.sources) state.limits.sources) _ light.0 in
-    let count = and_parts (nat_lt (length state.documents) state.limits.docs && is_none (find cell.name 0 state.documents) && nat_le 1 cell.revision && nat_le cell.revision last_of_all) _ sources.0 in
-    let last = and_parts (nat_lt (length state.documents) state.limits.docs && is_none (find cell.name 0 state.documents) && nat_le 1 cell.revision) _ count.0 in
-    let first = and_parts (nat_lt (length state.documents) state.limits.docs && is_none (find cell.name 0 state.documents)) _ last.0 in
+    let count = and_parts (nat_lt (length state.documents) state.limits.docs && is_none (find cell.name 0 state.documents) && is_content cell.content && is_mark_at cell.content.live cell.revision && nat_le 1 cell.revision && nat_le cell.revision last_of_all) _ sources.0 in
+    let last = and_parts (nat_lt (length state.documents) state.limits.docs && is_none (find cell.name 0 state.documents) && is_content cell.content && is_mark_at cell.content.live cell.revision && nat_le 1 cell.revision) _ count.0 in
+    let first = and_parts (nat_lt (length state.documents) state.limits.docs && is_none (find cell.name 0 state.documents) && is_content cell.content
+    && is_mark_at cell.content.live cell.revision) _ last.0 in
+    let mark = and_parts (nat_lt (length state.documents) state.limits.docs && is_none (find cell.name 0 state.documents) && is_content cell.content) _ first.0 in
+    let content = and_parts (nat_lt (length state.documents) state.limits.docs && is_none (find cell.name 0 state.documents)) _ mark.0 in
     record {
       first = leb-true _ _ first.1;
       last = leb-true _ _ last.1;
       count = leb-true _ _ count.1;
       sources = sources.1;
+      content = content.1;
+      mark = mark.1;
       weight = leb-true _ _ light.1;
     }
 

@@ -1,10 +1,10 @@
 -- What a cell of a device holds, and which one of the two cells of a document is read.
 use Rattle.std.specs.Prelude.{ℕ, zero, suc, ◌≡◌, ◌≤◌, ◌⊎◌, min, nat_lt, if◌then◌else◌, true, Option, Some, None, unwrap_or, List, [], ◌∷◌, slice_get}
-use Rattle.revision.specs.Past.{Content, content_at, sources_at}
+use Rattle.revision.specs.Past.{Content, is_content, content_at, sources_at}
 use Rattle.revision.specs.Sources.{Sources, count_of}
 pub use Rattle.history.specs.declared.pick.Pick.{Pick}
 pub use Rattle.history.specs.declared.pick.Pick.TheVariants.{Newer, Older}
-use Rattle.revision.specs.State.{Limits, DocumentRecord, last_of_all, weight_of, are_sources, record_at}
+use Rattle.revision.specs.State.{Limits, DocumentRecord, last_of_all, weight_of, is_mark_at, are_sources, record_at}
 
 -- a document at a revision, with its sources there
 pub record Cell : Type 0 where
@@ -77,10 +77,12 @@ OfOpen P (Some cell) = P cell
 abbrev pub OfBoth : (Cell → Type 0) → Pair → Type 0
 OfBoth P pair = OfOpen P pair.0 × OfOpen P pair.1
 
--- a cell keeps the limits, and has a revision and sources that can be
+-- a cell keeps the limits, and has a content, a revision and sources that can be
 pub record CellKeeps (limits : Limits) (cell : Cell) : Type 0 where
   pub first : 1 ≤ cell.revision
   pub last : cell.revision ≤ last_of_all
   pub count : count_of cell.sources ≤ limits.sources
   pub sources : are_sources cell.revision cell.sources.entries ≡ true
+  pub content : is_content cell.content ≡ true
+  pub mark : is_mark_at cell.content.live cell.revision ≡ true
   pub weight : weight_of limits cell.content.units cell.sources ≤ limits.weight

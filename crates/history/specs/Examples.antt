@@ -1,5 +1,5 @@
 -- What the parts of a store stand for, computed. What is found is worked out by hand.
-use Rattle.std.specs.Prelude.{◌≡◌, ℕ, true, false, Option, Some, None, List, [], ◌∷◌, refl, codes}
+use Rattle.std.specs.Prelude.{◌≡◌, ℕ, true, false, Option, Some, None, List, [], ◌∷◌, ◌++◌, refl, codes}
 use Rattle.std.specs.Char.{encode_utf8}
 use Rattle.std.specs.Char.Utf16.{utf16_chars}
 use Rattle.attributes.specs.Map.{empty, insert}
@@ -7,6 +7,7 @@ use Rattle.attributes.specs.Attributes.{changed_by}
 use Rattle.delta.specs.Element.{Element, letters}
 use Rattle.delta.specs.Operation.{insert_text, retain}
 use Rattle.revision.specs.Command.{Taken}
+use Rattle.revision.specs.declared.step.Step.TheVariants.{Edits, Deletes, Revives}
 use Rattle.revision.specs.Sources.{with_taken}
 use Rattle.revision.specs.State.{Limits, DocumentRecord, units_of, all_continue, record_after_all}
 use Rattle.history.specs.Entries.{of_document}
@@ -28,16 +29,16 @@ bob = 98 ∷ []
 
 -- ann creates document 0, "d", with "z", bob creates document 1, "e", ann appends "x" to "z", and bob appends "y"
 abbrev create_d : Taken
-create_d = record { document = 0; name = Some (100 ∷ []); revision = 1; source = ann; number = 1; delta = insert_text (codes "z") empty ∷ [] }
+create_d = record { document = 0; name = Some (100 ∷ []); revision = 1; source = ann; number = 1; step = Edits; delta = insert_text (codes "z") empty ∷ [] }
 
 abbrev create_e : Taken
-create_e = record { document = 1; name = Some (101 ∷ []); revision = 1; source = bob; number = 1; delta = [] }
+create_e = record { document = 1; name = Some (101 ∷ []); revision = 1; source = bob; number = 1; step = Edits; delta = [] }
 
 abbrev append_x : Taken
-append_x = record { document = 0; name = None; revision = 2; source = ann; number = 2; delta = retain 1 empty ∷ insert_text (codes "x") empty ∷ [] }
+append_x = record { document = 0; name = None; revision = 2; source = ann; number = 2; step = Edits; delta = retain 1 empty ∷ insert_text (codes "x") empty ∷ [] }
 
 abbrev append_y : Taken
-append_y = record { document = 0; name = None; revision = 3; source = bob; number = 1; delta = retain 2 empty ∷ insert_text (codes "y") empty ∷ [] }
+append_y = record { document = 0; name = None; revision = 3; source = bob; number = 1; step = Edits; delta = retain 2 empty ∷ insert_text (codes "y") empty ∷ [] }
 
 abbrev order : List Taken
 order = create_d ∷ create_e ∷ append_x ∷ append_y ∷ []
@@ -47,13 +48,13 @@ of_d = refl
 
 -- cells of it at revisions 1 and 2, and one at 2 that has lost its sources
 abbrev at_1 : Cell
-at_1 = record { name = 100 ∷ []; revision = 1; content = record { units = text (codes "z") }; sources = with_taken ann 1 1 empty }
+at_1 = record { name = 100 ∷ []; revision = 1; content = record { units = text (codes "z"); live = true }; sources = with_taken ann 1 1 empty }
 
 abbrev at_2 : Cell
-at_2 = record { name = 100 ∷ []; revision = 2; content = record { units = text (codes "zx") }; sources = with_taken ann 2 2 (with_taken ann 1 1 empty) }
+at_2 = record { name = 100 ∷ []; revision = 2; content = record { units = text (codes "zx"); live = true }; sources = with_taken ann 2 2 (with_taken ann 1 1 empty) }
 
 abbrev without_sources : Cell
-without_sources = record { name = 100 ∷ []; revision = 2; content = record { units = text (codes "zx") }; sources = empty }
+without_sources = record { name = 100 ∷ []; revision = 2; content = record { units = text (codes "zx"); live = true }; sources = empty }
 
 -- which one is read, and of two of one revision
 newer_of_two : picked Newer (Some at_1, Some at_2) ≡ Some at_2
@@ -117,8 +118,52 @@ breaks_at_none = refl
 
 -- a source's next number shows that a cell has lost its sources
 abbrev append_again : Taken
-append_again = record { document = 0; name = None; revision = 3; source = ann; number = 3; delta = [] }
+append_again = record { document = 0; name = None; revision = 3; source = ann; number = 3; step = Edits; delta = [] }
 
 breaks_without_sources : all_continue small (started (Some without_sources)) (append_again ∷ []) ≡ false
 unfolding utf16_chars encode_utf8 changed_by insert
 breaks_without_sources = refl
+
+-- bob deletes the document, and creates it again with "n": each is the lowest revision that is held from then on
+abbrev delete_d : Taken
+delete_d = record { document = 0; name = None; revision = 4; source = bob; number = 2; step = Deletes; delta = [] }
+
+abbrev revive_d : Taken
+revive_d = record { document = 0; name = None; revision = 5; source = bob; number = 3; step = Revives; delta = insert_text (codes "n") empty ∷ [] }
+
+abbrev floor_in : Option DocumentRecord → ℕ
+floor_in None = 0
+floor_in (Some found) = found.past.floor
+
+deleted_is_empty : units_in (record_after_all small.keep (started None) (of_document 0 order ++ delete_d ∷ [])) ≡ []
+unfolding utf16_chars encode_utf8 changed_by insert
+deleted_is_empty = refl
+
+deleted_is_lowest : floor_in (record_after_all small.keep (started None) (of_document 0 order ++ delete_d ∷ [])) ≡ 4
+unfolding utf16_chars encode_utf8 changed_by insert
+deleted_is_lowest = refl
+
+created_again : units_in (record_after_all small.keep (started None) (of_document 0 order ++ delete_d ∷ revive_d ∷ [])) ≡ text (codes "n")
+unfolding utf16_chars encode_utf8 changed_by insert
+created_again = refl
+
+created_again_is_lowest : floor_in (record_after_all small.keep (started None) (of_document 0 order ++ delete_d ∷ revive_d ∷ [])) ≡ 5
+unfolding utf16_chars encode_utf8 changed_by insert
+created_again_is_lowest = refl
+
+continues_again : all_continue small None (of_document 0 order ++ delete_d ∷ revive_d ∷ []) ≡ true
+unfolding utf16_chars encode_utf8 changed_by insert
+continues_again = refl
+
+-- it isn't deleted twice, nor created where it is there
+breaks_deleted_twice : all_continue small None (of_document 0 order ++ delete_d ∷ record revive_d { step = Deletes; delta = [] } ∷ []) ≡ false
+unfolding utf16_chars encode_utf8 changed_by insert
+breaks_deleted_twice = refl
+
+breaks_edited : all_continue small None (of_document 0 order ++ delete_d ∷ record revive_d { step = Edits } ∷ []) ≡ false
+unfolding utf16_chars encode_utf8 changed_by insert
+breaks_edited = refl
+
+breaks_created : all_continue small None (of_document 0 order ++ record delete_d { step = Revives } ∷ []) ≡ false
+unfolding utf16_chars encode_utf8 changed_by insert
+breaks_created = refl

@@ -1,18 +1,26 @@
 -- A store's history, and what a document shows of it.
 use Rattle.std.specs.Prelude.{ℕ, ◌≡◌, ◌≤◌, Option, Some, None, List, [], ◌∷◌, ◌++◌, slice_get}
 use Rattle.revision.specs.Command.{Taken}
-use Rattle.revision.specs.Past.{Past, empty_past, newest, from_floor}
+use Rattle.revision.specs.declared.step.Step.{Step}
+use Rattle.revision.specs.declared.step.Step.TheVariants.{Edits, Deletes, Revives}
+use Rattle.revision.specs.Past.{Past, Change, content_after, empty_past, newest, newest_content, rebased, from_floor}
 use Rattle.revision.specs.Floors.{longer}
 use Rattle.revision.specs.State.{DocumentRecord, State, change_of}
 use Rattle.history.specs.Entries.{of_document}
 use Rattle.history.specs.Cell.{Cell}
 use Rattle.history.specs.Found.{started}
 
--- what a command makes of a document that may be there, where nothing is let go
+-- the past with a step more, where nothing is let go but what a deletion or a creation again lets go of
+abbrev pub longer_by : Past → Step → Change → Past
+longer_by past Edits change = longer past change
+longer_by past Deletes change = rebased past (content_after (newest_content past) Deletes change.delta) change
+longer_by past Revives change = rebased past (content_after (newest_content past) Revives change.delta) change
+
+-- what a command makes of a document that may be there
 abbrev pub whole_by_name : Option DocumentRecord → Taken → Option (List ℕ) → Option DocumentRecord
 whole_by_name None taken None = None
-whole_by_name None taken (Some name) = Some (record { name = name; past = longer empty_past (change_of taken) })
-whole_by_name (Some found) taken name = Some (record found { past = longer found.past (change_of taken) })
+whole_by_name None taken (Some name) = Some (record { name = name; past = longer_by empty_past taken.step (change_of taken) })
+whole_by_name (Some found) taken name = Some (record found { past = longer_by found.past taken.step (change_of taken) })
 
 abbrev pub whole_after : Option DocumentRecord → Taken → Option DocumentRecord
 whole_after found taken = whole_by_name found taken taken.name
@@ -22,7 +30,7 @@ abbrev pub whole_of : Option DocumentRecord → List Taken → Option DocumentRe
 whole_of found [] = found
 whole_of found (first ∷ others) = whole_of (whole_after found first) others
 
--- A document shows one with all its past: it has its name, and is that from its own floor on.
+-- A document shows one with all its past since it was deleted or created again last: it has its name, and is that from its own floor on.
 pub record Shows (whole found : DocumentRecord) : Type 0 where
   pub name : found.name ≡ whole.name
   pub above : whole.past.floor ≤ found.past.floor

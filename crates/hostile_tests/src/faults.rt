@@ -2,7 +2,9 @@
 use crate::devices::answers;
 use crate::going_on::{Differs, PICKS, each_goes_on, found, goes_on, is_after, is_good};
 use crate::runs::{FIRST, NEVER, device_of, formatted, run};
-use crate::scripts::{DELETE, FULL_JOURNAL, MILESTONES, RICH_TEXT, Script, THIRD_BATCH};
+use crate::scripts::{
+    DELETE, DELETED, DELETED_BY_TURNS, FULL_JOURNAL, MILESTONES, RICH_TEXT, Script, THIRD_BATCH,
+};
 use crate::stops::{FILL, LEFT, device_after};
 use disk::{Call, FaultPlan, Left};
 use recovery::Pick;
@@ -53,6 +55,16 @@ fn the_third_batch_fails(rt: HostRuntime) {
 #[test]
 fn milestones_fail(rt: HostRuntime) {
     is_faulty_everywhere(&rt, &MILESTONES);
+}
+
+#[test]
+fn a_deletion_fails(rt: HostRuntime) {
+    is_faulty_everywhere(&rt, &DELETED);
+}
+
+#[test]
+fn a_deletion_by_turns_fails(rt: HostRuntime) {
+    is_faulty_everywhere(&rt, &DELETED_BY_TURNS);
 }
 
 #[test]

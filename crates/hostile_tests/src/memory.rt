@@ -3,13 +3,22 @@
 //! The gate refuses no request. docs/TESTS.md says how one is refused.
 use crate::going_on::{Differs, goes_on, is_good, is_whole};
 use crate::runs::{FIRST, NEVER, device_of, formatted, run};
-use crate::scripts::{FULL_JOURNAL, MILESTONES, RICH_TEXT, Script, THIRD_BATCH};
+use crate::scripts::{
+    DELETED, DELETED_BY_TURNS, FULL_JOURNAL, MILESTONES, RICH_TEXT, Script, THIRD_BATCH,
+};
 use crate::stops::FILL;
 use recovery::Pick;
 use std::process::Abort;
 use std::sync::Wait;
 
-const SCRIPTS: [Script; 4] = [THIRD_BATCH, MILESTONES, RICH_TEXT, FULL_JOURNAL];
+const SCRIPTS: [Script; 6] = [
+    THIRD_BATCH,
+    MILESTONES,
+    DELETED,
+    DELETED_BY_TURNS,
+    RICH_TEXT,
+    FULL_JOURNAL,
+];
 
 // A script comes to its end. Where memory is wanted for the start of a hub, or for the record that the device keeps of its calls, it goes on from
 // the last command that was sent.

@@ -128,8 +128,9 @@ pub fn commands_in(step: &Step) -> u64
     ensures { result ≤ 1 }
 {
     match step {
-        Step::Write(_) => 1,
-        _ => 0,
+        Step::Put(_) => 0,
+        Step::Retire => 0,
+        _ => 1,
     }
 }
 

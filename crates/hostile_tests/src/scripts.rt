@@ -20,6 +20,10 @@ pub const SHAPE: Shape = Shape {
 pub enum Step {
     /// The next command, with these operations: the first one creates the document.
     Write(&'static str),
+    /// The next command deletes the document.
+    Delete,
+    /// The next command creates the deleted document again, with these operations.
+    Create(&'static str),
     /// A milestone at a revision is put.
     Put(u64),
     /// The oldest segment is retired.
@@ -103,6 +107,52 @@ pub const MILESTONES: Script = Script {
     gates: &[(64, true), (320, true), (1_088, false), (1_344, true)],
 };
 
+/// A deletion and a creation again, with a milestone of the deleted document, one of that which is created again, and one over the first: a
+/// slot and five batches of four calls each, two milestones of four and one of six.
+pub const DELETED: Script = Script {
+    name: "a deletion and a creation again",
+    every: None,
+    steps: &[
+        Step::Write(CREATE),
+        Step::Write(r#"[{"retain":1},{"insert":"x"}]"#),
+        Step::Delete,
+        Step::Put(3),
+        Step::Create(r#"[{"insert":"n"}]"#),
+        Step::Put(4),
+        Step::Write(r#"[{"insert":"q"}]"#),
+        Step::Put(5),
+    ],
+    documents: &[
+        "",
+        r#"d 1 {"ops":[{"insert":"z"}]} 1 1"#,
+        r#"d 2 {"ops":[{"insert":"zx"}]} 2 1 2"#,
+        "d 3 deleted 3 1 2 3",
+        r#"d 4 {"ops":[{"insert":"n"}]} 4 1 2 3 4"#,
+        r#"d 5 {"ops":[{"insert":"qn"}]} 5 1 2 3 4 5"#,
+    ],
+    calls: 38,
+    gates: &[(64, true), (320, true), (1_088, true), (1_344, false)],
+};
+
+/// The same by the turns of a hub, with a milestone of each revision before the next one is written: a slot, three batches and two milestones.
+pub const DELETED_BY_TURNS: Script = Script {
+    name: "a deletion and a creation again by turns",
+    every: Some(1),
+    steps: &[
+        Step::Write(CREATE),
+        Step::Delete,
+        Step::Create(r#"[{"insert":"n"}]"#),
+    ],
+    documents: &[
+        "",
+        r#"d 1 {"ops":[{"insert":"z"}]} 1 1"#,
+        "d 2 deleted 2 1 2",
+        r#"d 3 {"ops":[{"insert":"n"}]} 3 1 2 3"#,
+    ],
+    calls: 24,
+    gates: &[(64, true), (320, true), (1_088, true), (1_344, false)],
+};
+
 /// Rich text by the turns of a hub, with a milestone of the first revision before the second is written: a slot, two batches and a milestone.
 pub const RICH_TEXT: Script = Script {
     name: "rich text",
@@ -157,4 +207,39 @@ pub fn command(
         1 => Command::create(name, source, 1, delta),
         _ => Command::edit(name, source, number, base, delta),
     }
+}
+
+/// The command of a number that a step asks for.
+pub fn command_of(alloc: Global, number: u64, step: &Step) -> Result<Command, Refusal> {
+    if number < 1 || number >= 1 << 53 {
+        return Err(Refusal::OldNumber);
+    }
+    match *step {
+        Step::Write(operations) => command(alloc, number, number - 1, operations),
+        Step::Delete => Ok(Command::delete(
+            Name::doc(alloc, "d")?,
+            Name::source(alloc, "a")?,
+            number,
+        )),
+        Step::Create(operations) => creation_again(alloc, number, operations),
+        _ => Err(Refusal::BadMessage),
+    }
+}
+
+// The creation of a deleted document, by a number of 1 to 2^53 - 1.
+fn creation_again(alloc: Global, number: u64, operations: &str) -> Result<Command, Refusal> {
+    if number < 1 || number >= 1 << 53 {
+        return Err(Refusal::OldNumber);
+    }
+    let value = read_json(alloc, operations.as_bytes())?;
+    let Some(items) = value.as_array() else {
+        return Err(Refusal::BadOps);
+    };
+    let delta = read_ops(alloc, items.as_slice())?;
+    Command::create(
+        Name::doc(alloc, "d")?,
+        Name::source(alloc, "a")?,
+        number,
+        delta,
+    )
 }

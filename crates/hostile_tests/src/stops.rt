@@ -1,7 +1,9 @@
 //! Each script is stopped at each call of its device.
 use crate::going_on::{Differs, each_goes_on, is_good, is_whole};
 use crate::runs::{FIRST, NEVER, device_of, formatted, opened, run};
-use crate::scripts::{FULL_JOURNAL, MILESTONES, RICH_TEXT, Script, THIRD_BATCH};
+use crate::scripts::{
+    DELETED, DELETED_BY_TURNS, FULL_JOURNAL, MILESTONES, RICH_TEXT, Script, THIRD_BATCH,
+};
 use disk::{Call, FaultDisk, FaultPlan, Left, MemDisk};
 use recovery::Pick;
 use std::process::Abort;
@@ -95,6 +97,16 @@ fn the_third_batch_is_stopped(rt: HostRuntime) {
 #[test]
 fn milestones_are_stopped(rt: HostRuntime) {
     is_stopped_everywhere(&rt, &MILESTONES);
+}
+
+#[test]
+fn a_deletion_is_stopped(rt: HostRuntime) {
+    is_stopped_everywhere(&rt, &DELETED);
+}
+
+#[test]
+fn a_deletion_by_turns_is_stopped(rt: HostRuntime) {
+    is_stopped_everywhere(&rt, &DELETED_BY_TURNS);
 }
 
 #[test]

@@ -1,5 +1,5 @@
 //! Steps that a store alone takes.
-use crate::scripts::{Step, command};
+use crate::scripts::{Step, command_of};
 use disk::FaultDisk;
 use fixtures::commit;
 use milestone::compose_job;
@@ -41,10 +41,6 @@ pub fn take(
     step: &Step,
 ) -> Result<Option<Reply>, Refusal> {
     match *step {
-        Step::Write(operations) => {
-            let command = command(alloc, number, number.saturating_sub(1), operations)?;
-            Ok(Some(write(alloc, store, &command)?))
-        }
         Step::Put(revision) => {
             put(alloc, store, revision)?;
             Ok(None)
@@ -52,6 +48,10 @@ pub fn take(
         Step::Retire => {
             store.retire()?;
             Ok(None)
+        }
+        _ => {
+            let command = command_of(alloc, number, step)?;
+            Ok(Some(write(alloc, store, &command)?))
         }
     }
 }

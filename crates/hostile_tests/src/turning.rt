@@ -3,7 +3,7 @@ ghost use Rattle.std.specs.Prelude.{◌≡◌, ◌≤◌};
 ghost use Rattle.recovery.specs.Open.{state_of};
 
 use crate::runs::{Begin, Ended, commands_in, stop_of};
-use crate::scripts::{Script, Step, command};
+use crate::scripts::{Script, Step, command_of};
 use disk::FaultDisk;
 use flusher::{Flusher, OpenGate, start};
 use hub::{Hub, Seat, Ticket, Writer};
@@ -53,10 +53,7 @@ fn ordered<J: Site, R: Wait + AllocGlobal>(
     number: u64,
     step: &Step,
 ) -> Result<Ticket<J>, Refusal> {
-    let Step::Write(operations) = *step else {
-        return Err(Refusal::BadMessage);
-    };
-    let command = command(rt.alloc(), number, number.saturating_sub(1), operations)?;
+    let command = command_of(rt.alloc(), number, step)?;
     match hub.submit(rt, rt.alloc(), seat, &command) {
         Ok(ticket) => Ok(ticket),
         Err(not_submitted) => Err(not_submitted.refusal()),

@@ -9,12 +9,13 @@ use Rattle.std.proofs.lemmas.Option.{some_pair_parts}
 use Rattle.attributes.specs.Map.{empty, get}
 use Rattle.attributes.specs.Table.{is_name}
 use Rattle.attributes.proofs.CallerLemmas.{get-insert}
-use Rattle.revision.specs.Command.{Taken}
+use Rattle.revision.specs.Command.{Taken, edits}
+use Rattle.revision.specs.declared.step.Step.{Step}
 use Rattle.revision.specs.Window.{Window, nothing_taken, taken_as}
 use Rattle.revision.specs.Sources.{Sources, window_of, with_taken}
-use Rattle.revision.specs.Past.{Change, Past, empty_past, newest, sources_at, with_change}
-use Rattle.revision.specs.State.{Limits, DocumentRecord, State, revision_of, units_of, sources_of, find, last_of_all, has_place, keeps, begins, follows, continues_by_name, change_of, record_by_name, has_room, grows, set_document, grown}
-use Rattle.revision.proofs.CallerLemmas.{change_makes}
+use Rattle.revision.specs.Past.{Change, Past, suits, empty_past, newest, sources_at, with_step}
+use Rattle.revision.specs.State.{Limits, DocumentRecord, State, revision_of, units_of, sources_of, is_live, find, last_of_all, has_place, comes_next, keeps, begins, follows, continues_by_name, change_of, record_by_name, has_room, grows, set_document, grown}
+use Rattle.revision.proofs.CallerLemmas.{step_makes}
 use Rattle.world.specs.Law.{window_found}
 
 -- a window with a command
@@ -44,10 +45,10 @@ window_of-with_taken source by number revision sources =
     own true same = ap (λ s. taken_as number revision (window_of s sources)) ((bytes_eq-Decides by source).0 same)
     own false other = refl
 
--- the sources of a document with one change more
-sources-more : (keep : ℕ) (past : Past) (change : Change) → sources_at (with_change keep past change) (newest (with_change keep past change))
+-- the sources of a document with one step more
+sources-more : (keep : ℕ) (past : Past) (step : Step) (change : Change) → sources_at (with_step keep past step change) (newest (with_step keep past step change))
     ≡ with_taken change.source change.number (newest past + 1) (sources_at past (newest past))
-sources-more keep past change = ap (sources_at (with_change keep past change)) (change_makes keep past change).0 ∙ (change_makes keep past change).2
+sources-more keep past step change = ap (sources_at (with_step keep past step change)) (step_makes keep past step change).0 ∙ (step_makes keep past step change).2
 
 set_further : (number : ℕ) (document : Option DocumentRecord) (first : DocumentRecord) (others : List DocumentRecord)
     → set_document (suc number) document (first ∷ others) ≡ first ∷ set_document number document others
@@ -132,8 +133,10 @@ Leaves taken source before after = (after ≡ before)
 followed : (limits : Limits) (found : DocumentRecord) (taken : Taken) → follows limits found taken ≡ true
     → (taken.revision ≡ revision_of found + 1) × (taken.number ≡ (window_of taken.source (sources_of found)).number + 1)
 followed limits found taken h =
-    let fifth = and_parts _ (keeps limits (units_of found) (sources_of found) taken) h in
-    let fourth = and_parts _ (has_place limits taken.source (sources_of found)) fifth.0 in
+    let both = and_parts (suits (is_live found) taken.step && comes_next limits (revision_of found) (sources_of found) taken)
+    (keeps limits (units_of found) (sources_of found) taken) h in
+    let fifth = and_parts (suits (is_live found) taken.step) (comes_next limits (revision_of found) (sources_of found) taken) both.0 in
+    let fourth = and_parts _ (has_place limits taken.source (sources_of found)) fifth.1 in
     let third = and_parts _ (nat_le taken.number last_of_all) fourth.0 in
     let second = and_parts _ (taken.number == (window_of taken.source (sources_of found)).number + 1) third.0 in
     let first = and_parts (taken.revision == revision_of found + 1) _ second.0 in
@@ -142,28 +145,29 @@ followed limits found taken h =
 -- and of a creation
 begun : (limits : Limits) (taken : Taken) → begins limits taken ≡ true → (taken.revision ≡ 1) × (taken.number ≡ 1)
 begun limits taken h =
-    let both = and_parts ((taken.revision == 1) && (taken.number == 1)) (keeps limits [] empty taken) h in
-    let numbers = and_parts (taken.revision == 1) (taken.number == 1) both.0 in
-    (eqb-true _ _ numbers.0, eqb-true _ _ numbers.1)
+    let both = and_parts (edits taken.step && (taken.revision == 1) && (taken.number == 1)) (keeps limits [] empty taken) h in
+    let numbers = and_parts (edits taken.step && (taken.revision == 1)) (taken.number == 1) both.0 in
+    let first = and_parts (edits taken.step) (taken.revision == 1) numbers.0 in
+    (eqb-true _ _ first.1, eqb-true _ _ numbers.1)
 
--- A source's window after a change of a past, whose revision is the next one.
+-- A source's window after a step of a past, whose revision is the next one.
 pub window-changed : (keep : ℕ) (past : Past) (taken : Taken) (source : List ℕ) → taken.revision ≡ newest past + 1
-    → window_of source (sources_at (with_change keep past (change_of taken)) (newest (with_change keep past (change_of taken))))
+    → window_of source (sources_at (with_step keep past taken.step (change_of taken)) (newest (with_step keep past taken.step (change_of taken))))
     ≡ cond (bytes_eq taken.source source) (noted taken (window_of source (sources_at past (newest past)))) (window_of source (sources_at past (newest past)))
 window-changed keep past taken source next =
-    ap (window_of source) (sources-more keep past (change_of taken))
+    ap (window_of source) (sources-more keep past taken.step (change_of taken))
     ∙ window_of-with_taken source taken.source taken.number (newest past + 1) (sources_at past (newest past))
     ∙ ap (λ r. cond (bytes_eq taken.source source) (taken_as taken.number r (window_of source (sources_at past (newest past)))) (window_of source (sources_at past (newest past)))) (sym next)
 
 module _ (state : State) (taken : Taken) (name source : List ℕ) where
-  -- a change of a document that is there
+  -- a step of a document that is there
   leaves-changed : (found : DocumentRecord) → slice_get state.documents taken.document ≡ Some found → follows state.limits found taken ≡ true
       → Leaves taken source (find name 0 state.documents)
-      (find name 0 (set_document taken.document (Some (record found { past = with_change state.limits.keep found.past (change_of taken) })) state.documents))
+      (find name 0 (set_document taken.document (Some (record found { past = with_step state.limits.keep found.past taken.step (change_of taken) })) state.documents))
   leaves-changed found is next = by_place (find-changed name 0 taken.document taken.document state.documents found after (omega arith) is refl)
     where
       after : DocumentRecord
-      after = record found { past = with_change state.limits.keep found.past (change_of taken) }
+      after = record found { past = with_step state.limits.keep found.past taken.step (change_of taken) }
 
       by_place : ((find name 0 state.documents ≡ Some (taken.document, found)) × (find name 0 (set_document taken.document (Some after) state.documents) ≡ Some (taken.document, after)))
           ⊎ (find name 0 (set_document taken.document (Some after) state.documents) ≡ find name 0 state.documents)
@@ -184,14 +188,14 @@ module _ (state : State) (taken : Taken) (name source : List ℕ) where
   -- a creation
   leaves-created : (new : List ℕ) → taken.document ≡ length state.documents → begins state.limits taken ≡ true
       → Leaves taken source (find name 0 state.documents)
-      (find name 0 (set_document taken.document (Some (record { name = new; past = with_change state.limits.keep empty_past (change_of taken) })) state.documents))
+      (find name 0 (set_document taken.document (Some (record { name = new; past = with_step state.limits.keep empty_past taken.step (change_of taken) })) state.documents))
   leaves-created new last begins =
       by_place (subst (λ n. ((find name 0 state.documents ≡ None) × (find name 0 (set_document n (Some after) state.documents) ≡ Some (taken.document, after)))
       ⊎ (find name 0 (set_document n (Some after) state.documents) ≡ find name 0 state.documents)) (sym last)
       (find-created name 0 taken.document state.documents after (omega (arith, last))))
     where
       after : DocumentRecord
-      after = record { name = new; past = with_change state.limits.keep empty_past (change_of taken) }
+      after = record { name = new; past = with_step state.limits.keep empty_past taken.step (change_of taken) }
 
       by_place : ((find name 0 state.documents ≡ None) × (find name 0 (set_document taken.document (Some after) state.documents) ≡ Some (taken.document, after)))
           ⊎ (find name 0 (set_document taken.document (Some after) state.documents) ≡ find name 0 state.documents)

@@ -11,16 +11,18 @@ use Rattle.attributes.specs.Map.{empty}
 use Rattle.delta.specs.Element.{Element}
 use Rattle.delta.specs.Operation.{Operation}
 use Rattle.refusal.specs.declared.Refusal.{Refusal}
-use Rattle.refusal.specs.declared.Refusal.TheVariants.{PastEnd, CutsPair, TooHeavy, TooWide, RevisionsSpent, TooManySources, Future, TooOld, NothingToUndo, OldNumber, Gap, TooManyDocuments}
-use Rattle.revision.specs.Command.{Action, Create, Edit, Undo, Command, Taken, width_of}
+use Rattle.refusal.specs.declared.Refusal.TheVariants.{PastEnd, CutsPair, TooHeavy, TooWide, RevisionsSpent, TooManySources, Future, TooOld, NothingToUndo, OldNumber, Gap, TooManyDocuments, Deleted, Exists}
+use Rattle.revision.specs.Command.{Action, Create, Edit, Undo, Delete, Command, Taken, width_of}
+use Rattle.revision.specs.declared.step.Step.{Step}
+use Rattle.revision.specs.declared.step.Step.TheVariants.{Edits, Deletes, Revives}
 use Rattle.revision.specs.Window.{Window, nothing_taken, taken_as, revision_in, last_revision}
 use Rattle.revision.specs.Late.{late}
 use Rattle.revision.specs.Parting.{parts_pair}
-use Rattle.revision.specs.Past.{Past, empty_past, newest, sources_at, with_change, undo_of, deltas_of, deltas_above}
+use Rattle.revision.specs.Past.{Past, empty_past, newest, sources_at, with_step, undo_of, deltas_of, deltas_above}
 use Rattle.revision.specs.Sources.{Sources, window_of}
 use Rattle.revision.proofs.CallerLemmas.{none_outside}
-use Rattle.revision.specs.State.{Limits, DocumentRecord, State, revision_of, units_of, sources_of, find, last_of_all, has_place, reaches_past, weight_after, change_of, record_by_name, set_document, grown, all_grow, fold}
-use Rattle.revision.specs.Acceptance.{Answer, Takes, Repeats, Refuses, Reply, TakenAt, AgainAt, Refused, take_on, creation, create_new, next_revision, change, edit, undo, by_retry, by_number, answer, answer_to}
+use Rattle.revision.specs.State.{Limits, DocumentRecord, State, revision_of, units_of, sources_of, is_live, find, last_of_all, has_place, reaches_past, weight_after, change_of, record_by_name, set_document, grown, all_grow, fold}
+use Rattle.revision.specs.Acceptance.{Answer, Takes, Repeats, Refuses, Reply, TakenAt, AgainAt, Refused, take_within, take_on, creation, create_new, next_revision, revive, change, edit, undo, delete, if_live, by_retry, by_number, answer, answer_to}
 use Rattle.world.specs.World.{Entry, entry_of, takens}
 use Rattle.hub.specs.Placed.{PlacedBy}
 use Rattle.session.specs.declared.reply.Reply.{Reply as Told}
@@ -52,42 +54,68 @@ again-repeats : (found : Option ℕ) (next : Answer) (revision : ℕ) → (next 
 again-repeats None next revision never is = absurd (never is)
 again-repeats (Some made) next revision never is = cc (is)
 
+-- what takes, or repeats, is of a live document where that is asked
+live-takes : (found : DocumentRecord) (next : Answer) (taken : Taken) → if_live found next ≡ Takes taken → next ≡ Takes taken
+live-takes found next taken is = by_mark (is_live found) is
+  where
+    by_mark : (b : Bool) → cond b next (Refuses Deleted) ≡ Takes taken → next ≡ Takes taken
+    by_mark true is = is
+    by_mark false is = absurd (cc (is))
+
+live-repeats : (found : DocumentRecord) (next : Answer) (revision : ℕ) → if_live found next ≡ Repeats revision → next ≡ Repeats revision
+live-repeats found next revision is = by_mark (is_live found) is
+  where
+    by_mark : (b : Bool) → cond b next (Refuses Deleted) ≡ Repeats revision → next ≡ Repeats revision
+    by_mark true is = is
+    by_mark false is = absurd (cc (is))
+
 module _ (limits : Limits) (units : List Element) (sources : Sources) (new : Taken) where
+  within-takes : (taken : Taken) → take_within limits units sources new ≡ Takes taken → taken ≡ new
+  within-takes taken is =
+      let first = past-takes (nat_lt limits.weight (weight_after limits units sources new)) TooHeavy _ taken is in
+      let second = past-takes (nat_lt limits.width (width_of new)) TooWide _ taken first.1 in
+      let same : Takes new ≡ Takes taken = second.1 in
+      cc (same)
+
+  within-repeats : (revision : ℕ) → take_within limits units sources new ≡ Repeats revision → ⊥
+  within-repeats revision is =
+      let first = past-repeats (nat_lt limits.weight (weight_after limits units sources new)) TooHeavy _ revision is in
+      let second : Takes new ≡ Repeats revision = past-repeats (nat_lt limits.width (width_of new)) TooWide _ revision first in
+      cc (second)
+
   on-takes : (taken : Taken) → take_on limits units sources new ≡ Takes taken → taken ≡ new
   on-takes taken is =
       let first = past-takes (reaches_past new.delta units) PastEnd _ taken is in
       let second = past-takes (parts_pair new.delta units) CutsPair _ taken first.1 in
-      let third = past-takes (nat_lt limits.weight (weight_after limits units sources new)) TooHeavy _ taken second.1 in
-      let fourth = past-takes (nat_lt limits.width (width_of new)) TooWide _ taken third.1 in
-      let same : Takes new ≡ Takes taken = fourth.1 in
-      cc (same)
+      within-takes taken second.1
 
   on-repeats : (revision : ℕ) → take_on limits units sources new ≡ Repeats revision → ⊥
   on-repeats revision is =
       let first = past-repeats (reaches_past new.delta units) PastEnd _ revision is in
       let second = past-repeats (parts_pair new.delta units) CutsPair _ revision first in
-      let third = past-repeats (nat_lt limits.weight (weight_after limits units sources new)) TooHeavy _ revision second in
-      let fourth : Takes new ≡ Repeats revision = past-repeats (nat_lt limits.width (width_of new)) TooWide _ revision third in
-      cc (fourth)
+      within-repeats revision second
 
 module _ (state : State) (number : ℕ) (found : DocumentRecord) (command : Command) where
-  change-takes : (delta : List Operation) (taken : Taken) → change state number found command delta ≡ Takes taken → taken ≡ next_revision number found command delta
+  -- it is the next revision by some step with some delta
+  abbrev pub IsNext : Taken → Type 0
+  IsNext taken = (step : Step) × (delta : List Operation) × (taken ≡ next_revision number found command step delta)
+
+  change-takes : (delta : List Operation) (taken : Taken) → change state number found command delta ≡ Takes taken → IsNext taken
   change-takes delta taken is =
       let next = past-takes (revision_of found == last_of_all) RevisionsSpent _ taken is in
-      on-takes state.limits (units_of found) (sources_of found) (next_revision number found command delta) taken next.1
+      (Edits, delta, on-takes state.limits (units_of found) (sources_of found) (next_revision number found command Edits delta) taken next.1)
 
   change-repeats : (delta : List Operation) (revision : ℕ) → change state number found command delta ≡ Repeats revision → ⊥
   change-repeats delta revision is =
-      on-repeats state.limits (units_of found) (sources_of found) (next_revision number found command delta) revision
+      on-repeats state.limits (units_of found) (sources_of found) (next_revision number found command Edits delta) revision
       (past-repeats (revision_of found == last_of_all) RevisionsSpent _ revision is)
 
-  edit-takes : (base : ℕ) (delta : List Operation) (taken : Taken) → edit state number found command base delta ≡ Takes taken
-      → (late-delta : List Operation) × (taken ≡ next_revision number found command late-delta)
+  edit-takes : (base : ℕ) (delta : List Operation) (taken : Taken) → edit state number found command base delta ≡ Takes taken → IsNext taken
   edit-takes base delta taken is =
       let first = past-takes _ TooManySources _ taken is in
       let second = past-takes (nat_lt (revision_of found) base) Future _ taken first.1 in
       let third = past-takes (nat_lt base found.past.floor) TooOld _ taken second.1 in
-      (late delta (deltas_above found.past base), change-takes (late delta (deltas_above found.past base)) taken third.1)
+      change-takes (late delta (deltas_above found.past base)) taken third.1
 
   edit-repeats : (base : ℕ) (delta : List Operation) (revision : ℕ) → edit state number found command base delta ≡ Repeats revision → ⊥
   edit-repeats base delta revision is =
@@ -96,13 +124,12 @@ module _ (state : State) (number : ℕ) (found : DocumentRecord) (command : Comm
       let third = past-repeats (nat_lt base found.past.floor) TooOld _ revision second in
       change-repeats (late delta (deltas_above found.past base)) revision third
 
-  undo-takes : (taken : Taken) → undo state number found command ≡ Takes taken → (delta : List Operation) × (taken ≡ next_revision number found command delta)
+  undo-takes : (taken : Taken) → undo state number found command ≡ Takes taken → IsNext taken
   undo-takes taken is =
       let window = window_of command.source (sources_of found) in
       let first = past-takes (window.number == 0) NothingToUndo _ taken is in
       let second = past-takes (nat_le (last_revision window) found.past.floor) TooOld _ taken first.1 in
-      let delta = undo_of found.past.floor found.past.content.units (deltas_of found.past) (last_revision window) in
-      (delta, change-takes delta taken second.1)
+      change-takes (undo_of found.past.floor found.past.content.units (deltas_of found.past) (last_revision window)) taken second.1
 
   undo-repeats : (revision : ℕ) → undo state number found command ≡ Repeats revision → ⊥
   undo-repeats revision is =
@@ -110,6 +137,30 @@ module _ (state : State) (number : ℕ) (found : DocumentRecord) (command : Comm
       let first = past-repeats (window.number == 0) NothingToUndo _ revision is in
       let second = past-repeats (nat_le (last_revision window) found.past.floor) TooOld _ revision first in
       change-repeats (undo_of found.past.floor found.past.content.units (deltas_of found.past) (last_revision window)) revision second
+
+  delete-takes : (taken : Taken) → delete state number found command ≡ Takes taken → IsNext taken
+  delete-takes taken is =
+      let first = past-takes _ TooManySources _ taken is in
+      let second = past-takes (revision_of found == last_of_all) RevisionsSpent _ taken first.1 in
+      (Deletes, [], within-takes state.limits (units_of found) (sources_of found) (next_revision number found command Deletes []) taken second.1)
+
+  delete-repeats : (revision : ℕ) → delete state number found command ≡ Repeats revision → ⊥
+  delete-repeats revision is =
+      let first = past-repeats _ TooManySources _ revision is in
+      let second = past-repeats (revision_of found == last_of_all) RevisionsSpent _ revision first in
+      within-repeats state.limits (units_of found) (sources_of found) (next_revision number found command Deletes []) revision second
+
+  revive-takes : (delta : List Operation) (taken : Taken) → revive state number found command delta ≡ Takes taken → IsNext taken
+  revive-takes delta taken is =
+      let first = past-takes _ TooManySources _ taken is in
+      let second = past-takes (revision_of found == last_of_all) RevisionsSpent _ taken first.1 in
+      (Revives, delta, on-takes state.limits [] (sources_of found) (next_revision number found command Revives delta) taken second.1)
+
+  revive-repeats : (delta : List Operation) (revision : ℕ) → revive state number found command delta ≡ Repeats revision → ⊥
+  revive-repeats delta revision is =
+      let first = past-repeats _ TooManySources _ revision is in
+      let second = past-repeats (revision_of found == last_of_all) RevisionsSpent _ revision first in
+      on-repeats state.limits [] (sources_of found) (next_revision number found command Revives delta) revision second
 
 number-takes : (window : Window) (number : ℕ) (next : Answer) (taken : Taken) → by_number window number next ≡ Takes taken
     → (number ≡ window.number + 1) × (next ≡ Takes taken)
@@ -203,21 +254,21 @@ module _ (state : State) (command : Command) where
       subst (StandsWhere command taken.revision) (sym is) (subst (Reaches command.number taken.revision) (sym window) reaches)
 
   window-is : (past : Past) (taken : Taken) → taken.source ≡ command.source → taken.revision ≡ newest past + 1
-      → window_of command.source (sources_at (with_change state.limits.keep past (change_of taken)) (newest (with_change state.limits.keep past (change_of taken))))
+      → window_of command.source (sources_at (with_step state.limits.keep past taken.step (change_of taken)) (newest (with_step state.limits.keep past taken.step (change_of taken))))
       ≡ noted taken (window_of command.source (sources_at past (newest past)))
   window-is past taken source next =
       window-changed state.limits.keep past taken command.source next
       ∙ ap (λ b. cond b (noted taken (window_of command.source (sources_at past (newest past)))) (window_of command.source (sources_at past (newest past))))
       (ap (λ (s : List ℕ). bytes_eq s command.source) source ∙ bytes_same command.source)
 
-  -- a change of a document that is there
-  stands-changed : (number : ℕ) (found : DocumentRecord) (delta : List Operation) → find command.name 0 state.documents ≡ Some (number, found)
+  -- a step of a document that is there
+  stands-changed : (number : ℕ) (found : DocumentRecord) (step : Step) (delta : List Operation) → find command.name 0 state.documents ≡ Some (number, found)
       → command.number ≡ (window_of command.source (sources_of found)).number + 1
-      → StandsIn (grown state (next_revision number found command delta)) command (revision_of found + 1)
-  stands-changed number found delta is next =
-      let taken = next_revision number found command delta in
+      → StandsIn (grown state (next_revision number found command step delta)) command (revision_of found + 1)
+  stands-changed number found step delta is next =
+      let taken = next_revision number found command step delta in
       let there = found-at command.name state.documents number found is in
-      let after = record found { past = with_change state.limits.keep found.past (change_of taken) } in
+      let after = record found { past = with_step state.limits.keep found.past step (change_of taken) } in
       stands-there taken number after (window_of command.source (sources_of found))
       (ap (λ (d : Option DocumentRecord). find command.name 0 (set_document number (record_by_name state.limits.keep d taken None) state.documents)) there.0 ∙ there.1 after refl)
       (window-is found.past taken refl refl) (reaches-new command.number (revision_of found + 1) (window_of command.source (sources_of found)) next)
@@ -226,7 +277,7 @@ module _ (state : State) (command : Command) where
   stands-created : (delta : List Operation) → find command.name 0 state.documents ≡ None → command.number ≤ 1 → StandsIn (grown state (creation state command delta)) command 1
   stands-created delta none le =
       let taken = creation state command delta in
-      let after : DocumentRecord = record { name = command.name; past = with_change state.limits.keep empty_past (change_of taken) } in
+      let after : DocumentRecord = record { name = command.name; past = with_step state.limits.keep empty_past Edits (change_of taken) } in
       stands-there taken (0 + length state.documents) after nothing_taken
       (ap (λ (d : Option DocumentRecord). find command.name 0 (set_document (length state.documents) (record_by_name state.limits.keep d taken (Some command.name)) state.documents))
       (none-behind state.documents) ∙ created-at command.name 0 state.documents after none refl)
@@ -257,40 +308,68 @@ module _ (state : State) (command : Command) where
 
   changed-by : (found : ℕ × DocumentRecord) (taken : Taken) → find command.name 0 state.documents ≡ Some found
       → command.number ≡ (window_of command.source (sources_of found.1)).number + 1
-      → (delta : List Operation) × (taken ≡ next_revision found.0 found.1 command delta) → StandsIn (grown state taken) command taken.revision
-  changed-by found taken is next (delta, same) =
-      subst (λ (t : Taken). StandsIn (grown state t) command t.revision) (sym same) (stands-changed found.0 found.1 delta is next)
+      → IsNext state found.0 found.1 command taken → StandsIn (grown state taken) command taken.revision
+  changed-by found taken is next (step, delta, same) =
+      subst (λ (t : Taken). StandsIn (grown state t) command t.revision) (sym same) (stands-changed found.0 found.1 step delta is next)
+
+  -- a creation of a document that is there, live or deleted
+  recreated-by : (found : ℕ × DocumentRecord) (delta : List Operation) (taken : Taken) (live : Bool) → find command.name 0 state.documents ≡ Some found
+      → cond live (by_retry (revision_in command.number (window_of command.source (sources_of found.1))) (Refuses Exists))
+      (by_number (window_of command.source (sources_of found.1)) command.number (revive state found.0 found.1 command delta)) ≡ Takes taken
+      → StandsIn (grown state taken) command taken.revision
+  recreated-by found delta taken true some is =
+      absurd (cc (anew-takes (revision_in command.number (window_of command.source (sources_of found.1))) _ taken is))
+  recreated-by found delta taken false some is =
+      let number = number-takes (window_of command.source (sources_of found.1)) command.number _ taken is in
+      changed-by found taken some number.0 (revive-takes state found.0 found.1 command delta taken number.1)
 
   taken-to : (action : Action) (there : Option (ℕ × DocumentRecord)) (taken : Taken) → find command.name 0 state.documents ≡ there
       → answer_to state command action there ≡ Takes taken → StandsIn (grown state taken) command taken.revision
   taken-to (Create delta) None taken none is =
       let made = created-takes delta taken is in
       subst (λ (t : Taken). StandsIn (grown state t) command t.revision) (sym made.1) (stands-created delta none made.0)
-  taken-to (Create delta) (Some found) taken some is =
-      absurd (cc (anew-takes (revision_in command.number (window_of command.source (sources_of found.1))) _ taken is))
+  taken-to (Create delta) (Some found) taken some is = recreated-by found delta taken (is_live found.1) some is
   taken-to (Edit base delta) None taken none is = absurd (cc (is))
   taken-to (Edit base delta) (Some found) taken some is =
       let number = number-takes (window_of command.source (sources_of found.1)) command.number _ taken is in
-      changed-by found taken some number.0 (edit-takes state found.0 found.1 command base delta taken number.1)
+      changed-by found taken some number.0 (edit-takes state found.0 found.1 command base delta taken (live-takes found.1 _ taken number.1))
   taken-to Undo None taken none is = absurd (cc (is))
   taken-to Undo (Some found) taken some is =
       let number = number-takes (window_of command.source (sources_of found.1)) command.number _ taken is in
-      changed-by found taken some number.0 (undo-takes state found.0 found.1 command taken number.1)
+      changed-by found taken some number.0 (undo-takes state found.0 found.1 command taken (live-takes found.1 _ taken number.1))
+  taken-to Delete None taken none is = absurd (cc (is))
+  taken-to Delete (Some found) taken some is =
+      let number = number-takes (window_of command.source (sources_of found.1)) command.number _ taken is in
+      changed-by found taken some number.0 (delete-takes state found.0 found.1 command taken (live-takes found.1 _ taken number.1))
 
   stands_taken : (taken : Taken) → answer state command ≡ Takes taken → StandsIn (grown state taken) command taken.revision
   stands_taken taken is = taken-to command.action (find command.name 0 state.documents) taken refl is
 
+  created-again : (found : ℕ × DocumentRecord) (delta : List Operation) (revision : ℕ) (live : Bool)
+      → cond live (by_retry (revision_in command.number (window_of command.source (sources_of found.1))) (Refuses Exists))
+      (by_number (window_of command.source (sources_of found.1)) command.number (revive state found.0 found.1 command delta)) ≡ Repeats revision
+      → Reaches command.number revision (window_of command.source (sources_of found.1))
+  created-again found delta revision true is =
+      inl (again-repeats (revision_in command.number (window_of command.source (sources_of found.1))) _ revision (λ never. cc (never)) is)
+  created-again found delta revision false is =
+      number-repeats (window_of command.source (sources_of found.1)) command.number _ revision (revive-repeats state found.0 found.1 command delta revision) is
+
   again-to : (action : Action) (there : Option (ℕ × DocumentRecord)) (revision : ℕ) → answer_to state command action there ≡ Repeats revision
       → StandsWhere command revision there
   again-to (Create delta) None revision is = absurd (created-repeats delta revision is)
-  again-to (Create delta) (Some found) revision is =
-      inl (again-repeats (revision_in command.number (window_of command.source (sources_of found.1))) _ revision (λ never. cc (never)) is)
+  again-to (Create delta) (Some found) revision is = created-again found delta revision (is_live found.1) is
   again-to (Edit base delta) None revision is = absurd (cc (is))
   again-to (Edit base delta) (Some found) revision is =
-      number-repeats (window_of command.source (sources_of found.1)) command.number _ revision (edit-repeats state found.0 found.1 command base delta revision) is
+      number-repeats (window_of command.source (sources_of found.1)) command.number _ revision
+      (λ later. edit-repeats state found.0 found.1 command base delta revision (live-repeats found.1 _ revision later)) is
   again-to Undo None revision is = absurd (cc (is))
   again-to Undo (Some found) revision is =
-      number-repeats (window_of command.source (sources_of found.1)) command.number _ revision (undo-repeats state found.0 found.1 command revision) is
+      number-repeats (window_of command.source (sources_of found.1)) command.number _ revision
+      (λ later. undo-repeats state found.0 found.1 command revision (live-repeats found.1 _ revision later)) is
+  again-to Delete None revision is = absurd (cc (is))
+  again-to Delete (Some found) revision is =
+      number-repeats (window_of command.source (sources_of found.1)) command.number _ revision
+      (λ later. delete-repeats state found.0 found.1 command revision (live-repeats found.1 _ revision later)) is
 
   stands_again : (revision : ℕ) → answer state command ≡ Repeats revision → StandsIn state command revision
   stands_again revision is = again-to command.action (find command.name 0 state.documents) revision is

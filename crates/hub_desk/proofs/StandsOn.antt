@@ -5,16 +5,17 @@ use Rattle.std.proofs.lemmas.Bool.{and_parts, cases_lt}
 use Rattle.std.proofs.lemmas.Bool.Decides.{nat_tests}
 use Rattle.std.proofs.lemmas.Slice.Eq.{bytes_eq-Decides}
 use Rattle.refusal.specs.declared.Refusal.TheVariants.{Exists, Gap, OldNumber}
-use Rattle.revision.specs.Command.{Action, Create, Edit, Undo, Command, Taken}
+use Rattle.delta.specs.Operation.{Operation}
+use Rattle.revision.specs.Command.{Action, Create, Edit, Undo, Delete, Command, Taken}
 use Rattle.revision.specs.Window.{Window, taken_as, taken_next, revision_in}
 use Rattle.revision.specs.Sources.{Sources, window_of}
 use Rattle.revision.proofs.CallerLemmas.{none_outside, shifts, one_revision}
-use Rattle.revision.specs.State.{DocumentRecord, State, sources_of, find, grows, grown, all_grow, fold}
-use Rattle.revision.specs.Acceptance.{Answer, Repeats, Refuses, by_retry, by_number, edit, undo, answer_to}
+use Rattle.revision.specs.State.{DocumentRecord, State, sources_of, is_live, find, grows, grown, all_grow, fold}
+use Rattle.revision.specs.Acceptance.{Answer, Repeats, Refuses, by_retry, by_number, if_live, revive, edit, undo, delete, answer_to}
 use Rattle.revision.specs.Agree.{DocumentsAgree, PlacesAgree}
 use Rattle.world.specs.Law.{window_found, window_held}
 use Rattle.hub_desk.specs.Standing.{Reaches, StandsIn}
-use Rattle.hub_desk.specs.Laws.{refusal_of_old, IsNotTakenAgain, StandsLater, StandsAlike, IsTakenOf, WasTakenAmong}
+use Rattle.hub_desk.specs.Laws.{lives, refusal_of_old, IsNotTakenAgain, StandsLater, StandsAlike, IsTakenOf, WasTakenAmong}
 use Rattle.hub_desk.proofs.Finding.{noted, Leaves, grown-leaves}
 
 -- where the document is found
@@ -126,6 +127,10 @@ first_case : (b : Bool) (one other : Answer) → b ≡ true → cond b one other
 first_case true one other is = refl
 first_case false one other is = absurd (cc)
 
+both_cases : (b : Bool) (one other wanted : Answer) → one ≡ wanted → other ≡ wanted → cond b one other ≡ wanted
+both_cases true one other wanted first second = first
+both_cases false one other wanted first second = second
+
 by_number-old : (window : Window) (number : ℕ) (next : Answer) → revision_in number window ≡ None → number < window.number → by_number window number next ≡ Refuses OldNumber
 by_number-old window number next none lower =
     ap (λ o. by_retry o (cond (nat_le number window.number) (Refuses OldNumber) (cond (nat_lt (window.number + 1) number) (Refuses Gap) next))) none
@@ -139,17 +144,37 @@ by_number-again window number revision next is =
 module _ (state : State) (command : Command) (found : ℕ × DocumentRecord) where
   answered-again : (action : Action) (revision : ℕ) → revision_in command.number (window_of command.source (sources_of found.1)) ≡ Some revision
       → answer_to state command action (Some found) ≡ Repeats revision
-  answered-again (Create delta) revision is = ap (λ o. by_retry o (Refuses Exists)) is
+  answered-again (Create delta) revision is =
+      both_cases (is_live found.1) (by_retry (revision_in command.number (window_of command.source (sources_of found.1))) (Refuses Exists))
+      (by_number (window_of command.source (sources_of found.1)) command.number (revive state found.0 found.1 command delta)) (Repeats revision)
+      (ap (λ o. by_retry o (Refuses Exists)) is)
+      (by_number-again (window_of command.source (sources_of found.1)) command.number revision (revive state found.0 found.1 command delta) is)
   answered-again (Edit base delta) revision is =
-      by_number-again (window_of command.source (sources_of found.1)) command.number revision (edit state found.0 found.1 command base delta) is
-  answered-again Undo revision is = by_number-again (window_of command.source (sources_of found.1)) command.number revision (undo state found.0 found.1 command) is
+      by_number-again (window_of command.source (sources_of found.1)) command.number revision (if_live found.1 (edit state found.0 found.1 command base delta)) is
+  answered-again Undo revision is =
+      by_number-again (window_of command.source (sources_of found.1)) command.number revision (if_live found.1 (undo state found.0 found.1 command)) is
+  answered-again Delete revision is =
+      by_number-again (window_of command.source (sources_of found.1)) command.number revision (if_live found.1 (delete state found.0 found.1 command)) is
+
+  -- a creation, of a document that is live or deleted
+  created-old : (delta : List Operation) (live : Bool) → revision_in command.number (window_of command.source (sources_of found.1)) ≡ None
+      → command.number < (window_of command.source (sources_of found.1)).number
+      → cond live (by_retry (revision_in command.number (window_of command.source (sources_of found.1))) (Refuses Exists))
+      (by_number (window_of command.source (sources_of found.1)) command.number (revive state found.0 found.1 command delta))
+      ≡ Refuses (refusal_of_old (Create delta) live)
+  created-old delta true none lower = ap (λ o. by_retry o (Refuses Exists)) none
+  created-old delta false none lower =
+      by_number-old (window_of command.source (sources_of found.1)) command.number (revive state found.0 found.1 command delta) none lower
 
   answered-old : (action : Action) → revision_in command.number (window_of command.source (sources_of found.1)) ≡ None
-      → command.number < (window_of command.source (sources_of found.1)).number → answer_to state command action (Some found) ≡ Refuses (refusal_of_old action)
-  answered-old (Create delta) none lower = ap (λ o. by_retry o (Refuses Exists)) none
+      → command.number < (window_of command.source (sources_of found.1)).number → answer_to state command action (Some found) ≡ Refuses (refusal_of_old action (is_live found.1))
+  answered-old (Create delta) none lower = created-old delta (is_live found.1) none lower
   answered-old (Edit base delta) none lower =
-      by_number-old (window_of command.source (sources_of found.1)) command.number (edit state found.0 found.1 command base delta) none lower
-  answered-old Undo none lower = by_number-old (window_of command.source (sources_of found.1)) command.number (undo state found.0 found.1 command) none lower
+      by_number-old (window_of command.source (sources_of found.1)) command.number (if_live found.1 (edit state found.0 found.1 command base delta)) none lower
+  answered-old Undo none lower =
+      by_number-old (window_of command.source (sources_of found.1)) command.number (if_live found.1 (undo state found.0 found.1 command)) none lower
+  answered-old Delete none lower =
+      by_number-old (window_of command.source (sources_of found.1)) command.number (if_live found.1 (delete state found.0 found.1 command)) none lower
 
 pub not_taken_again : IsNotTakenAgain
 not_taken_again state command revision some stands = by_found (find command.name 0 state.documents) stands
@@ -157,7 +182,7 @@ not_taken_again state command revision some stands = by_found (find command.name
     by_found : (there : Option (ℕ × DocumentRecord)) → StandsWhere command revision there
         → ((revision_in command.number (window_found command.source there) ≡ Some revision) × (answer_to state command command.action there ≡ Repeats revision))
         ⊎ ((revision_in command.number (window_found command.source there) ≡ None) × (command.number < (window_found command.source there).number)
-        × (answer_to state command command.action there ≡ Refuses (refusal_of_old command.action)))
+        × (answer_to state command command.action there ≡ Refuses (refusal_of_old command.action (lives there))))
     by_found None stands = absurd stands
     by_found (Some found) (inl made) = inl (made, answered-again state command found command.action revision made)
     by_found (Some found) (inr old) = inr (old.0, old.1, answered-old state command found command.action old.0 old.1)

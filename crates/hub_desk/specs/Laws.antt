@@ -1,11 +1,11 @@
 -- What follows where a command stands in a state: each law is promised by a function of `laws`.
-use Rattle.std.specs.Prelude.{◌≡◌, ◌⊎◌, ◌≤◌, ◌<◌, ℕ, true, List, Some, None, Ok, Any}
+use Rattle.std.specs.Prelude.{◌≡◌, ◌⊎◌, ◌≤◌, ◌<◌, ℕ, Bool, true, false, List, Option, Some, None, Ok, Any}
 use mathlib.Core.List.{IsPrefix}
 use Rattle.refusal.specs.declared.Refusal.{Refusal}
 use Rattle.refusal.specs.declared.Refusal.TheVariants.{Exists, OldNumber}
 use Rattle.revision.specs.Window.{revision_in}
-use Rattle.revision.specs.Command.{Action, Create, Edit, Undo, Command, Taken}
-use Rattle.revision.specs.State.{State, DocumentRecord, find, all_grow, fold}
+use Rattle.revision.specs.Command.{Action, Create, Edit, Undo, Delete, Command, Taken}
+use Rattle.revision.specs.State.{State, DocumentRecord, is_live, find, all_grow, fold}
 use Rattle.revision.specs.Acceptance.{Repeats, Refuses, answer}
 use Rattle.revision.specs.Agree.{Agree}
 use Rattle.recovery.specs.Found.{commands_of}
@@ -20,18 +20,25 @@ use Rattle.session.specs.Reply.{rev_of}
 use Rattle.hub_desk.specs.AtHub.{Desk, PassesAtHub}
 use Rattle.hub_desk.specs.Standing.{StandsIn, AllStand}
 
--- why a command is refused whose number is below its source's window: its document exists, or the number is old
-abbrev pub refusal_of_old : Action → Refusal
-refusal_of_old (Create delta) = Exists
-refusal_of_old (Edit base delta) = OldNumber
-refusal_of_old Undo = OldNumber
+-- a document is there, and isn't deleted
+abbrev pub lives : Option (ℕ × DocumentRecord) → Bool
+lives None = false
+lives (Some found) = is_live found.1
+
+-- why a command is refused whose number is below its source's window: the number is old, or it would create a document that is there
+abbrev pub refusal_of_old : Action → Bool → Refusal
+refusal_of_old (Create delta) true = Exists
+refusal_of_old (Create delta) false = OldNumber
+refusal_of_old (Edit base delta) live = OldNumber
+refusal_of_old Undo live = OldNumber
+refusal_of_old Delete live = OldNumber
 
 -- Sent again it isn't taken: it is a retry with that revision where its number is in its source's window, and refused where it is lower.
 abbrev pub IsNotTakenAgain : Type 0
 IsNotTakenAgain = (state : State) (command : Command) (revision : ℕ) → 1 ≤ command.number → StandsIn state command revision
     → ((revision_in command.number (window_held state command) ≡ Some revision) × (answer state command ≡ Repeats revision))
     ⊎ ((revision_in command.number (window_held state command) ≡ None) × (command.number < (window_held state command).number)
-    × (answer state command ≡ Refuses (refusal_of_old command.action)))
+    × (answer state command ≡ Refuses (refusal_of_old command.action (lives (find command.name 0 state.documents)))))
 
 -- Further commands that continue the state leave it there,
 abbrev pub StandsLater : Type 0

@@ -6,9 +6,9 @@ use Rattle.std.proofs.lemmas.List.{length-map}
 use Rattle.std.proofs.lemmas.Option.{slice_get_within, slice_get-get_or}
 use Rattle.document.specs.Weight.{weight_of}
 use Rattle.revision.specs.Window.{Window}
-use Rattle.revision.specs.Past.{Content, newest, sources_at}
+use Rattle.revision.specs.Past.{Content, is_content, newest, sources_at}
 use Rattle.revision.specs.Sources.{cut, count_of, total_of}
-use Rattle.revision.specs.State.{Limits, DocumentRecord, State, last_of_all, are_sources, window_weight, adopts}
+use Rattle.revision.specs.State.{Limits, DocumentRecord, State, last_of_all, is_mark_at, are_sources, window_weight, adopts}
 use Rattle.revision.specs.Invariants.{IsLimits, IsPast, IsState, KeepsAt}
 use Rattle.revision.proofs.CallerLemmas.{cut_stays, cut_weighs, empty_is_state, adopting_keeps}
 use Rattle.history.specs.Cell.{Cell, CellKeeps, record_of_cell}
@@ -43,6 +43,9 @@ kept limits free document cell low none weight sources is to = record {
   count = omega (arith, ap (length {A = List ℕ × Window}) to.sources, length-map (sources_at document.past (newest document.past)).entries cut, at.count, sources);
   sources = subst (λ n. are_sources n cell.sources.entries ≡ true) (sym to.revision)
       (subst (λ es. are_sources (newest document.past) es ≡ true) (sym to.sources) (cut_stays (newest document.past) (sources_at document.past (newest document.past)).entries at.sources));
+  content = subst (λ (c : Content). is_content c ≡ true) (sym to.content) at.content;
+  mark = subst (λ n. is_mark_at cell.content.live n ≡ true) (sym to.revision)
+      (subst (λ (c : Content). is_mark_at c.live (newest document.past) ≡ true) (sym to.content) at.mark);
   weight = omega (
     arith,
     at.weight,
@@ -69,7 +72,9 @@ alone limits cell are keeps = (adopting_keeps none cell.name cell.content cell.r
         (and_from _ _
         (and_from _ _
         (and_from _ _
-        (and_from _ _ (and_from _ _ (lt-ltb 0 limits.docs (omega (arith, are.some_document))) refl) (le-leb 1 cell.revision keeps.first))
+        (and_from _ _
+        (and_from _ _ (and_from _ _ (and_from _ _ (lt-ltb 0 limits.docs (omega (arith, are.some_document))) refl) keeps.content) keeps.mark)
+        (le-leb 1 cell.revision keeps.first))
         (le-leb cell.revision last_of_all keeps.last))
         (le-leb (count_of cell.sources) limits.sources keeps.count))
         keeps.sources)

@@ -11,7 +11,7 @@ use refusal::Refusal;
 use revision::{DocState, State};
 use std::alloc::Global;
 
-/// The documents of a state at their newest revisions, each source with its last number alone.
+/// The documents of a state at their newest revisions, live or deleted, each source with its last number alone.
 pub(crate) fn cut_all(alloc: Global, state: &State) -> Result<Vec<Milestone>, Refusal>
     requires { state.now.limits.weight < 2 ^ 30 }
     ensures cut { IfOk result (λ start. AreCut state.now start.items) }
@@ -38,7 +38,13 @@ fn cut_document(alloc: Global, document: &DocState) -> Result<Milestone, Refusal
     let name = document.name().copy(alloc)?;
     let content = document.document().copy(alloc)?;
     let sources = document.sources().with_last_numbers(alloc)?;
-    let cut = Milestone::new(name, document.revision(), content, sources);
+    let cut = Milestone::new(
+        name,
+        document.revision(),
+        content,
+        document.is_live(),
+        sources,
+    );
     let _ = cut.content(alloc)?;
     Ok(cut)
 }

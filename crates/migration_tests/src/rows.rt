@@ -58,6 +58,14 @@ fn is_answered(
     assert!(rt; found == wanted, "{doc} {number}");
 }
 
+/// The record of a deletion of the document d, and the closed gate behind.
+const DELETION: [u8; 34] = [
+    0xa5, 28, 0, 0, 0, 1, 0, 0, 0, // one entry
+    3, 0, 0, 0, 0, 3, 0, 0, 0, 0, 0, 0, 0, // a deletion, document 0, revision 3
+    1, 0, b'a', 3, 0, 0, 0, 0, 0, 0, 0, // source a, its number 3
+    0,
+];
+
 // A device of these bytes is refused, and stays; the new one has seen no call.
 fn is_refused(rt: &(impl Abort + AllocGlobal), bytes: &[u8], wanted: Refusal) {
     let mut old = device_of(rt, bytes);
@@ -120,6 +128,9 @@ fn other_devices_are_refused(rt: HostRuntime) {
         &with_bytes_at(&rt, &bytes, 576 + 49, &[5]),
         Refusal::Damaged,
     );
+    // A deletion in the third record, which the first format doesn't have.
+    let deletion = with_bytes_at(&rt, &bytes, 1_088 + 119, &DELETION);
+    is_refused(&rt, &deletion, Refusal::Damaged);
     let longer = with_bytes_at(&rt, &bytes, 576, &[0xa5, 54]);
     is_refused(&rt, &longer, Refusal::Damaged);
     assert_eq!(&rt; CELL.len(), 57);

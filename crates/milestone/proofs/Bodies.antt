@@ -1,5 +1,5 @@
 -- The body of a cell, part by part: what begins it, and which one it is where its parts are known.
-use Rattle.std.proofs.Common.{◌≡◌, ℕ, ◌^◌, ◌<◌, true, List, [], ◌∷◌, ◌++◌, length, drop, refl, sym, ◌∙◌, ap, subst, arith, append_assoc, append-nil}
+use Rattle.std.proofs.Common.{◌≡◌, ℕ, ◌^◌, ◌<◌, Bool, true, false, List, [], ◌∷◌, ◌++◌, length, true≢false, refl, sym, ◌∙◌, ap, subst, arith, append_assoc, append-nil}
 use Rattle.std.specs.Int.{w32, w64}
 use Rattle.std.specs.List.{AllByRecursion}
 use Rattle.std.proofs.lemmas.Bool.{and_parts, and_from}
@@ -7,14 +7,16 @@ use Rattle.std.proofs.lemmas.List.Elements.{All-from_recursion, recursion_from_A
 use Rattle.delta.specs.Element.{Element}
 use Rattle.revision.specs.Name.{is_document_name, is_source_name}
 use Rattle.revision.specs.Window.{Window}
+use Rattle.revision.specs.Past.{Content, is_content}
 use Rattle.revision.specs.Sources.{Sources, are_named}
 use Rattle.revision.specs.State.{last_of_all, is_window, are_sources}
 use Rattle.journal.specs.Spelling.{number, text16}
 use Rattle.journal.proofs.CallerLemmas.{one_number32_spelling, one_number64_spelling}
 use Rattle.history.specs.Cell.{Cell}
-use Rattle.milestone.specs.CellSpelling.{Format, One, Two, mark, spells, have_one, spells_all, cell_body_in, IsCellIn}
+use Rattle.milestone.specs.CellSpelling.{Format, One, Two, mark, spells_mark, spells, have_one, spells_all, cell_body_in, IsCellIn}
 use Rattle.milestone.specs.steps.Reading.{BeginsNone, IsWithin, IsContent, content_bytes, IsSource, AreSources, sources_bytes}
 use Rattle.milestone.proofs.Fields.{one_name, one_content, one_sources}
+use Rattle.milestone.proofs.Marks.{one_mark}
 
 -- ---- windows that a format spells, one by one and all
 
@@ -79,7 +81,7 @@ abbrev behind_mark : Format → Cell → List ℕ → List ℕ
 behind_mark format cell more = content_bytes cell.content.units ++ (sources_bytes format cell.sources ++ more)
 
 abbrev behind_revision : Format → Cell → List ℕ → List ℕ
-behind_revision format cell more = mark format ++ behind_mark format cell more
+behind_revision format cell more = mark format cell.content.live ++ behind_mark format cell more
 
 abbrev behind_name : Format → Cell → List ℕ → List ℕ
 behind_name format cell more = number w64 cell.revision ++ behind_revision format cell more
@@ -90,11 +92,6 @@ behind_document format cell more = text16 cell.name ++ behind_name format cell m
 cell_parts : (format : Format) (n : ℕ) (cell : Cell) (more : List ℕ) → cell_body_in format n cell ++ more ≡ number w32 n ++ behind_document format cell more
 unfolding cell_body_in content_bytes
 cell_parts format n cell more = simp append_assoc
-
--- one mark stands there
-one_mark : (format : Format) (x y : List ℕ) → mark format ++ x ≡ mark format ++ y → x ≡ y
-one_mark One x y same = same
-one_mark Two x y same = ap (λ (l : List ℕ). drop 1 l) same
 
 -- the bytes are the body of no cell of this document
 abbrev pub IsNone : Format → ℕ → List ℕ → Type 0
@@ -128,20 +125,28 @@ module _ (format : Format) (n : ℕ) (low : n < 2 ^ 32) (bytes : List ℕ) where
             one_number64_spelling revision cell.revision revised_rest (behind_revision format cell more) (omega (arith, revised.1)) (omega (arith, is.milestone.last))
             (sym revision_there ∙ (is_behind_name cell more is spelled).1)
 
-        pub at_mark : ((rest : List ℕ) → revised_rest ≡ mark format ++ rest → ⊥) → IsNone format n bytes
-        at_mark none cell is spelled = none (behind_mark format cell []) (is_behind_revision cell [] is (alone cell spelled)).1
+        pub at_mark : BeginsNone (mark format) (λ live. spells_mark format live ≡ true) revised_rest → IsNone format n bytes
+        at_mark none cell is spelled = none cell.content.live (behind_mark format cell []) is.mark (is_behind_revision cell [] is (alone cell spelled)).1
 
-        module _ (marked_rest : List ℕ) (mark_there : revised_rest ≡ mark format ++ marked_rest) where
-          is_behind_mark : (cell : Cell) (more : List ℕ) → IsCellIn format n cell → bytes ≡ cell_body_in format n cell ++ more → marked_rest ≡ behind_mark format cell more
-          is_behind_mark cell more is spelled = one_mark format marked_rest (behind_mark format cell more) (sym mark_there ∙ (is_behind_revision cell more is spelled).1)
+        module _ (live : Bool) (marked_rest : List ℕ) (marked : spells_mark format live ≡ true) (mark_there : revised_rest ≡ mark format live ++ marked_rest) where
+          is_behind_mark : (cell : Cell) (more : List ℕ) → IsCellIn format n cell → bytes ≡ cell_body_in format n cell ++ more → (live ≡ cell.content.live) × (marked_rest ≡ behind_mark format cell more)
+          is_behind_mark cell more is spelled =
+              one_mark format live cell.content.live marked_rest (behind_mark format cell more) marked is.mark (sym mark_there ∙ (is_behind_revision cell more is spelled).1)
 
           pub at_content : BeginsNone content_bytes IsContent marked_rest → IsNone format n bytes
-          at_content none cell is spelled = none cell.content.units (sources_bytes format cell.sources ++ []) is.content (is_behind_mark cell [] is (alone cell spelled))
+          at_content none cell is spelled = none cell.content.units (sources_bytes format cell.sources ++ []) is.content (is_behind_mark cell [] is (alone cell spelled)).1
 
           module _ (units : List Element) (filled_rest : List ℕ) (filled : IsContent units) (content_there : marked_rest ≡ content_bytes units ++ filled_rest) where
             is_behind_content : (cell : Cell) (more : List ℕ) → IsCellIn format n cell → bytes ≡ cell_body_in format n cell ++ more → (units ≡ cell.content.units) × (filled_rest ≡ sources_bytes format cell.sources ++ more)
             is_behind_content cell more is spelled =
-                one_content units cell.content.units filled_rest (sources_bytes format cell.sources ++ more) filled is.content (sym content_there ∙ is_behind_mark cell more is spelled)
+                one_content units cell.content.units filled_rest (sources_bytes format cell.sources ++ more) filled is.content (sym content_there ∙ (is_behind_mark cell more is spelled).1)
+
+            -- something stands in it though it is deleted
+            pub at_marked : is_content (record { units = units; live = live }) ≡ false → IsNone format n bytes
+            at_marked other cell is spelled =
+                let same : ◌≡◌ {A = Content} (record { units = units; live = live }) cell.content =
+                λ i. record { units = (is_behind_content cell [] is (alone cell spelled)).0 i; live = (is_behind_mark cell [] is (alone cell spelled)).0 i } in
+                absurd (true≢false (sym is.milestone.content ∙ (sym (ap is_content same) ∙ other)))
 
             same_sources : (cell : Cell) (more : List ℕ) → IsCellIn format n cell → bytes ≡ cell_body_in format n cell ++ more → AreSources format revision cell.sources
             same_sources cell more is spelled = subst (λ k. AreSources format k cell.sources) (sym (is_behind_revision cell more is spelled).0) (sources_of format n cell is)
@@ -152,7 +157,7 @@ module _ (format : Format) (n : ℕ) (low : n < 2 ^ 32) (bytes : List ℕ) where
 
             module _ (all : Sources) (rest_of_all : List ℕ) (are : AreSources format revision all) (sources_there : filled_rest ≡ sources_bytes format all ++ rest_of_all) where
               abbrev found : Cell
-              found = record { name = name; revision = revision; content = record { units = units }; sources = all }
+              found = record { name = name; revision = revision; content = record { units = units; live = live }; sources = all }
 
               last_part : (cell : Cell) (more : List ℕ) → IsCellIn format n cell → bytes ≡ cell_body_in format n cell ++ more → (all ≡ cell.sources) × (rest_of_all ≡ more)
               last_part cell more is spelled =
@@ -166,24 +171,25 @@ module _ (format : Format) (n : ℕ) (low : n < 2 ^ 32) (bytes : List ℕ) where
               is_the_one cell more is spelled = λ i. record {
                 name = (is_behind_name cell more is spelled).0 i;
                 revision = (is_behind_revision cell more is spelled).0 i;
-                content = record { units = (is_behind_content cell more is spelled).0 i };
+                content = record { units = (is_behind_content cell more is spelled).0 i; live = (is_behind_mark cell more is spelled).0 i };
                 sources = (last_part cell more is spelled).0 i;
               }
 
-              pub all_found : rest_of_all ≡ [] → IsCellIn format n found × (bytes ≡ cell_body_in format n found)
-              all_found none = (
+              pub all_found : is_content (record { units = units; live = live }) ≡ true → rest_of_all ≡ [] → IsCellIn format n found × (bytes ≡ cell_body_in format n found)
+              all_found may none = (
                 record {
                   document = low;
-                  milestone = record { name = named; first = revised.0; last = revised.1; named = all_named format revision all are; sources = all_last format revision all are };
+                  milestone = record { name = named; first = revised.0; last = revised.1; content = may; named = all_named format revision all are; sources = all_last format revision all are };
                   content = filled;
                   count = are.count;
+                  mark = marked;
                   windows = all_spelled format revision all are;
                 },
                 there
                     ∙ ap (λ (l : List ℕ). number w32 n ++ l) (name_there
                     ∙ ap (λ (l : List ℕ). text16 name ++ l) (revision_there
                     ∙ ap (λ (l : List ℕ). number w64 revision ++ l) (mark_there
-                    ∙ ap (λ (l : List ℕ). mark format ++ l) (content_there
+                    ∙ ap (λ (l : List ℕ). mark format live ++ l) (content_there
                     ∙ ap (λ (l : List ℕ). content_bytes units ++ l) (sources_there ∙ ap (λ (l : List ℕ). sources_bytes format all ++ l) none)))))
                     ∙ sym (cell_parts format n found [])
                     ∙ append-nil (cell_body_in format n found),
@@ -195,6 +201,6 @@ one_cell_body format n a b x y is_a is_b same =
     is_the_one format n is_a.document (cell_body_in format n a ++ x) (behind_document format a x) (cell_parts format n a x)
     a.name (behind_name format a x) is_a.milestone.name refl
     a.revision (behind_revision format a x) (is_a.milestone.first, is_a.milestone.last) refl
-    (behind_mark format a x) refl
+    a.content.live (behind_mark format a x) is_a.mark refl
     a.content.units (sources_bytes format a.sources ++ x) is_a.content refl
     a.sources x (sources_of format n a is_a) refl b y is_b same

@@ -11,6 +11,7 @@ pub mod Replacing
 pub mod Order
 pub mod Windows
 pub mod Fields
+pub mod Marks
 pub mod Bodies
 pub mod OnePair
 pub mod CellsRead

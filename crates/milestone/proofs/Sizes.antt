@@ -191,9 +191,9 @@ body_fits n limits cell eight is keeps narrow =
     let all = sources Two cell.sources.entries in
     omega (
       arith,
-      length-append (number w32 n ++ text16 cell.name ++ number w64 cell.revision ++ mark Two ++ content) all,
-      length-append (number w32 n ++ text16 cell.name ++ number w64 cell.revision ++ mark Two) content,
-      length-append (number w32 n ++ text16 cell.name ++ number w64 cell.revision) (mark Two),
+      length-append (number w32 n ++ text16 cell.name ++ number w64 cell.revision ++ mark Two cell.content.live ++ content) all,
+      length-append (number w32 n ++ text16 cell.name ++ number w64 cell.revision ++ mark Two cell.content.live) content,
+      length-append (number w32 n ++ text16 cell.name ++ number w64 cell.revision) (mark Two cell.content.live),
       length-append (number w32 n ++ text16 cell.name) (number w64 cell.revision),
       length-append (number w32 n) (text16 cell.name),
       number32 n,

@@ -1,5 +1,5 @@
 -- How a cell spells a document at a revision with its sources, and which documents have a spelling.
-use Rattle.std.specs.Prelude.{ℕ, ◌≡◌, ◌<◌, ◌^◌, ◌==◌, ◌&&◌, Bool, true, List, [], ◌∷◌, ◌++◌, length}
+use Rattle.std.specs.Prelude.{ℕ, ◌≡◌, ◌<◌, ◌^◌, ◌==◌, ◌&&◌, Bool, true, false, if◌then◌else◌, List, [], ◌∷◌, ◌++◌, length}
 use Rattle.std.specs.List.{flat_map}
 use Rattle.std.specs.Int.{w32, w64}
 use Rattle.delta.specs.Element.{Element}
@@ -20,10 +20,18 @@ use Rattle.journal.specs.DeltaSpelling as deltas
 abbrev pub inserts_of : List Element → List Operation
 inserts_of units = nf (End units)
 
--- what stands behind a cell's revision: in the second format a byte, which says that there is a document
-abbrev pub mark : Format → List ℕ
-mark One = []
-mark Two = 1 ∷ []
+-- what stands behind a cell's revision: in the second format a byte, by which the document is live or deleted
+abbrev pub mark_byte : Bool → ℕ
+mark_byte live = if live then 1 else 0
+
+abbrev pub mark : Format → Bool → List ℕ
+mark One live = []
+mark Two live = mark_byte live ∷ []
+
+-- the marks that a format spells: in the first one each document is live
+abbrev pub spells_mark : Format → Bool → Bool
+spells_mark One live = live
+spells_mark Two live = true
 
 -- A window: its last number, and in the first format the revision that this made. In the second format the count of its revisions in one
 -- byte, and these in order.
@@ -42,7 +50,7 @@ sources format all = journal.number w32 (length all) ++ flat_map (source format)
 -- the body of a cell of the document of this number, counted from 0 in order of creation
 unfoldable pub cell_body_in : Format → ℕ → Cell → List ℕ
 cell_body_in format number cell =
-    journal.number w32 number ++ journal.text16 cell.name ++ journal.number w64 cell.revision ++ mark format
+    journal.number w32 number ++ journal.text16 cell.name ++ journal.number w64 cell.revision ++ mark format cell.content.live
     ++ deltas.delta (inserts_of cell.content.units) ++ sources format cell.sources.entries
 
 -- the windows that a format spells: the first one those of one number
@@ -59,12 +67,13 @@ spells_all One all = have_one all
 spells_all Two all = true
 
 -- What has a spelling as a cell of the document of this number: a milestone whose number, sources and content fit their fields, and whose
--- windows the format spells.
+-- mark and windows the format spells.
 pub record IsCellIn (format : Format) (number : ℕ) (cell : Cell) : Type 0 where
   pub document : number < 2 ^ 32
   pub milestone : IsMilestone cell
   pub content : IsSpellable (inserts_of cell.content.units)
   pub count : count_of cell.sources < 2 ^ 32
+  pub mark : spells_mark format cell.content.live ≡ true
   pub windows : spells_all format cell.sources.entries ≡ true
 
 -- in the second format, which is written

@@ -1,6 +1,6 @@
 -- What a milestone is made of: units of a document, and deltas that lead from them to a revision, with the document's sources there.
-use Rattle.std.specs.Prelude.{◌≡◌, ℕ, ◌≤◌, ◌<◌, ◌^◌, List, [], ◌∷◌, refl}
-use Rattle.std.specs.Coded.{Coded, code_by, coded×, coded_list, coded_ℕ}
+use Rattle.std.specs.Prelude.{◌≡◌, ℕ, ◌≤◌, ◌<◌, ◌^◌, Bool, List, [], ◌∷◌, refl}
+use Rattle.std.specs.Coded.{Coded, code_by, coded×, coded_list, coded_ℕ, coded_bool}
 use Rattle.delta.specs.Element.{Element}
 use Rattle.delta.specs.Operation.{Operation, operation_code, base_of}
 use Rattle.delta.specs.Gaps.{counted, apply}
@@ -11,13 +11,14 @@ use Rattle.history.specs.Cell.{Cell}
 use Rattle.milestone.specs.Milestone.{IsMilestone}
 
 -- The document's number in order of creation, its name, the revision, the inserts that make the units at some revision up to that, the deltas
--- in turn, the first of which stands on these units, and the sources at the revision.
+-- in turn, the first of which stands on these units, whether the document is live or deleted, and the sources at the revision.
 pub record Job : Type 0 where
   pub document : ℕ
   pub name : List ℕ
   pub revision : ℕ
   pub base : List Operation
   pub deltas : List (List Operation)
+  pub live : Bool
   pub sources : Sources
 
 -- the units that the deltas stand on
@@ -26,8 +27,12 @@ units_of_job job = apply [] (counted job.base)
 
 -- the cell that comes of it: what the deltas make of the units
 abbrev pub cell_of_job : Job → Cell
-cell_of_job job =
-    record { name = job.name; revision = job.revision; content = record { units = applied (units_of_job job) job.deltas }; sources = job.sources }
+cell_of_job job = record {
+  name = job.name;
+  revision = job.revision;
+  content = record { units = applied (units_of_job job) job.deltas; live = job.live };
+  sources = job.sources;
+}
 
 -- the base lengths and the output lengths of the inserts and of all deltas together sum to at most 2^48
 abbrev pub KeepLengths : List Operation → List (List Operation) → Type 0
@@ -45,7 +50,9 @@ pub record IsJob (job : Job) : Type 0 where
 -- how a job is told from another
 abbrev pub job_code : Coded Job
 job_code =
-    code_by (ℕ × (List ℕ × (ℕ × (List Operation × (List (List Operation) × Sources)))))
-    (coded× coded_ℕ (coded× (coded_list coded_ℕ) (coded× coded_ℕ (coded× (coded_list operation_code) (coded× (coded_list (coded_list operation_code)) sources_code)))))
-    (λ j. (j.document, (j.name, (j.revision, (j.base, (j.deltas, j.sources))))))
-    (λ p. record { document = p.0; name = p.1.0; revision = p.1.1.0; base = p.1.1.1.0; deltas = p.1.1.1.1.0; sources = p.1.1.1.1.1 }) (λ _. refl)
+    code_by (ℕ × (List ℕ × (ℕ × (List Operation × (List (List Operation) × (Bool × Sources))))))
+    (coded× coded_ℕ (coded× (coded_list coded_ℕ) (coded× coded_ℕ (coded× (coded_list operation_code)
+    (coded× (coded_list (coded_list operation_code)) (coded× coded_bool sources_code))))))
+    (λ j. (j.document, (j.name, (j.revision, (j.base, (j.deltas, (j.live, j.sources)))))))
+    (λ p. record { document = p.0; name = p.1.0; revision = p.1.1.0; base = p.1.1.1.0; deltas = p.1.1.1.1.0; live = p.1.1.1.1.1.0; sources = p.1.1.1.1.1.1 })
+    (λ _. refl)

@@ -142,7 +142,8 @@ fn milestone_with(alloc: Global, job: &Job, document: Document) -> Result<Milest
 {
     let name = job.name().copy(alloc)?;
     let sources = job.sources().copy(alloc)?;
-    Ok(Milestone::new(name, job.revision(), document, sources))
+    let live = job.is_live();
+    Ok(Milestone::new(name, job.revision(), document, live, sources))
 }
 
 // What a job's deltas make of its units, by the one delta for all. Refused as out of memory alone.

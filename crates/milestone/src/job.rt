@@ -2,7 +2,8 @@
 ghost use Rattle.std.specs.Prelude.{◌≡◌, ◌≤◌, ◌↔◌, true, [], IsTrue, IfOk, IsOkUnless};
 ghost use Rattle.delta.specs.Operation.{base_of};
 ghost use Rattle.delta.specs.Gaps.{counted, apply};
-ghost use Rattle.revision.specs.Past.{StandInTurn};
+ghost use Rattle.compose.specs.Many.{applied};
+ghost use Rattle.revision.specs.Past.{StandInTurn, is_content};
 ghost use Rattle.revision.specs.State.{last_of_all, are_sources};
 ghost use Rattle.milestone.specs.Job.{KeepLengths, IsJob};
 
@@ -13,8 +14,8 @@ use std::alloc::Global;
 use std::marker::Model;
 
 /// What a milestone is made of: what stood in a document at some revision, as the inserts that make it, the deltas in turn that lead from
-/// there to a later one, and the document's sources there. It stands apart from the store, so that the deltas can be composed in
-/// another thread.
+/// there to a later one, and the document's mark, live or deleted, and its sources there. It stands apart from the store, so that the
+/// deltas can be composed in another thread.
 #[derive(Drop)]
 pub struct Job {
     document: u32,
@@ -22,6 +23,7 @@ pub struct Job {
     revision: u64,
     base: Delta,
     deltas: Vec<Delta>,
+    live: bool,
     sources: Sources,
 }
 
@@ -42,18 +44,21 @@ impl Model for Job {
 impl Job {
     /// A job for the document of this number, counted from 0 in order of creation, at a revision of 1 to 2^53 - 1. The base only inserts.
     /// Each delta is accepted by the document that those before it make of what the base makes of the empty one, the base lengths and the
-    /// output lengths of all sum to at most 2^48, and the sources have numbers of 1 to 2^53 - 1 and revisions of 1 to this one. It takes no memory.
+    /// output lengths of all sum to at most 2^48, they make nothing where the document is deleted, and the sources have numbers of 1 to
+    /// 2^53 - 1 and revisions of 1 to this one. It takes no memory.
     pub fn new(
         document: u32,
         name: Name,
         revision: u64,
         base: Delta,
         deltas: Vec<Delta>,
+        live: bool,
         sources: Sources,
     ) -> Job
         requires inserts { base_of base ≡ 0 }
         requires stand { StandInTurn (apply [] (counted base)) deltas.items }
         requires lengths { KeepLengths base deltas.items }
+        requires content { is_content (record { units = applied (apply [] (counted base)) deltas.items; live = live }) ≡ true }
         requires first { 1 ≤ revision }
         requires last { revision ≤ last_of_all }
         requires sources { are_sources revision sources.entries ≡ true }
@@ -64,6 +69,7 @@ impl Job {
               revision = revision;
               base = base;
               deltas = deltas.items;
+              live = live;
               sources =
                   sources;
             } }
@@ -76,6 +82,7 @@ impl Job {
             revision,
             base,
             deltas,
+            live,
             sources,
         }
     }
@@ -118,6 +125,14 @@ impl Job {
         self.deltas.as_slice()
     }
 
+    /// Whether the document is live at the revision; else it is deleted.
+    pub fn is_live(&self) -> bool
+        ensures live { result ≡ self.now.live }
+        ensures job { IsJob self.now }
+    {
+        self.live
+    }
+
     /// The document's sources at the revision.
     pub fn sources(&self) -> &Sources
         ensures { result.now ≡ self.now.sources }
@@ -136,6 +151,7 @@ impl Job {
             revision: self.revision,
             base: self.base.copy(alloc)?,
             deltas: copies(alloc, self.deltas())?,
+            live: self.live,
             sources: self.sources.copy(alloc)?,
         })
     }
@@ -148,6 +164,9 @@ impl Job {
             return false;
         }
         if self.revision() != other.revision() {
+            return false;
+        }
+        if self.is_live() != other.is_live() {
             return false;
         }
         if !same_name(self.name(), other.name()) {

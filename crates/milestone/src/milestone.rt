@@ -1,5 +1,6 @@
 //! A document at a revision.
 ghost use Rattle.std.specs.Prelude.{◌≡◌, ◌≤◌, true};
+ghost use Rattle.revision.specs.Past.{is_content};
 ghost use Rattle.revision.specs.State.{last_of_all, are_sources};
 ghost use Rattle.milestone.specs.Milestone.{IsMilestone};
 
@@ -8,12 +9,14 @@ use revision::{Name, Sources};
 use std::marker::Model;
 
 /// A document at a revision, with its name and its sources there, seen as what a cell holds. The name has 1 to 64 characters, the
-/// revision is 1 to 2^53 - 1, and each source has a name of 1 to 32 characters and a window as one may have at the revision.
+/// revision is 1 to 2^53 - 1, nothing stands in a document that is deleted, and each source has a name of 1 to 32 characters and a window
+/// as one may have at the revision.
 #[derive(Drop)]
 pub struct Milestone {
     name: Name,
     revision: u64,
     document: Document,
+    live: bool,
     sources: Sources,
 }
 
@@ -38,18 +41,31 @@ pub struct MilestoneParts {
     pub name: Name,
     pub revision: u64,
     pub document: Document,
+    pub live: bool,
     pub sources: Sources,
 }
 
 impl Milestone {
-    /// The document of this name at a revision of 1 to 2^53 - 1, where its sources have windows as they may have there. It takes no
-    /// memory.
-    pub fn new(name: Name, revision: u64, document: Document, sources: Sources) -> Milestone
+    /// The document of this name at a revision of 1 to 2^53 - 1, live or deleted, where its sources have windows as they may have there.
+    /// It takes no memory.
+    pub fn new(
+        name: Name,
+        revision: u64,
+        document: Document,
+        live: bool,
+        sources: Sources,
+    ) -> Milestone
+        requires content { is_content (record { units = document; live = live }) ≡ true }
         requires first { 1 ≤ revision }
         requires last { revision ≤ last_of_all }
         requires sources { are_sources revision sources.entries ≡ true }
         ensures { result
-            ≡ record { name = name; revision = revision; content = record { units = document }; sources = sources } }
+            ≡ record {
+              name = name;
+              revision = revision;
+              content = record { units = document; live = live };
+              sources = sources;
+            } }
     {
         let _ = name.as_str();
         let _ = sources.entries();
@@ -57,6 +73,7 @@ impl Milestone {
             name,
             revision,
             document,
+            live,
             sources,
         }
     }
@@ -83,6 +100,14 @@ impl Milestone {
         &self.document
     }
 
+    /// Whether the document is live there; else it is deleted.
+    pub fn is_live(&self) -> bool
+        ensures live { result ≡ self.now.content.live }
+        ensures milestone { IsMilestone self.now }
+    {
+        self.live
+    }
+
     /// The document's sources at the revision.
     pub fn sources(&self) -> &Sources
         ensures sources { result.now ≡ self.now.sources }
@@ -98,6 +123,7 @@ impl Milestone {
               name = self.name;
               revision = self.revision;
               document = self.content.units;
+              live = self.content.live;
               sources =
                   self.sources;
             } }
@@ -106,6 +132,7 @@ impl Milestone {
             name: self.name,
             revision: self.revision,
             document: self.document,
+            live: self.live,
             sources: self.sources,
         }
     }

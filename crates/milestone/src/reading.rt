@@ -1,5 +1,5 @@
 //! Reading the body of a cell: each part of the spelling has one function, which answers what it read and the bytes behind it.
-ghost use Rattle.std.specs.Prelude.{◌≡◌, ◌+◌, ◌≤◌, ◌<◌, ◌^◌, ◌++◌, ◌∷◌, [], List, ℕ, true, length, OnOk, IfOk, IfErr, IfSome, IfNone};
+ghost use Rattle.std.specs.Prelude.{◌≡◌, ◌+◌, ◌≤◌, ◌<◌, ◌^◌, ◌++◌, ◌∷◌, [], List, ℕ, Bool, true, false, length, OnOk, OnErr, IfOk, IfErr, IfSome, IfNone};
 ghost use Rattle.std.specs.Int.{w32, w64};
 ghost use Rattle.std.specs.Ordering.{is_lt};
 ghost use Rattle.attributes.specs.Map.{by_bytes, insert};
@@ -7,14 +7,15 @@ ghost use Rattle.history.specs.Cell.{Cell};
 ghost use Rattle.journal.specs.Spelling as fields;
 ghost use Rattle.revision.specs.Name.{is_document_name, is_source_name};
 ghost use Rattle.revision.specs.Window.{longest, Window};
+ghost use Rattle.revision.specs.Past.{is_content};
 ghost use Rattle.revision.specs.State.{last_of_all};
 ghost use Rattle.milestone.specs.CellSpelling as spelling;
-ghost use Rattle.milestone.specs.CellSpelling.{IsCellIn, cell_body_in};
+ghost use Rattle.milestone.specs.CellSpelling.{IsCellIn, cell_body_in, spells_mark};
 ghost use Rattle.milestone.specs.steps.Reading.{BeginsNone, IsAbove, IsWithin, IsContent, content_bytes, IsCount, AreRevisions, revisions_bytes, IsWindowIn, IsSource, AreSources, sources_bytes};
 
 use crate::format::Format;
 use crate::milestone::Milestone;
-use crate::writing::IS_THERE;
+use crate::writing::{DELETED, LIVE};
 use document::Document;
 use journal::{read_delta, read_number32, read_number64, read_text16};
 use refusal::Refusal;
@@ -73,13 +74,14 @@ fn whole(alloc: Global, format: Format, number: u32, bytes: &[u8]) -> Result<Mil
     let rest = this_number(number, bytes)?;
     let (name, rest) = document_name(alloc, rest)?;
     let (revision, rest) = number_within(LAST_OF_ALL, rest)?;
-    let rest = marked(format, rest)?;
+    let (live, rest) = mark(format, rest)?;
     let (document, rest) = content(alloc, rest)?;
+    let (document, live) = marked(document, live)?;
     let (sources, rest) = sources(alloc, format, revision, rest)?;
     if !rest.is_empty() {
         return Err(Unread::Malformed);
     }
-    Ok(Milestone::new(name, revision, document, sources))
+    Ok(Milestone::new(name, revision, document, live, sources))
 }
 
 // A number of four bytes is below 2^32, and one of eight below 2^64.
@@ -150,19 +152,60 @@ fn byte(bytes: &[u8]) -> Option<(u8, &[u8])>
     }
 }
 
-// what stands behind the revision in this format
-fn marked(format: Format, bytes: &[u8]) -> Result<&[u8], Unread>
-    ensures found { IfOk result (λ rest. bytes.now ≡ spelling.mark format ++ rest.now) }
-    ensures none { IfErr result (λ e. e ≡ Unread.Malformed → (rest : List ℕ)
-        → bytes.now ≡ spelling.mark format ++ rest → ⊥) }
+// the mark behind the revision in this format: live or deleted
+fn mark(format: Format, bytes: &[u8]) -> Result<(bool, &[u8]), Unread>
+    ensures found { IfOk result (λ x. (spells_mark format x.0 ≡ true)
+        × (bytes.now ≡ spelling.mark format x.0 ++ x.1.now)) }
+    ensures none { IfErr result (λ e. e ≡ Unread.Malformed
+        → BeginsNone (spelling.mark format) (λ live. spells_mark format live ≡ true) bytes.now) }
 {
     match format {
-        Format::One => Ok(bytes),
-        Format::Two => match byte(bytes) {
-            Some((IS_THERE, rest)) => Ok(rest),
-            _ => Err(Unread::Malformed),
-        },
+        Format::One => Ok((true, bytes)),
+        Format::Two => mark_in_byte(bytes),
     }
+}
+
+// the mark as the second format spells it
+fn mark_in_byte(bytes: &[u8]) -> Result<(bool, &[u8]), Unread>
+    ensures found { IfOk result (λ x. (spells_mark Format.Two x.0 ≡ true)
+        × (bytes.now ≡ spelling.mark Format.Two x.0 ++ x.1.now)) }
+    ensures none { IfErr result (λ e. e ≡ Unread.Malformed
+        → BeginsNone (spelling.mark Format.Two) (λ live. spells_mark Format.Two live ≡ true) bytes.now) }
+{
+    let Some((read, rest)) = byte(bytes) else {
+        return Err(Unread::Malformed);
+    };
+    let Some(live) = mark_of(read) else {
+        return Err(Unread::Malformed);
+    };
+    Ok((live, rest))
+}
+
+// the mark that a byte stands for
+fn mark_of(byte: u8) -> Option<bool>
+    ensures found { IfSome result (λ live. byte ≡ spelling.mark_byte live) }
+    ensures none { IfNone result ((live : Bool) → byte ≡ spelling.mark_byte live → ⊥) }
+{
+    if byte == LIVE {
+        return Some(true);
+    }
+    if byte == DELETED {
+        return Some(false);
+    }
+    None
+}
+
+// a document with its mark: nothing stands in one that is deleted
+fn marked(document: Document, live: bool) -> Result<(Document, bool), Unread>
+    ensures same { IfOk result (λ x. x ≡ (document, live)) }
+    ensures content { OnOk result (is_content (record { units = document; live = live }) ≡ true) }
+    ensures none { OnErr result (is_content (record { units = document; live = live }) ≡ false) }
+    ensures only { IfErr result (λ e. e ≡ Unread.Malformed) }
+{
+    if !live && document.len16() > 0 {
+        return Err(Unread::Malformed);
+    }
+    Ok((document, live))
 }
 
 fn document_name(alloc: Global, bytes: &[u8]) -> Result<(Name, &[u8]), Unread>

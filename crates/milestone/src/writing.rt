@@ -15,8 +15,10 @@ use refusal::Refusal;
 use revision::{Name, Sources, Window};
 use std::alloc::{AllocError, Global};
 
-/// The byte behind a cell's revision that says that there is a document.
-pub(crate) const IS_THERE: u8 = 1;
+/// The byte behind a cell's revision where the document is deleted, and where it is live.
+pub(crate) const DELETED: u8 = 0;
+
+pub(crate) const LIVE: u8 = 1;
 
 /// What stands behind the gate of a cell of the document of this number: the body's length in four bytes, and the body.
 pub(crate) fn framed(alloc: Global, number: u32, milestone: &Milestone) -> Result<Vec<u8>, Refusal>
@@ -44,10 +46,16 @@ fn body_of(alloc: Global, number: u32, milestone: &Milestone) -> Result<Vec<u8>,
     write_number32(&mut out, number)?;
     write_name(&mut out, milestone.name())?;
     write_number64(&mut out, milestone.revision())?;
-    out.push(IS_THERE)?;
+    out.push(mark(milestone.is_live()))?;
     write_delta(&mut out, &content)?;
     write_sources(&mut out, milestone.sources())?;
     Ok(out)
+}
+
+fn mark(live: bool) -> u8
+    ensures { result ≡ spelling.mark_byte live }
+{
+    if live { LIVE } else { DELETED }
 }
 
 fn write_name(out: &mut Vec<u8>, name: &Name) -> Result<(), AllocError>

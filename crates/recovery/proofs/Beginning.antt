@@ -79,7 +79,7 @@ begun_store shape start content in_range begins is gate = record { laid_out = la
       table = empty_table shape;
       batches = [];
       order = record { start = start; taken = [] };
-      holds = record { laid_out = laid_out; spell = record { spelled = no_bodies shape; each = All-nil IsBatch } };
+      holds = record { laid_out = laid_out; spell = record { spelled = no_bodies shape; each = All-nil IsBatch }; entries = tt };
       limits = refl;
       runs = begins_with (limits_of shape) start begins.state begins.keep;
     }

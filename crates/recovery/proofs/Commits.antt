@@ -82,6 +82,7 @@ module _ {D : Type 0} {disk : Ghosts D} (store : Store D disk) (is_open : IsOpen
   parts_kept content now same held = record {
     laid_out = again content now same.count held;
     spell = record { spelled = same.bodies ∙ is_open.holds.spell.spelled; each = is_open.holds.spell.each };
+    entries = tt;
   }
 
   found_kept : (content : List ℕ) (now : List (Option Segment)) → SameBodies is_open.table now → HoldsInRing old store.ring now content → FoundAs content store.state
@@ -117,6 +118,7 @@ module _ {D : Type 0} {disk : Ghosts D} (store : Store D disk) (is_open : IsOpen
             spelled = bodies ∙ ap (λ (b : List (List ℕ)). b ++ batch commands ∷ []) is_open.holds.spell.spelled ∙ sym (map_push batch is_open.batches commands);
             each = All-append IsBatch is_open.batches (commands ∷ []) is_open.holds.spell.each (All-cons IsBatch commands [] is_batch (All-nil IsBatch));
           };
+          entries = tt;
         }
 
     -- the store runs on with it

@@ -171,7 +171,7 @@ empty_store shape content in_range is gate = record { laid_out = laid_out; found
       table = empty_table shape;
       batches = [];
       order = no_order;
-      holds = record { laid_out = laid_out; spell = record { spelled = no_bodies shape; each = All-nil IsBatch } };
+      holds = record { laid_out = laid_out; spell = record { spelled = no_bodies shape; each = All-nil IsBatch }; entries = tt };
       limits = refl;
       runs = begins_empty (limits_of shape) (are_limits shape in_range);
     }

@@ -10,7 +10,7 @@ use Rattle.delta.specs.Element.{Element}
 use Rattle.delta.specs.Operation.{Operation}
 use Rattle.delta.specs.Gaps.{End}
 use Rattle.delta.specs.Normal.{nf}
-use Rattle.revision.specs.Past.{sources_at}
+use Rattle.revision.specs.Past.{is_content, content_at, sources_at}
 use Rattle.revision.specs.Pending.{PendingDocument, record_of}
 use Rattle.revision.specs.State.{Limits, DocumentRecord, State, revision_of, are_sources}
 use Rattle.revision.specs.Invariants.{IsState}
@@ -73,6 +73,9 @@ module _ (state : State) (is_state : IsState state) (document revision highest :
   pub sources_here : are_sources revision (sources_at found.past revision).entries ≡ true
   sources_here = let here = held_here found highest revision none in ((is_state.each document found there).each revision here.1 here.2).sources
 
+  pub content_here : is_content (content_at found.past revision) ≡ true
+  content_here = let here = held_here found highest revision none in ((is_state.each document found there).each revision here.1 here.2).content
+
   one_job : (job : Job) → job.document ≡ document → cell_of_job job ≡ cell_of found revision → IsJobTo state.documents document revision job
   one_job job number is = let here = held_here found highest revision none in record {
     number = number;
@@ -96,6 +99,8 @@ module _ (state : State) (is_state : IsState state) (document revision highest :
           last = omega (arith, here.2, past.last);
           count = at.count;
           sources = at.sources;
+          content = at.content;
+          mark = at.mark;
           weight = at.weight;
         });
       }

@@ -34,6 +34,7 @@ pub mod Freed
 pub mod Upkeep
 pub mod Named
 pub mod Gathering
+mod Editing
 pub mod Documents
 pub mod Parts
 pub mod FoundOnce

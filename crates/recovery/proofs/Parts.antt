@@ -21,7 +21,7 @@ use Rattle.segments.specs.Order.{bodies_of, segments_of}
 use Rattle.recovery.specs.declared.shape.Shape.{Shape}
 use Rattle.milestone.specs.declared.format.Format.{Format}
 use Rattle.recovery.specs.Layout.{NamesIn, HoldsCellsIn, HoldsSlots}
-use Rattle.recovery.specs.Found.{FoundIn, HoldsPartsIn, SpellBatches, limits_in, commands_of}
+use Rattle.recovery.specs.Found.{FoundIn, AreEntriesIn, HoldsPartsIn, SpellBatches, limits_in, commands_of}
 use Rattle.recovery.specs.steps.Reading.{are_below, AreByDocument, SpellGroups, commands_in}
 use Rattle.recovery.proofs.Documents.{limits_in_range}
 use Rattle.recovery.proofs.FoundOnce.{slots_same, batches_same}
@@ -127,7 +127,7 @@ others-of number t others = by_test (t.document == number)
     by_test true is = absurd cc
     by_test false is = is
 
-all-below : (docs : ℕ) (entries : List Taken) → ((number : ℕ) → docs ≤ number → of_document number entries ≡ []) → are_below docs entries ≡ true
+pub all-below : (docs : ℕ) (entries : List Taken) → ((number : ℕ) → docs ≤ number → of_document number entries ≡ []) → are_below docs entries ≡ true
 all-below docs [] none = refl
 all-below docs (t ∷ others) none =
     and_from (nat_lt t.document docs) (are_below docs others)
@@ -166,6 +166,7 @@ pub record InGroups (format : Format) (content : List ℕ) (shape : Shape) (pick
   pub in_cells : HoldsCellsIn format content shape cells
   pub spell : SpellGroups (segments_of table) groups
   pub below : are_below shape.docs (commands_in groups) ≡ true
+  pub entries : AreEntriesIn format (commands_in groups)
   pub stand : StandFor (limits_in format shape) cells (commands_in groups) pick state
 
 pub in-groups : (format : Format) (content : List ℕ) (shape : Shape) (pick : Pick) (table : List (Option Segment)) (state : State) → NamesIn format content shape → HoldsSlots content shape table
@@ -184,6 +185,7 @@ in-groups format content shape pick table state names slots found =
       in_cells = here.holds.laid_out.in_cells;
       spell = groups.spell;
       below = stand-below (limits_in format shape) here.cells (commands_in groups.groups) pick state (limits_in_range format shape names.in_range) stand;
+      entries = subst (AreEntriesIn format) commands here.holds.entries;
       stand = stand;
     }
 

@@ -116,6 +116,7 @@ module _ {D : Type 0} {disk : Ghosts D} (store : Store D disk) (is_open : IsOpen
   parts_with content pair held = record {
     laid_out = laid_out_with store.shape number old content (outside_there content held.outside) is_open.cells is_open.table is_open.holds.laid_out inside pair (holds_there content pair held.holds);
     spell = is_open.holds.spell;
+    entries = tt;
   }
 
   found_with : (content : List ℕ) (pair : Pair) → HoldsInCells old one pair content → RunsAt pair → FoundAs content store.state

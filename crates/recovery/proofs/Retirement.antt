@@ -127,6 +127,7 @@ module _ {D : Type 0} {disk : Ghosts D} (store : Store D disk) (is_open : IsOpen
         record {
           laid_out = again store is_open content after (ap (λ (l : List (Option Segment)). length l) retired.is ∙ length-set is_open.table retired.slot None) held;
           spell = record { spelled = parts.left_spelled; each = parts.left_each };
+          entries = tt;
         }
 
     -- a crash leaves the state

@@ -11,8 +11,9 @@ use Rattle.attributes.specs.Map.{empty, insert}
 use Rattle.delta.specs.Operation.{insert_text}
 use Rattle.revision.specs.Spellable.{IsSpellable, IsOperation, IsPair, IsValue}
 use Rattle.revision.specs.Command.{Taken, IsTaken}
+use Rattle.revision.specs.declared.step.Step.TheVariants.{Edits}
 use Rattle.journal.specs.Spelling.{number, text16, text32}
-use Rattle.journal.specs.BatchSpelling.{IsBatch, created_name, entry, batch}
+use Rattle.journal.specs.BatchSpelling.{IsBatch, created_name, step_delta, entry, batch}
 use Rattle.journal.specs.DeltaSpelling.{value, pairs, operation, delta}
 use Rattle.revision.specs.State.{State, DocumentRecord, all_continue}
 use Rattle.revision.specs.Invariants.{NamesDiffer}
@@ -130,7 +131,7 @@ formatted_found pick = record {
   cells = no_pairs;
   table = None ∷ None ∷ [];
   batches = [];
-  holds = record { laid_out = formatted_laid_out; spell = record { spelled = refl; each = All-nil IsBatch } };
+  holds = record { laid_out = formatted_laid_out; spell = record { spelled = refl; each = All-nil IsBatch }; entries = tt };
   stand = record { same_limits = refl; count = lit≤ tt; each = none_stand pick; names = λ i j a b at_i at_j same. absurd cc };
 }
 
@@ -142,6 +143,7 @@ creation document name letter = record {
   revision = 1;
   source = 97 ∷ [];
   number = 1;
+  step = Edits;
   delta = insert_text (letter ∷ []) empty ∷ [];
 }
 
@@ -155,11 +157,11 @@ spelling document name letter =
     ∷ 1 ∷ 0 ∷ 0 ∷ 0 ∷ 1 ∷ 1 ∷ 0 ∷ 0 ∷ 0 ∷ letter ∷ 0 ∷ 0 ∷ 0 ∷ 0 ∷ []
 
 spelled_first : batch (creation 0 100 122 ∷ []) ≡ spelling 0 100 122
-unfolding number text16 text32 value pairs operation delta created_name entry batch utf16_chars encode_utf8
+unfolding number text16 text32 value pairs operation delta created_name step_delta entry batch utf16_chars encode_utf8
 spelled_first = refl
 
 spelled_second : batch (creation 1 101 120 ∷ []) ≡ spelling 1 101 120
-unfolding number text16 text32 value pairs operation delta created_name entry batch utf16_chars encode_utf8
+unfolding number text16 text32 value pairs operation delta created_name step_delta entry batch utf16_chars encode_utf8
 spelled_second = refl
 
 -- an open record of a body of 45 bytes
@@ -206,7 +208,7 @@ record_with name letter = record {
   name = name ∷ [];
   past = record {
     floor = 0;
-    content = record { units = [] };
+    content = record { units = []; live = true };
     sources = empty;
     changes = record { source = 97 ∷ []; number = 1; delta = insert_text (letter ∷ []) empty ∷ [] } ∷ [];
   };
@@ -259,6 +261,7 @@ created_found pick = record {
       spelled = ap (λ (b : List ℕ). b ∷ []) (sym spelled_first);
       each = All-cons IsBatch (creation 0 100 122 ∷ []) [] (is_batch 0 100 122 taken_first) (All-nil IsBatch);
     };
+    entries = tt;
   };
   stand = record { same_limits = refl; count = lit≤ tt; each = first_stands pick; names = one_name (record_with 100 122) };
 }
@@ -358,7 +361,7 @@ created_twice_found pick = record {
   cells = no_pairs;
   table = Some second_segment ∷ None ∷ [];
   batches = both_batches;
-  holds = record { laid_out = created_twice_laid_out; spell = record { spelled = both_spelled; each = both_are } };
+  holds = record { laid_out = created_twice_laid_out; spell = record { spelled = both_spelled; each = both_are }; entries = tt };
   stand = both_stand pick;
 }
 
@@ -411,6 +414,7 @@ turned_found pick = record {
       in_slots = slots_hold turned (Some newer_segment) (Some first_segment) turned_newer turned_older (two_differ (Some 2) (Some 1) (λ n is other. absurd cc));
     };
     spell = record { spelled = both_spelled; each = both_are };
+    entries = tt;
   };
   stand = both_stand pick;
 }

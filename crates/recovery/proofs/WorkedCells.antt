@@ -11,6 +11,7 @@ use Rattle.attributes.specs.Map.{empty, insert}
 use Rattle.delta.specs.Element.{letters}
 use Rattle.delta.specs.Operation.{insert_text, retain}
 use Rattle.revision.specs.Command.{Taken, IsTaken}
+use Rattle.revision.specs.declared.step.Step.TheVariants.{Edits}
 use Rattle.revision.specs.Sources.{with_taken}
 use Rattle.revision.specs.Spellable.{IsSpellable, IsOperation, IsPair, IsValue, IsNewValue}
 use Rattle.revision.specs.State.{State, DocumentRecord, all_continue}
@@ -36,7 +37,7 @@ ann = 97 ∷ []
 
 -- the document at a revision, which ann's command of that number made, with this text
 abbrev cell_at : ℕ → List ℕ → Cell
-cell_at revision text = record { name = 100 ∷ []; revision = revision; content = record { units = letters text empty }; sources = with_taken ann revision revision empty }
+cell_at revision text = record { name = 100 ∷ []; revision = revision; content = record { units = letters text empty; live = true }; sources = with_taken ann revision revision empty }
 
 abbrev first : Cell
 first = cell_at 1 (122 ∷ [])
@@ -73,7 +74,7 @@ second_spelled = refl
 
 -- the command that appends "x" to "z", and its batch of 55 bytes
 abbrev append_x : Taken
-append_x = record { document = 0; name = None; revision = 2; source = ann; number = 2; delta = retain 1 empty ∷ insert_text (120 ∷ []) empty ∷ [] }
+append_x = record { document = 0; name = None; revision = 2; source = ann; number = 2; step = Edits; delta = retain 1 empty ∷ insert_text (120 ∷ []) empty ∷ [] }
 
 abbrev batch_spelling : List ℕ
 batch_spelling =
@@ -84,7 +85,7 @@ batch_spelling =
     ∷ 1 ∷ 1 ∷ 0 ∷ 0 ∷ 0 ∷ 120 ∷ 0 ∷ 0 ∷ 0 ∷ 0 ∷ []
 
 batch_spelled : batches.batch (append_x ∷ []) ≡ batch_spelling
-unfolding number text16 text32 value new_value pair pairs operation delta batches.created_name batches.entry batches.batch utf16_chars encode_utf8
+unfolding number text16 text32 value new_value pair pairs operation delta batches.created_name batches.step_delta batches.entry batches.batch utf16_chars encode_utf8
 batch_spelled = refl
 
 abbrev segment : Segment
@@ -117,11 +118,13 @@ first_is = record {
     name = refl;
     first = lit≤ tt;
     last = lit≤ tt;
+    content = refl;
     sources = refl;
     named = refl;
   };
   content = spellable_first;
   count = lit< tt;
+  mark = refl;
   windows = refl;
 }
 
@@ -133,11 +136,13 @@ second_is = record {
     name = refl;
     first = lit≤ tt;
     last = lit≤ tt;
+    content = refl;
     sources = refl;
     named = refl;
   };
   content = second_spellable;
   count = lit< tt;
+  mark = refl;
   windows = refl;
 }
 
@@ -196,6 +201,7 @@ parts = record {
     spelled = ap (λ (b : List ℕ). b ∷ []) (sym batch_spelled);
     each = All-cons batches.IsBatch (append_x ∷ []) [] append_is_batch (All-nil batches.IsBatch);
   };
+  entries = tt;
 }
 
 -- by the newer cell: the document at revision 2, whose floor that is
@@ -207,7 +213,7 @@ newer = record { limits = limits_of small; documents = by_newer ∷ [] }
 
 newer_keeps : CellKeeps (limits_of small) second
 unfolding insert
-newer_keeps = record { first = lit≤ tt; last = lit≤ tt; count = lit≤ tt; sources = refl; weight = lit≤ tt }
+newer_keeps = record { first = lit≤ tt; last = lit≤ tt; count = lit≤ tt; sources = refl; content = refl; mark = refl; weight = lit≤ tt }
 
 newer_stands : (number : ℕ) → StandsFor (limits_of small) (picked Newer (cells_at cells number)) (of_document number (append_x ∷ [])) (slice_get newer.documents number)
 newer_stands zero = record { cell_keeps = newer_keeps; continue = refl; is = refl }
@@ -236,7 +242,7 @@ older = record { limits = limits_of small; documents = by_older ∷ [] }
 
 older_keeps : CellKeeps (limits_of small) first
 unfolding insert
-older_keeps = record { first = lit≤ tt; last = lit≤ tt; count = lit≤ tt; sources = refl; weight = lit≤ tt }
+older_keeps = record { first = lit≤ tt; last = lit≤ tt; count = lit≤ tt; sources = refl; content = refl; mark = refl; weight = lit≤ tt }
 
 older_continues : all_continue (limits_of small) (started (Some first)) (append_x ∷ []) ≡ true
 unfolding utf16_chars encode_utf8 changed_by insert

@@ -1,7 +1,7 @@
 -- Which parts the content of a device holds, and which state they stand for.
-use Rattle.std.specs.Prelude.{◌≡◌, ℕ, ◌-◌, Option, List, [], map, All}
+use Rattle.std.specs.Prelude.{◌≡◌, ℕ, ◌-◌, true, Option, List, [], map, All}
 use Rattle.std.specs.List.{flat_map}
-use Rattle.revision.specs.Command.{Taken}
+use Rattle.revision.specs.Command.{Taken, edits}
 use Rattle.revision.specs.State.{Limits, State}
 use Rattle.revision.specs.Agree.{Agree}
 use Rattle.journal.specs.BatchSpelling.{IsBatch, batch}
@@ -49,11 +49,17 @@ pub record SpellBatches (bodies : List (List ℕ)) (batches : List (List Taken))
   pub spelled : bodies ≡ map batch batches
   pub each : All IsBatch batches
 
+-- The entries that a format has: the first one has neither deletions nor creations of deleted documents.
+abbrev pub AreEntriesIn : Format → List Taken → Type 0
+AreEntriesIn One entries = All (λ taken. edits taken.step ≡ true) entries
+AreEntriesIn Two entries = Unit {0}
+
 -- What a content holds, by its bytes alone: a shape, two cells for each document number, and for each slot nothing or a segment,
--- whose bodies, the oldest segment's first, spell batches.
+-- whose bodies, the oldest segment's first, spell batches of entries that the format has.
 pub record HoldsPartsIn (format : Format) (content : List ℕ) (shape : Shape) (cells : List Pair) (table : List (Option Segment)) (batches : List (List Taken)) : Type 0 where
   pub laid_out : IsLaidOutIn format content shape cells table
   pub spell : SpellBatches (bodies_of table) batches
+  pub entries : AreEntriesIn format (commands_of batches)
 
 -- The state that the whole content of a device stands for, by a pick of the newer or the older cell of each document. Where a rule
 -- fails there is none.

@@ -5,7 +5,7 @@ ghost use Rattle.delta.specs.Element.{Element};
 ghost use Rattle.delta.specs.Operation.{Operation};
 ghost use Rattle.delta.specs.Gaps.{End};
 ghost use Rattle.delta.specs.Normal.{nf};
-ghost use Rattle.revision.specs.Past.{sources_at};
+ghost use Rattle.revision.specs.Past.{is_content, content_at, sources_at};
 ghost use Rattle.revision.specs.Pending.{record_of};
 ghost use Rattle.revision.specs.Replay.{IsReplay};
 ghost use Rattle.revision.specs.State.{are_sources, revision_of};
@@ -165,6 +165,7 @@ fn job_of(alloc: Global, document: u32, found: &DocState, revision: u64) -> Resu
     requires held { found.now.past.past.floor ≤ revision }
     requires there { revision ≤ revision_of (record_of found.now) }
     requires sources { are_sources revision (sources_at found.now.past.past revision).entries ≡ true }
+    requires content { is_content (content_at found.now.past.past revision) ≡ true }
     requires lengths { (units : List Element) (deltas : List (List Operation))
         → IsReplay found.now.past.past revision units deltas → KeepLengths (nf (End units)) deltas }
     ensures document { IfOk result (λ job. job.document ≡ document) }
@@ -180,5 +181,6 @@ fn job_of(alloc: Global, document: u32, found: &DocState, revision: u64) -> Resu
     let base = from.as_delta(alloc)?.share(alloc)?;
     let name = found.name().copy(alloc)?;
     let _ = found.revision();
-    Ok(Job::new(document, name, revision, base, deltas, sources))
+    let live = found.is_live();
+    Ok(Job::new(document, name, revision, base, deltas, live, sources))
 }

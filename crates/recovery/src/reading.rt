@@ -27,7 +27,7 @@ use crate::shape::Shape;
 use crate::superblock::{BODY_LEN, LETTERS_LEN, SUPERBLOCK_LEN, has_letters, read_superblock};
 use disk::Disk;
 use documents::{ReadDocuments, read_documents};
-use entries::{Gathered, gather};
+use entries::{Gathered, are_entries_in, gather};
 use gates::{is_open, read_at};
 use history::Pick;
 use milestone::{Cells, Format};
@@ -163,6 +163,9 @@ fn read_content<D: Disk>(
     let shape = read_shape(disk, format)?;
     let RecoveredRing { ring, segments } = read_slots(alloc, disk, &shape)?;
     let Gathered { lists, marks } = gather(alloc, shape.docs, &segments)?;
+    if !are_entries_in(format, lists.as_slice()) {
+        return Err(Refusal::Damaged);
+    }
     let ReadDocuments { state, cells } = read_documents(alloc, disk, format, &shape, pick, lists)?;
     Ok(RecoveredStore {
         shape,

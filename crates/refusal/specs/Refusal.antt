@@ -2,7 +2,7 @@
 use Rattle.std.specs.Prelude.{ℕ, List, ◌++◌, codes}
 use Rattle.std.specs.Fmt.{decimal}
 use Rattle.refusal.specs.declared.Refusal.{Refusal}
-use Rattle.refusal.specs.declared.Refusal.TheVariants.{BadLine, BadMessage, BadOps, TooManyOps, NoHello, NoDocument, Exists, BadName, Gap, OldNumber, TooManySources, Future, TooOld, PastEnd, CutsPair, TooHeavy, TooWide, RevisionsSpent, NothingToUndo, TooManyDocuments, StoreFailed, NoMemory, LineTooLong, NoSeat, NotFormatted, AlreadyFormatted, Damaged, BadShape, Fault, StillNeeded, Stranger, JournalFull, OldFormat, NotOld}
+use Rattle.refusal.specs.declared.Refusal.TheVariants.{BadLine, BadMessage, BadOps, TooManyOps, NoHello, NoDocument, Exists, BadName, Gap, OldNumber, TooManySources, Future, TooOld, PastEnd, CutsPair, TooHeavy, TooWide, RevisionsSpent, NothingToUndo, TooManyDocuments, StoreFailed, NoMemory, LineTooLong, NoSeat, NotFormatted, AlreadyFormatted, Damaged, BadShape, Fault, StillNeeded, Stranger, JournalFull, OldFormat, NotOld, Deleted}
 
 -- its number
 abbrev pub number_of : Refusal → ℕ
@@ -40,6 +40,7 @@ number_of Stranger = 36
 number_of JournalFull = 37
 number_of OldFormat = 38
 number_of NotOld = 39
+number_of Deleted = 40
 
 -- its name, as bytes
 abbrev pub name_of : Refusal → List ℕ
@@ -77,6 +78,7 @@ name_of Stranger = codes "Stranger"
 name_of JournalFull = codes "JournalFull"
 name_of OldFormat = codes "OldFormat"
 name_of NotOld = codes "NotOld"
+name_of Deleted = codes "Deleted"
 
 -- how it is printed, as `error 7 Exists`
 abbrev pub text_of : Refusal → List ℕ

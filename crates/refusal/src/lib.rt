@@ -108,10 +108,12 @@ pub enum Refusal {
     OldFormat = 38,
     /// The device has the second format already.
     NotOld = 39,
+    /// The document is deleted.
+    Deleted = 40,
 }
 
 impl Refusal {
-    /// The number, 1 to 39.
+    /// The number, 1 to 40.
     pub fn number(self) -> u8
         ensures { result ≡ number_of self }
     {
@@ -157,6 +159,7 @@ impl Refusal {
             Refusal::JournalFull => "JournalFull",
             Refusal::OldFormat => "OldFormat",
             Refusal::NotOld => "NotOld",
+            Refusal::Deleted => "Deleted",
         }
     }
 }

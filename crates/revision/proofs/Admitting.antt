@@ -9,10 +9,10 @@ use Rattle.delta.specs.Operation.{Operation}
 use Rattle.delta.specs.Places.{IsDefined}
 use Rattle.document.specs.Places.{Cuts}
 use Rattle.document.specs.Weight as document
-use Rattle.revision.specs.Acceptance.{Answer, answer, reply_and_state, TakenAt, take_on, Takes, Repeats, Refuses, change, create_new, next_revision, creation}
-use Rattle.revision.specs.Command.{Action, Create, Edit, Undo, Command, Taken, width_of}
+use Rattle.revision.specs.Acceptance.{Answer, answer, reply_and_state, TakenAt, take_on, take_within, Takes, Repeats, Refuses, change, create_new, create_next, delete_next, next_revision, creation}
+use Rattle.revision.specs.Command.{Action, Create, Edit, Undo, Delete, Command, Step, Edits, Deletes, Revives, Taken, name_width, step_width, width_of}
 use Rattle.revision.specs.Parting.{parts_pair}
-use Rattle.revision.specs.Planned.{IsAsked, Gives, PlanGrows, IsDecided, rests_on_delta, may_want_memory}
+use Rattle.revision.specs.Planned.{IsAsked, IsDeletion, Gives, PlanGrows, IsDecided, rests_on_delta, may_want_memory}
 use Rattle.revision.specs.declared.planning.Reply as replied
 use Rattle.revision.specs.declared.planning.Reply.TheVariants as replies
 use Rattle.revision.specs.declared.planning.Plan as program
@@ -22,9 +22,9 @@ use Rattle.std.proofs.lemmas.Bool.{false≢true, and_parts, leb-true, ltb-true, 
 use Rattle.attributes.specs.Map.{get, empty}
 use Rattle.revision.specs.Window.{Window, nothing_taken, last_revision}
 use Rattle.revision.specs.Sources.{Sources, window_of, with_taken}
-use Rattle.revision.specs.Past.{newest}
+use Rattle.revision.specs.Past.{Past, newest, units_after}
 use Rattle.revision.specs.Width.{delta_width}
-use Rattle.revision.specs.State.{Limits, DocumentRecord, State, grows, grown, find, revision_of, units_of, sources_of, is_window, are_sources, last_of_all, reaches_past, weight_of_sources, weight_after}
+use Rattle.revision.specs.State.{Limits, DocumentRecord, State, grows, grown, find, revision_of, units_of, sources_of, is_window, are_sources, last_of_all, is_mark_at, reaches_past, weight_of_sources, weight_after}
 use Rattle.revision.specs.Invariants.{IsPast, IsState}
 use Rattle.revision.proofs.Taking.{found_at, taken_grows}
 use Rattle.revision.proofs.Windows.{last-within}
@@ -40,6 +40,12 @@ pub last_within : (limits : Limits) (found : DocumentRecord) (source : List ℕ)
 last_within limits found source past =
     let are : are_sources (newest found.past) (sources_of found).entries ≡ true = (past.each (newest found.past) (omega arith) (omega arith)).sources in
     window_within (newest found.past) (get (sources_of found) source) (λ window is. sources-found (newest found.past) source (sources_of found).entries window are is)
+
+-- a document that is deleted has two revisions at least
+pub deleted_later : (limits : Limits) (past : Past) → IsPast limits past → past.content.live ≡ false → 2 ≤ newest past
+deleted_later limits past is deleted =
+    let here = (is.each (newest past) (omega arith) (omega arith)).mark in
+    leb-true 2 (newest past) (subst (λ live. is_mark_at live (newest past) ≡ true) deleted here)
 
 -- the past of a document that is found
 pub found_past : (state : State) (name : List ℕ) (number : ℕ) (found : DocumentRecord) → IsState state → find name 0 state.documents ≡ Some (number, found)
@@ -69,7 +75,7 @@ both_sums : (first beside sum of_units of_sources units sources : ℕ) → first
     → sum ≡ min (first + beside) (2 ^ 64 - 1) → units ≡ of_units → sources ≡ of_sources → sum ≡ min (units + sources) (2 ^ 64 - 1)
 both_sums first beside sum of_units of_sources units sources a b c d e = omega (arith, a, b, c, d, e)
 
-module _ (limits : Limits) (units : List Element) (sources : Sources) (asked : Taken) (source : List ℕ) (delta : List Operation) (width : ℕ) (is : IsAsked asked source delta width) where
+module _ (limits : Limits) (units : List Element) (sources : Sources) (asked : Taken) (source : List ℕ) (delta : List Operation) (width : ℕ) (is : IsAsked asked source units delta width) where
   -- what the document refuses
   pub refused_by : (e : Refusal) → (refused_with e ≡ refused_with PastEnd) ↔ (¬ (IsDefined units (counted delta)))
       → (refused_with e ≡ refused_with CutsPair) ↔ (IsDefined units (counted delta) × Cuts units (counted delta))
@@ -104,11 +110,11 @@ module _ (limits : Limits) (units : List Element) (sources : Sources) (asked : T
 
     after : sum ≡ min (weight_after limits units sources asked) (2 ^ 64 - 1)
     after =
-        let of_units : document.weight_of (apply units (counted asked.delta)) ≡ document.weight_of (apply units (counted delta)) = ap (λ d. document.weight_of (apply units (counted d))) is.delta in
+        let of_units : document.weight_of (units_after units asked.step asked.delta) ≡ document.weight_of (apply units (counted delta)) = ap document.weight_of is.after in
         let of_sources : weight_of_sources limits (with_taken asked.source asked.number asked.revision sources) ≡ weight_of_sources limits (with_taken source asked.number asked.revision sources) =
         ap (λ s. weight_of_sources limits (with_taken s asked.number asked.revision sources)) is.source in
         both_sums first beside sum (document.weight_of (apply units (counted delta))) (weight_of_sources limits (with_taken source asked.number asked.revision sources))
-        (document.weight_of (apply units (counted asked.delta))) (weight_of_sources limits (with_taken asked.source asked.number asked.revision sources))
+        (document.weight_of (units_after units asked.step asked.delta)) (weight_of_sources limits (with_taken asked.source asked.number asked.revision sources))
         ok (weighs asked.number asked.revision) plus of_units of_sources
 
     pub too_heavy : limits.weight < sum → take_on limits units sources asked ≡ Refuses TooHeavy
@@ -133,10 +139,10 @@ module _ (limits : Limits) (units : List Element) (sources : Sources) (asked : T
 -- what is answered to a change of a document, and to a creation, where the tests before have passed
 module _ (state : State) (command : Command) (delta : List Operation) (limits : Limits) (units : List Element) (sources : Sources) (same_limits : limits ≡ state.limits) where
   pub change_answers : (number : ℕ) (found : DocumentRecord) → units ≡ units_of found → sources ≡ sources_of found → (answer : Answer)
-      → (revision_of found == last_of_all) ≡ false → take_on limits units sources (next_revision number found command delta) ≡ answer
+      → (revision_of found == last_of_all) ≡ false → take_on limits units sources (next_revision number found command Edits delta) ≡ answer
       → change state number found command delta ≡ answer
   change_answers number found same_units same_sources answer fresh taken =
-      let asked = next_revision number found command delta in
+      let asked = next_revision number found command Edits delta in
       let same : take_on limits units sources asked ≡ take_on state.limits (units_of found) (sources_of found) asked =
       ap (λ l. take_on l units sources asked) same_limits
       ∙ (ap (λ u. take_on state.limits u sources asked) same_units ∙ ap (λ s. take_on state.limits (units_of found) s asked) same_sources) in
@@ -151,41 +157,120 @@ module _ (state : State) (command : Command) (delta : List Operation) (limits : 
       ∙ (ap (λ u. take_on state.limits u sources asked) same_units ∙ ap (λ s. take_on state.limits [] s asked) same_sources) in
       rw (first, room) (sym same ∙ taken)
 
+  pub next_answers : (number : ℕ) (found : DocumentRecord) → units ≡ [] → sources ≡ sources_of found → (answer : Answer)
+      → (revision_of found == last_of_all) ≡ false
+      → take_on limits units sources (next_revision number found command Revives delta) ≡ answer → create_next state number found command delta ≡ answer
+  next_answers number found same_units same_sources answer fresh taken =
+      let asked = next_revision number found command Revives delta in
+      let same : take_on limits units sources asked ≡ take_on state.limits [] (sources_of found) asked =
+      ap (λ l. take_on l units sources asked) same_limits
+      ∙ (ap (λ u. take_on state.limits u sources asked) same_units ∙ ap (λ s. take_on state.limits [] s asked) same_sources) in
+      rw fresh (sym same ∙ taken)
+
+-- what is answered to a deletion, where the tests before have passed
+pub deletion_answers : (state : State) (command : Command) (limits : Limits) (sources : Sources) → limits ≡ state.limits
+    → (number : ℕ) (found : DocumentRecord) → sources ≡ sources_of found → (answer : Answer)
+    → (revision_of found == last_of_all) ≡ false
+    → take_within limits (units_of found) sources (next_revision number found command Deletes []) ≡ answer → delete_next state number found command ≡ answer
+deletion_answers state command limits sources same_limits number found same_sources answer fresh taken =
+    let asked = next_revision number found command Deletes [] in
+    let same : take_within limits (units_of found) sources asked ≡ take_within state.limits (units_of found) (sources_of found) asked =
+    ap (λ l. take_within l (units_of found) sources asked) same_limits ∙ ap (λ s. take_within state.limits (units_of found) s asked) same_sources in
+    rw fresh (sym same ∙ taken)
+
+-- what is answered to a deletion where it is asked whether it is taken
+module _ (limits : Limits) (units : List Element) (sources : Sources) (asked : Taken) (source : List ℕ) (is : IsDeletion asked source) (beside : ℕ)
+    (weighs : (number revision : ℕ) → beside ≡ min (weight_of_sources limits (with_taken source number revision sources)) (2 ^ 64 - 1)) where
+  after_deletion : beside ≡ min (weight_after limits units sources asked) (2 ^ 64 - 1)
+  after_deletion =
+      let nothing : document.weight_of (units_after units asked.step asked.delta) ≡ 0 = ap (λ s. document.weight_of (units_after units s asked.delta)) is.step in
+      let of_sources : weight_of_sources limits (with_taken asked.source asked.number asked.revision sources) ≡ weight_of_sources limits (with_taken source asked.number asked.revision sources) =
+      ap (λ s. weight_of_sources limits (with_taken s asked.number asked.revision sources)) is.source in
+      omega (arith, weighs asked.number asked.revision, nothing, of_sources)
+
+  pub deletion_too_heavy : limits.weight < beside → take_within limits units sources asked ≡ Refuses TooHeavy
+  deletion_too_heavy more =
+      let heavy : nat_lt limits.weight (weight_after limits units sources asked) ≡ true = lt-ltb _ _ (omega (arith, more, after_deletion)) in
+      rw heavy refl
+
+  light_deletion : limits.weight < 2 ^ 32 → beside ≤ limits.weight → nat_lt limits.weight (weight_after limits units sources asked) ≡ false
+  light_deletion light within =
+      false_from_ne_true _ (λ heavy. absurd (omega (arith, within, after_deletion, light, ltb-true limits.weight (weight_after limits units sources asked) heavy)))
+
+  module _ (light : limits.weight < 2 ^ 32) (within : beside ≤ limits.weight) (bytes : ℕ) (wide : bytes ≡ 23 + length source + 0 + 0) where
+    bytes_are : width_of asked ≡ 23 + length source + 0 + 0
+    bytes_are = λ i. 23 + length (is.source i) + name_width (is.name i) + step_width (is.step i) asked.delta
+
+    pub deletion_too_wide : limits.width < bytes → take_within limits units sources asked ≡ Refuses TooWide
+    deletion_too_wide more =
+        let long : nat_lt limits.width (width_of asked) ≡ true = lt-ltb _ _ (omega (arith, more, wide, bytes_are)) in
+        rw (light_deletion light within, long) refl
+
+    pub deletion_admitted : bytes ≤ limits.width → limits.width < 2 ^ 32 → take_within limits units sources asked ≡ Takes asked
+    deletion_admitted narrow short =
+        let long : nat_lt limits.width (width_of asked) ≡ false =
+        false_from_ne_true _ (λ more. absurd (omega (arith, narrow, short, wide, bytes_are, ltb-true limits.width (width_of asked) more))) in
+        rw (light_deletion light within, long) refl
+
 -- what is answered to a change rests on its delta, where a revision is left
 either_rests : (b : Bool) (one other : Answer) → rests_on_delta one ≡ true → rests_on_delta other ≡ true → rests_on_delta (cond b one other) ≡ true
 either_rests true one other first second = first
 either_rests false one other first second = second
 
+take_within_rests : (limits : Limits) (units : List Element) (sources : Sources) (taken : Taken) → rests_on_delta (take_within limits units sources taken) ≡ true
+take_within_rests limits units sources taken =
+    either_rests (nat_lt limits.weight (weight_after limits units sources taken)) (Refuses TooHeavy) _ refl
+    (either_rests (nat_lt limits.width (width_of taken)) (Refuses TooWide) (Takes taken) refl refl)
+
 take_on_rests : (limits : Limits) (units : List Element) (sources : Sources) (taken : Taken) → rests_on_delta (take_on limits units sources taken) ≡ true
 take_on_rests limits units sources taken =
     either_rests (reaches_past taken.delta units) (Refuses PastEnd) _ refl
-    (either_rests (parts_pair taken.delta units) (Refuses CutsPair) _ refl
-    (either_rests (nat_lt limits.weight (weight_after limits units sources taken)) (Refuses TooHeavy) _ refl
-    (either_rests (nat_lt limits.width (width_of taken)) (Refuses TooWide) (Takes taken) refl refl)))
+    (either_rests (parts_pair taken.delta units) (Refuses CutsPair) _ refl (take_within_rests limits units sources taken))
 
 pub change_rests : (state : State) (number : ℕ) (found : DocumentRecord) (command : Command) (delta : List Operation) → (revision_of found == last_of_all) ≡ false
     → rests_on_delta (change state number found command delta) ≡ true
 change_rests state number found command delta fresh =
-    rw fresh (take_on_rests state.limits (units_of found) (sources_of found) (next_revision number found command delta))
+    rw fresh (take_on_rests state.limits (units_of found) (sources_of found) (next_revision number found command Edits delta))
 
-pub asked_next : (number : ℕ) (found : DocumentRecord) (command : Command) (delta : List Operation) (source : List ℕ) (width : ℕ) → source ≡ command.source
-    → width ≡ min (23 + length source + 0 + delta_width delta) (2 ^ 64 - 1) → IsAsked (next_revision number found command delta) source delta width
-asked_next number found command delta source width same wide =
-    record { source = sym same; delta = refl; width = wide ∙ ap (λ (s : List ℕ). min (23 + length s + 0 + delta_width delta) (2 ^ 64 - 1)) same }
-
-pub asked_new : (state : State) (command : Command) (delta : List Operation) (name source : List ℕ) (width : ℕ) → name ≡ command.name → source ≡ command.source
-    → width ≡ min (23 + length source + (2 + length name) + delta_width delta) (2 ^ 64 - 1) → IsAsked (creation state command delta) source delta width
-asked_new state command delta name source width same_name same wide = record {
+pub asked_next : (number : ℕ) (found : DocumentRecord) (command : Command) (units : List Element) (delta : List Operation) (source : List ℕ) (width : ℕ) → source ≡ command.source
+    → width ≡ min (23 + length source + 0 + delta_width delta) (2 ^ 64 - 1) → IsAsked (next_revision number found command Edits delta) source units delta width
+asked_next number found command units delta source width same wide = record {
   source = sym same;
   delta = refl;
+  after = refl;
+  width = wide ∙ ap (λ (s : List ℕ). min (23 + length s + 0 + delta_width delta) (2 ^ 64 - 1)) same;
+}
+
+-- on the empty document, as a deleted one is created again
+pub asked_again : (number : ℕ) (found : DocumentRecord) (command : Command) (units : List Element) (delta : List Operation) (source : List ℕ) (width : ℕ) → units ≡ []
+    → source ≡ command.source → width ≡ min (23 + length source + 0 + delta_width delta) (2 ^ 64 - 1)
+    → IsAsked (next_revision number found command Revives delta) source units delta width
+asked_again number found command units delta source width empty_units same wide = record {
+  source = sym same;
+  delta = refl;
+  after = ap (λ u. apply u (counted delta)) (sym empty_units);
+  width = wide ∙ ap (λ (s : List ℕ). min (23 + length s + 0 + delta_width delta) (2 ^ 64 - 1)) same;
+}
+
+pub asked_new : (state : State) (command : Command) (units : List Element) (delta : List Operation) (name source : List ℕ) (width : ℕ) → name ≡ command.name → source ≡ command.source
+    → width ≡ min (23 + length source + (2 + length name) + delta_width delta) (2 ^ 64 - 1) → IsAsked (creation state command delta) source units delta width
+asked_new state command units delta name source width same_name same wide = record {
+  source = sym same;
+  delta = refl;
+  after = refl;
   width = omega (arith, wide, ap length same, ap length same_name);
 }
 
-pub same_next : (number : ℕ) (found : DocumentRecord) (command : Command) (delta : List Operation) (revision given : ℕ) (source : List ℕ) (taken : Taken)
-    → taken ≡ record { document = number; name = None; revision = revision + 1; source = source; number = given; delta = delta }
-    → revision ≡ revision_of found → source ≡ command.source → given ≡ command.number → next_revision number found command delta ≡ taken
-same_next number found command delta revision given source taken is same_revision same_source same_number =
-    sym (is ∙ (λ i. record { document = number; name = None; revision = same_revision i + 1; source = same_source i; number = same_number i; delta = delta }))
+-- a deletion, as it is asked for
+pub asked_deletion : (number : ℕ) (found : DocumentRecord) (command : Command) (source : List ℕ) → source ≡ command.source
+    → IsDeletion (next_revision number found command Deletes []) source
+asked_deletion number found command source same = record { source = sym same; name = refl; step = refl }
+
+pub same_next : (number : ℕ) (found : DocumentRecord) (command : Command) (step : Step) (delta : List Operation) (revision given : ℕ) (source : List ℕ) (taken : Taken)
+    → taken ≡ record { document = number; name = None; revision = revision + 1; source = source; number = given; step = step; delta = delta }
+    → revision ≡ revision_of found → source ≡ command.source → given ≡ command.number → next_revision number found command step delta ≡ taken
+same_next number found command step delta revision given source taken is same_revision same_source same_number =
+    sym (is ∙ (λ i. record { document = number; name = None; revision = same_revision i + 1; source = same_source i; number = same_number i; step = step; delta = delta }))
 
 -- what is planned continues the state
 pub plan_grows : (state : State) (command : Command) (result : Result program.Plan Refusal) → 1 ≤ command.number → command.number < 2 ^ 53
@@ -195,10 +280,10 @@ plan_grows state command (Ok (plans.Again revision)) first last due = tt
 plan_grows state command (Err refusal) first last due = tt
 
 pub same_new : (state : State) (command : Command) (delta given : List Operation) (count : ℕ) (name source : List ℕ) (taken : Taken)
-    → taken ≡ record { document = count; name = Some name; revision = 1; source = source; number = 1; delta = given }
+    → taken ≡ record { document = count; name = Some name; revision = 1; source = source; number = 1; step = Edits; delta = given }
     → count ≡ length state.documents → name ≡ command.name → source ≡ command.source → given ≡ delta → creation state command delta ≡ taken
 same_new state command delta given count name source taken is same_count same_name same_source same_delta =
-    sym (is ∙ (λ i. record { document = same_count i; name = Some (same_name i); revision = 1; source = same_source i; number = 1; delta = same_delta i }))
+    sym (is ∙ (λ i. record { document = same_count i; name = Some (same_name i); revision = 1; source = same_source i; number = 1; step = Edits; delta = same_delta i }))
 
 -- what is decided: again, refused, taken, and where no memory was left to take it
 abbrev replied_with : replied.Reply → Result replied.Reply Refusal
@@ -236,6 +321,7 @@ taken_may_want : (action : Action) (taken : Taken) → may_want_memory action (T
 taken_may_want (Create delta) taken = refl
 taken_may_want (Edit base delta) taken = refl
 taken_may_want Undo taken = refl
+taken_may_want Delete taken = refl
 
 pub taken_without_memory : (state : State) (command : Command) (plan : program.Plan) (taken : Taken) → plan ≡ plans.Taken taken → Gives (Ok plan) (answer state command)
     → may_want_memory command.action (answer state command) ≡ true

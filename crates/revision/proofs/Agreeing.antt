@@ -2,10 +2,10 @@
 use Rattle.std.proofs.Common.{◌≡◌, ℕ, zero, suc, ◌+◌, ◌≤◌, max, Bool, true, false, cond, List, [], ◌∷◌, length, Option, Some, None, refl, sym, ap, subst, ◌∙◌, arith}
 use Rattle.std.specs.Prelude.{◌==◌, ◌&&◌, not, nat_lt, nat_le, is_none, bytes_eq, slice_get}
 use Rattle.delta.specs.Element.{Element}
-use Rattle.revision.specs.Command.{Taken}
-use Rattle.revision.specs.Sources.{Sources, window_of}
-use Rattle.revision.specs.Past.{Change, Past, newest, empty_past, from_floor, with_change}
-use Rattle.revision.specs.State.{Limits, DocumentRecord, State, revision_of, find, last_of_all, has_place, keeps, follows, begins, continues_by_name, change_of, record_by_name, record_after, has_room, grows, set_document, grown}
+use Rattle.revision.specs.Command.{Taken, Step, Edits, Deletes, Revives}
+use Rattle.revision.specs.Sources.{Sources, with_taken}
+use Rattle.revision.specs.Past.{Change, Past, suits, content_after, newest, newest_content, empty_past, from_floor, with_change, rebased, with_step}
+use Rattle.revision.specs.State.{Limits, DocumentRecord, State, revision_of, find, keeps, comes_next, follows, begins, continues_by_name, change_of, record_by_name, record_after, has_room, grows, set_document, grown}
 use Rattle.revision.specs.Agree.{DocumentsAgree, PlacesAgree, Agree, AgreeSame, AgreeTurned, AgreeThrough, AgreeingContinue, AgreeingGrow, floor_of}
 use Rattle.revision.proofs.Floors.{from-from, from-more}
 use Rattle.revision.specs.Floors.{longer}
@@ -91,6 +91,30 @@ module _ (keep : ℕ) (a b : DocumentRecord) (change : Change) (agree : Document
       ∙ (ap (λ (p : Past). from_floor (longer p change) floor) both
       ∙ sym (change-from_both keep b.past change low floor (omega arith) (omega (arith, agree.revision)) (omega (arith, over, other)) other)))
 
+-- documents of one name and one past agree
+documents-equal : (a b : DocumentRecord) → a.name ≡ b.name → a.past ≡ b.past → DocumentsAgree a b
+documents-equal a b name past = documents-agree a b name (ap newest past) (λ floor over other within. ap (λ (p : Past). from_floor p floor) past)
+
+-- a deletion and a creation again make one past of both
+module _ (a b : DocumentRecord) (step : Step) (change : Change) (agree : DocumentsAgree a b) where
+  documents-turned-after : DocumentsAgree (record a { past = rebased a.past (content_after (newest_content a.past) step change.delta) change })
+      (record b { past = rebased b.past (content_after (newest_content b.past) step change.delta) change })
+  documents-turned-after =
+      documents-equal (record a { past = rebased a.past (content_after (newest_content a.past) step change.delta) change })
+      (record b { past = rebased b.past (content_after (newest_content b.past) step change.delta) change }) agree.name
+      (λ i. record {
+        floor = agree.revision i + 1;
+        content = content_after (agree.content i) step change.delta;
+        sources = with_taken change.source change.number (agree.revision i + 1) (agree.sources i);
+        changes = [];
+      })
+
+pub documents-stepped : (keep : ℕ) (a b : DocumentRecord) (step : Step) (change : Change) → DocumentsAgree a b
+    → DocumentsAgree (record a { past = with_step keep a.past step change }) (record b { past = with_step keep b.past step change })
+documents-stepped keep a b Edits change agree = documents-after keep a b change agree
+documents-stepped keep a b Deletes change agree = documents-turned-after a b Deletes change agree
+documents-stepped keep a b Revives change agree = documents-turned-after a b Revives change agree
+
 -- place by place
 abbrev pub ListsAgree : List DocumentRecord → List DocumentRecord → Type 0
 ListsAgree xs ys = (number : ℕ) → PlacesAgree (slice_get xs number) (slice_get ys number)
@@ -150,22 +174,21 @@ lists-set (suc number) (Some a) (Some b) (first ∷ xs) (second ∷ ys) agree ea
 places-after : (keep : ℕ) (a b : Option DocumentRecord) (taken : Taken) (name : Option (List ℕ)) → PlacesAgree a b
     → PlacesAgree (record_by_name keep a taken name) (record_by_name keep b taken name)
 places-after keep None None taken None agree = tt
-places-after keep None None taken (Some name) agree = document-itself (record { name = name; past = with_change keep empty_past (change_of taken) })
+places-after keep None None taken (Some name) agree = document-itself (record { name = name; past = with_step keep empty_past taken.step (change_of taken) })
 places-after keep None (Some b) taken name agree = absurd agree
 places-after keep (Some a) None taken name agree = absurd agree
-places-after keep (Some a) (Some b) taken None agree = documents-after keep a b (change_of taken) agree
-places-after keep (Some a) (Some b) taken (Some name) agree = documents-after keep a b (change_of taken) agree
+places-after keep (Some a) (Some b) taken None agree = documents-stepped keep a b taken.step (change_of taken) agree
+places-after keep (Some a) (Some b) taken (Some name) agree = documents-stepped keep a b taken.step (change_of taken) agree
 
--- a change follows a document by the limits, its revision, its units and its sources
-follows_by : Limits → ℕ → List Element → Sources → Taken → Bool
-follows_by limits revision units sources taken =
-    (taken.revision == revision + 1) && not (revision == last_of_all)
-    && (taken.number == (window_of taken.source sources).number + 1) && nat_le taken.number last_of_all
-    && has_place limits taken.source sources && keeps limits units sources taken
+-- a command follows a document by the limits, its mark, its revision, its units and its sources
+follows_by : Limits → Bool → ℕ → List Element → Sources → Taken → Bool
+follows_by limits live revision units sources taken =
+    suits live taken.step && comes_next limits revision sources taken && keeps limits units sources taken
 
 follows-same : (l m : Limits) (a b : DocumentRecord) (taken : Taken) → l ≡ m → DocumentsAgree a b → follows l a taken ≡ follows m b taken
 unfolding follows_by
-follows-same l m a b taken limits agree = λ i. follows_by (limits i) (agree.revision i) (agree.content i).units (agree.sources i) taken
+follows-same l m a b taken limits agree =
+    λ i. follows_by (limits i) (agree.content i).live (agree.revision i) (agree.content i).units (agree.sources i) taken
 
 continues-same : (l m : Limits) (a b : Option DocumentRecord) (taken : Taken) (name : Option (List ℕ)) → l ≡ m → PlacesAgree a b
     → continues_by_name l a taken name ≡ continues_by_name m b taken name

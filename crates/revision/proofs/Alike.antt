@@ -3,17 +3,17 @@ use Rattle.std.proofs.Common.{◌≡◌, ◌⊎◌, inl, inr, ℕ, ◌+◌, ◌-
 use Rattle.std.specs.Prelude.{◌&&◌, ◌==◌, not, nat_lt, nat_le}
 use Rattle.std.proofs.lemmas.Bool.{ltb-false, leb-false, le-ltb, lt-leb, cases_lt}
 use Rattle.std.proofs.lemmas.List.{drop-map, length-map, drop_all}
-use Rattle.refusal.specs.declared.Refusal.TheVariants.{Exists, Gap, OldNumber, TooManySources, Future, TooOld, RevisionsSpent, NothingToUndo, TooManyDocuments}
+use Rattle.refusal.specs.declared.Refusal.TheVariants.{Exists, Gap, OldNumber, TooManySources, Future, TooOld, RevisionsSpent, NothingToUndo, TooManyDocuments, Deleted}
 use Rattle.attributes.specs.Map.{empty}
 use Rattle.delta.specs.Element.{Element}
 use Rattle.delta.specs.Operation.{Operation}
-use Rattle.revision.specs.Command.{Action, Create, Edit, Undo, Command}
+use Rattle.revision.specs.Command.{Action, Create, Edit, Undo, Delete, Command, Edits, Deletes, Revives}
 use Rattle.revision.specs.Window.{Window, revision_in, last_revision}
 use Rattle.revision.specs.Sources.{Sources, window_of}
 use Rattle.revision.specs.Late.{late}
-use Rattle.revision.specs.Past.{way_back_late, Change, newest, deltas_of, deltas_above, undo_of}
-use Rattle.revision.specs.State.{Limits, DocumentRecord, State, revision_of, sources_of, last_of_all, has_place}
-use Rattle.revision.specs.Acceptance.{Answer, Repeats, Refuses, take_on, create_existing, change, edit, undo, by_retry, by_number, answer_to}
+use Rattle.revision.specs.Past.{way_back_late, Content, Change, newest, deltas_of, deltas_above, undo_of}
+use Rattle.revision.specs.State.{Limits, DocumentRecord, State, revision_of, sources_of, is_live, last_of_all, has_place}
+use Rattle.revision.specs.Acceptance.{Answer, Repeats, Refuses, take_on, take_within, if_live, create_existing, revive, change, edit, undo, delete, by_retry, by_number, answer_to}
 use Rattle.revision.specs.Agree.{DocumentsAgree, Agree, AgreeingAnswer, AgreeingAnswerHeld, StandsOnHeld}
 use Rattle.revision.proofs.Agreeing.{FoundAgree, lists-found, lists-length}
 
@@ -35,6 +35,10 @@ alike-number window number x y alike =
     (alike-unless (nat_le number window.number) (Refuses OldNumber) _ _
     (alike-unless (nat_lt (window.number + 1) number) (Refuses Gap) _ _ alike))
 
+alike-live : (live : Bool) (x y : Answer) → Alike x y → Alike (cond live x (Refuses Deleted)) (cond live y (Refuses Deleted))
+alike-live true x y alike = alike
+alike-live false x y alike = inl refl
+
 -- where neither has let go of the revision they are equal
 alike-held : (old older : Bool) (x y : Answer) → (old ≡ false → older ≡ false → x ≡ y)
     → Alike (cond old (Refuses TooOld) x) (cond older (Refuses TooOld) y)
@@ -49,7 +53,20 @@ same-held old older x y a b same = λ i. cond ((a ∙ sym b) i) (Refuses TooOld)
 change_by : Limits → ℕ → ℕ → List Element → Sources → Command → List Operation → Answer
 change_by limits number revision units sources command delta =
     cond (revision == last_of_all) (Refuses RevisionsSpent)
-    (take_on limits units sources (record { document = number; name = None; revision = revision + 1; source = command.source; number = command.number; delta = delta }))
+    (take_on limits units sources (record { document = number; name = None; revision = revision + 1; source = command.source; number = command.number; step = Edits; delta = delta }))
+
+-- and so a creation again, and a deletion
+revive_by : Limits → ℕ → ℕ → Sources → Command → List Operation → Answer
+revive_by limits number revision sources command delta =
+    cond (not (has_place limits command.source sources)) (Refuses TooManySources)
+    (cond (revision == last_of_all) (Refuses RevisionsSpent)
+    (take_on limits [] sources (record { document = number; name = None; revision = revision + 1; source = command.source; number = command.number; step = Revives; delta = delta })))
+
+delete_by : Limits → ℕ → ℕ → List Element → Sources → Command → Answer
+delete_by limits number revision units sources command =
+    cond (not (has_place limits command.source sources)) (Refuses TooManySources)
+    (cond (revision == last_of_all) (Refuses RevisionsSpent)
+    (take_within limits units sources (record { document = number; name = None; revision = revision + 1; source = command.source; number = command.number; step = Deletes; delta = [] })))
 
 module _ (s t : State) (command : Command) (agree : Agree s t) where
   change-same : (n m : ℕ) (a b : DocumentRecord) (d e : List Operation) → n ≡ m → DocumentsAgree a b → d ≡ e
@@ -150,41 +167,61 @@ module _ (s t : State) (command : Command) (agree : Agree s t) where
         (same-held (nat_le (last_revision (window_of command.source (sources_of a))) a.past.floor) (nat_le (last_revision (window_of command.source (sources_of a))) b.past.floor) _ _
         (lt-leb _ _ over) (lt-leb _ _ here) (undo-rest (last_revision (window_of command.source (sources_of a))) over here)))
 
-    -- an action to the document that is found
-    existing-same : create_existing a command ≡ create_existing b command
-    existing-same =
-        let window = ap (window_of command.source) both.sources in
-        λ i. by_retry (revision_in command.number (window i)) (Refuses Exists)
+    -- both are live, or both are deleted
+    live-same : is_live a ≡ is_live b
+    live-same = ap (λ (c : Content). c.live) both.content
 
-    by-window : (x y : Answer) → Alike x y → Alike (by_number (window_of command.source (sources_of a)) command.number x) (by_number (window_of command.source (sources_of b)) command.number y)
+    revive-same : (delta : List Operation) → revive s n a command delta ≡ revive t m b command delta
+    unfolding revive_by
+    revive-same delta = λ i. revive_by (agree.limits i) (number i) (both.revision i) (both.sources i) command delta
+
+    delete-same : delete s n a command ≡ delete t m b command
+    unfolding delete_by
+    delete-same = λ i. delete_by (agree.limits i) (number i) (both.revision i) (both.content i).units (both.sources i) command
+
+    -- an action to the document that is found
+    existing-same : (delta : List Operation) → create_existing s n a command delta ≡ create_existing t m b command delta
+    existing-same delta =
+        let window = ap (window_of command.source) both.sources in
+        let again = revive-same delta in
+        λ i. cond (live-same i) (by_retry (revision_in command.number (window i)) (Refuses Exists)) (by_number (window i) command.number (again i))
+
+    live-alike : (x y : Answer) → Alike x y → Alike (if_live a x) (if_live b y)
+    live-alike x y alike = subst (λ live. Alike (if_live a x) (cond live y (Refuses Deleted))) live-same (alike-live (is_live a) x y alike)
+
+    by-window : (x y : Answer) → Alike x y
+        → Alike (by_number (window_of command.source (sources_of a)) command.number (if_live a x)) (by_number (window_of command.source (sources_of b)) command.number (if_live b y))
     by-window x y alike =
-        subst (λ window. Alike (by_number (window_of command.source (sources_of a)) command.number x) (by_number window command.number y)) (ap (window_of command.source) both.sources)
-        (alike-number (window_of command.source (sources_of a)) command.number x y alike)
+        subst (λ window. Alike (by_number (window_of command.source (sources_of a)) command.number (if_live a x)) (by_number window command.number (if_live b y))) (ap (window_of command.source) both.sources)
+        (alike-number (window_of command.source (sources_of a)) command.number (if_live a x) (if_live b y) (live-alike x y alike))
 
     found-alike : (action : Action) → Alike (answer_to s command action (Some (n, a))) (answer_to t command action (Some (m, b)))
-    found-alike (Create delta) = inl existing-same
+    found-alike (Create delta) = inl (existing-same delta)
     found-alike (Edit base delta) = by-window _ _ (edit-alike base delta)
     found-alike Undo = by-window _ _ undo-alike
+    found-alike Delete = by-window _ _ (inl delete-same)
+
+    by-window-same : (x y : Answer) → x ≡ y
+        → by_number (window_of command.source (sources_of a)) command.number (if_live a x) ≡ by_number (window_of command.source (sources_of b)) command.number (if_live b y)
+    by-window-same x y same =
+        let window = ap (window_of command.source) both.sources in
+        λ i. by_number (window i) command.number (cond (live-same i) (same i) (Refuses Deleted))
 
     found-held : (action : Action) → StandsOnHeld command.source action a b → answer_to s command action (Some (n, a)) ≡ answer_to t command action (Some (m, b))
-    found-held (Create delta) held = existing-same
-    found-held (Edit base delta) held =
-        let window = ap (window_of command.source) both.sources in
-        let same = edit-same base delta held.0 held.1 in
-        λ i. by_number (window i) command.number (same i)
-    found-held Undo held =
-        let window = ap (window_of command.source) both.sources in
-        let same = undo-held held.0 held.1 in
-        λ i. by_number (window i) command.number (same i)
+    found-held (Create delta) held = existing-same delta
+    found-held (Edit base delta) held = by-window-same _ _ (edit-same base delta held.0 held.1)
+    found-held Undo held = by-window-same _ _ (undo-held held.0 held.1)
+    found-held Delete held = by-window-same _ _ delete-same
 
   -- an action to a document that isn't there
   new-same : (action : Action) → answer_to s command action None ≡ answer_to t command action None
   new-same (Create delta) =
       let count = lists-length s.documents t.documents agree.documents in
       λ i. cond (nat_lt 1 command.number) (Refuses Gap) (cond (nat_le (agree.limits i).docs (count i)) (Refuses TooManyDocuments)
-      (take_on (agree.limits i) [] empty (record { document = count i; name = Some command.name; revision = 1; source = command.source; number = 1; delta = delta })))
+      (take_on (agree.limits i) [] empty (record { document = count i; name = Some command.name; revision = 1; source = command.source; number = 1; step = Edits; delta = delta })))
   new-same (Edit base delta) = refl
   new-same Undo = refl
+  new-same Delete = refl
 
   to-alike : (p q : Option (ℕ × DocumentRecord)) → FoundAgree p q → Alike (answer_to s command command.action p) (answer_to t command command.action q)
   to-alike None None found = inl (new-same command.action)

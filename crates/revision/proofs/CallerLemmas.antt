@@ -6,5 +6,5 @@ pub use Rattle.revision.proofs.Cutting.{cut_stays, cut_weighs}
 pub use Rattle.revision.proofs.Agreeing.{agrees, agree_turned, agree_through, agreeing_grow, agreeing_continue}
 pub use Rattle.revision.proofs.Alike.{agreeing_answer, agreeing_answer_held}
 pub use Rattle.revision.proofs.Keeping.{empty_is_state, growing_keeps, adopting_keeps, continuing_keeps}
-pub use Rattle.revision.proofs.Changing.{from_itself, from_twice, from_newest, from_longer, change_makes}
+pub use Rattle.revision.proofs.Changing.{from_itself, from_twice, from_newest, from_longer, step_makes}
 pub use Rattle.revision.proofs.Replays.{stand-take, stand-drop}

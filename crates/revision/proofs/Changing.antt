@@ -6,8 +6,9 @@ use Rattle.delta.specs.Gaps.{counted, apply}
 use Rattle.document.specs.Outcome.{IsAccepted}
 use Rattle.compose.specs.Many.{applied}
 use Rattle.revision.specs.Sources.{Sources, with_taken}
-use Rattle.revision.specs.Past.{StandInTurn, Change, Past, newest, deltas_of, sources_after, content_at, sources_at, from_floor, with_change}
-use Rattle.revision.specs.Floors.{longer, FromItself, FromTwice, FromNewest, FromLonger, ChangeMakes}
+use Rattle.revision.specs.Command.{Step, Edits, Deletes, Revives}
+use Rattle.revision.specs.Past.{StandInTurn, Content, Change, Past, content_after, newest, newest_content, newest_sources, deltas_of, sources_after, content_at, sources_at, from_floor, with_change, rebased, with_step}
+use Rattle.revision.specs.Floors.{longer, FromItself, FromTwice, FromNewest, FromLonger, StepMakes}
 use Rattle.revision.proofs.Floors.{newest-from, from-from, from-more}
 use Rattle.revision.proofs.Replays.{stand-drop}
 use Rattle.revision.proofs.Kept.{stand-more}
@@ -16,7 +17,7 @@ pub from_itself : FromItself
 from_itself past =
     λ i. record {
       floor = past.floor;
-      content = record { units = applied past.content.units (take (none i) (deltas_of past)) };
+      content = record { units = applied past.content.units (take (none i) (deltas_of past)); live = past.content.live };
       sources = sources_after past.floor past.sources (take (none i) past.changes);
       changes = drop (none i) past.changes;
     }
@@ -84,8 +85,8 @@ module _ (past : Past) (change : Change) where
       ∙ ap (with_taken change.source change.number (newest past + 1)) (sym (sources-newest past))))
 
   -- at the revisions before it holds what it held
-  pub units-before : (revision : ℕ) → past.floor ≤ revision → revision ≤ newest past → (content_at (longer past change) revision).units ≡ (content_at past revision).units
-  units-before revision above there = ap (λ (p : Past). p.content.units) (sym (from-more past revision above (change ∷ []) there))
+  pub content-before : (revision : ℕ) → past.floor ≤ revision → revision ≤ newest past → content_at (longer past change) revision ≡ content_at past revision
+  content-before revision above there = ap (λ (p : Past). p.content) (sym (from-more past revision above (change ∷ []) there))
 
   pub sources-before : (revision : ℕ) → past.floor ≤ revision → revision ≤ newest past → sources_at (longer past change) revision ≡ sources_at past revision
   sources-before revision above there = ap (λ (p : Past). p.sources) (sym (from-more past revision above (change ∷ []) there))
@@ -124,5 +125,32 @@ module _ (past : Past) (change : Change) where
     count-with_change some held =
         omega (arith, some, held, newest-longer, length-drop (max past.floor (newest past + 1 - keep) - past.floor) (longer past change).changes)
 
-pub change_makes : ChangeMakes
-change_makes keep past change = (newest-with_change past change keep, units-with_change past change keep, sources-with_change past change keep)
+-- what a step makes that is the lowest revision held from then on
+module _ (past : Past) (content : Content) (change : Change) where
+  none : newest past + 1 - (newest past + 1) ≡ 0
+  none = omega arith
+
+  pub newest-rebased : newest (rebased past content change) ≡ newest past + 1
+  newest-rebased = omega arith
+
+  pub content-rebased : content_at (rebased past content change) (newest past + 1) ≡ content
+  content-rebased = ap (λ n. record content { units = applied content.units (take n []) }) none
+
+  pub sources-rebased : sources_at (rebased past content change) (newest past + 1)
+      ≡ with_taken change.source change.number (newest past + 1) (newest_sources past)
+  sources-rebased =
+      ap (λ n. sources_after (newest past + 1) (with_taken change.source change.number (newest past + 1) (newest_sources past)) (take n [])) none
+
+-- an edit keeps the mark
+pub content-with_change : (keep : ℕ) (past : Past) (change : Change)
+    → content_at (with_change keep past change) (newest past + 1) ≡ content_after (newest_content past) Edits change.delta
+content-with_change keep past change = ap (λ u. record { units = u; live = past.content.live }) (units-with_change past change keep)
+
+pub step_makes : StepMakes
+step_makes keep past Edits change = (newest-with_change past change keep, content-with_change keep past change, sources-with_change past change keep)
+step_makes keep past Deletes change =
+    let content = content_after (newest_content past) Deletes change.delta in
+    (newest-rebased past content change, content-rebased past content change, sources-rebased past content change)
+step_makes keep past Revives change =
+    let content = content_after (newest_content past) Revives change.delta in
+    (newest-rebased past content change, content-rebased past content change, sources-rebased past content change)

@@ -1,5 +1,5 @@
 -- A past from a later floor on.
-use Rattle.std.proofs.Common.{◌≡◌, ℕ, zero, suc, ◌+◌, ◌-◌, ◌≤◌, max, List, [], ◌∷◌, ◌++◌, length, take, drop, map, length-append, refl, sym, ap, ◌∙◌, arith}
+use Rattle.std.proofs.Common.{◌≡◌, ℕ, zero, suc, ◌+◌, ◌-◌, ◌≤◌, max, Bool, List, [], ◌∷◌, ◌++◌, length, take, drop, map, length-append, refl, sym, ap, ◌∙◌, arith}
 use Rattle.std.proofs.Math.Seq.{take-nil}
 use Rattle.std.proofs.lemmas.List.{drop-map, take-map, drop-drop, take-append-le, drop-append-le, length-drop}
 use Rattle.delta.specs.Element.{Element}
@@ -7,7 +7,7 @@ use Rattle.delta.specs.Operation.{Operation}
 use Rattle.delta.specs.Gaps.{counted, apply}
 use Rattle.compose.specs.Many.{applied}
 use Rattle.revision.specs.Sources.{Sources, with_taken}
-use Rattle.revision.specs.Past.{Past, Change, newest, deltas_of, sources_after, content_at, deltas_above, from_floor, with_change, with_changes}
+use Rattle.revision.specs.Past.{Past, Change, newest, deltas_of, sources_after, content_at, deltas_above, from_floor, with_change}
 
 -- the first deltas and some of those after them
 pub applied-take : (a b : ℕ) (units : List Element) (deltas : List (List Operation)) → applied (applied units (take a deltas)) (take b (drop a deltas)) ≡ applied units (take (a + b) deltas)
@@ -38,10 +38,11 @@ sources-take (suc a) b revision sources (first ∷ others) =
     ∙ (sources-take a b (revision + 1) next others ∙ ap (λ n. sources_after revision sources (take n (first ∷ others))) sum)
 
 -- pasts with equal parts are equal
-past_is : (floor : ℕ) (units units' : List Element) (sources sources' : Sources) (changes changes' : List Change) → units ≡ units' → sources ≡ sources' → changes ≡ changes'
-    → ◌≡◌ {A = Past} (record { floor = floor; content = record { units = units }; sources = sources; changes = changes })
-    (record { floor = floor; content = record { units = units' }; sources = sources'; changes = changes' })
-past_is floor units units' sources sources' changes changes' u s c = λ i. record { floor = floor; content = record { units = u i }; sources = s i; changes = c i }
+past_is : (floor : ℕ) (live : Bool) (units units' : List Element) (sources sources' : Sources) (changes changes' : List Change) → units ≡ units' → sources ≡ sources' → changes ≡ changes'
+    → ◌≡◌ {A = Past} (record { floor = floor; content = record { units = units; live = live }; sources = sources; changes = changes })
+    (record { floor = floor; content = record { units = units'; live = live }; sources = sources'; changes = changes' })
+past_is floor live units units' sources sources' changes changes' u s c =
+    λ i. record { floor = floor; content = record { units = u i; live = live }; sources = s i; changes = c i }
 
 module _ (past : Past) (floor : ℕ) (above : past.floor ≤ floor) where
   pub newest-from : floor ≤ newest past → newest (from_floor past floor) ≡ newest past
@@ -55,7 +56,7 @@ module _ (past : Past) (floor : ℕ) (above : past.floor ≤ floor) where
       let sum : a + b ≡ higher - past.floor = omega (arith, above, le) in
       let place : floor ≡ past.floor + a = omega (arith, above) in
       let units = past.content.units in
-      past_is higher _ _ _ _ _ _
+      past_is higher past.content.live _ _ _ _ _ _
       (ap (λ l. applied (applied units (take a (deltas_of past))) (take b l)) (sym (drop-map (λ (c : Change). c.delta) a past.changes))
       ∙ (applied-take a b units (deltas_of past) ∙ ap (λ n. applied units (take n (deltas_of past))) sum))
       (ap (λ n. sources_after n (sources_after past.floor past.sources (take a past.changes)) (take b (drop a past.changes))) place
@@ -78,7 +79,7 @@ module _ (past : Past) (floor : ℕ) (above : past.floor ≤ floor) where
       let a : ℕ = floor - past.floor in
       let within : a ≤ length past.changes = omega (arith, above, there) in
       let delta : Change → List Operation = λ (c : Change). c.delta in
-      past_is floor _ _ _ _ _ _
+      past_is floor past.content.live _ _ _ _ _ _
       (ap (applied past.content.units) (take-map delta a past.changes ∙ (ap (map delta) (sym (take-append-le a past.changes more within)) ∙ sym (take-map delta a (past.changes ++ more)))))
       (ap (sources_after past.floor past.sources) (sym (take-append-le a past.changes more within)))
       (sym (drop-append-le a past.changes more within))
@@ -91,26 +92,3 @@ change-from keep past floor change above there =
     let higher : ℕ = max floor (newest (from_floor past floor) + 1 - keep) in
     ap (λ (p : Past). from_floor p higher) (from-more past floor above (change ∷ []) there)
     ∙ (from-from more floor above higher (omega arith) ∙ ap (λ n. from_floor more (max floor (n + 1 - keep))) (newest-from past floor above there))
-
-append-more : {A : Type 0} (xs : List A) (x : A) (ys : List A) → (xs ++ x ∷ []) ++ ys ≡ xs ++ x ∷ ys
-append-more [] x ys = refl
-append-more (y ∷ xs) x ys = ap (λ l. y ∷ l) (append-more xs x ys)
-
-append-none : {A : Type 0} (xs : List A) → xs ++ [] ≡ xs
-append-none [] = refl
-append-none (x ∷ xs) = ap (λ l. x ∷ l) (append-none xs)
-
--- several changes more, of which there is one at least
-pub changes-from : (keep : ℕ) (past : Past) (floor : ℕ) (first : Change) (others : List Change) → past.floor ≤ floor → floor ≤ newest past
-    → with_changes keep (from_floor past floor) (first ∷ others)
-    ≡ from_floor (record past { changes = past.changes ++ first ∷ others }) (max floor (newest past + length (first ∷ others) - keep))
-changes-from keep past floor first [] above there = change-from keep past floor first above there
-changes-from keep past floor first (second ∷ others) above there =
-    let more : Past = record past { changes = past.changes ++ first ∷ [] } in
-    let higher : ℕ = max floor (newest past + 1 - keep) in
-    let longer : newest more ≡ newest past + 1 = omega (arith, length-append past.changes (first ∷ [])) in
-    let top : max higher (newest more + length (second ∷ others) - keep) ≡ max floor (newest past + length (first ∷ second ∷ others) - keep) = omega (arith, longer) in
-    ap (λ (p : Past). with_changes keep p (second ∷ others)) (change-from keep past floor first above there)
-    ∙ (changes-from keep more higher second others (omega (arith, above)) (omega (arith, longer, there))
-    ∙ (ap (λ n. from_floor (record more { changes = more.changes ++ second ∷ others }) n) top
-    ∙ ap (λ l. from_floor (record past { changes = l }) (max floor (newest past + length (first ∷ second ∷ others) - keep))) (append-more past.changes first (second ∷ others))))

@@ -11,7 +11,7 @@ use Rattle.revision.proofs.KeptDocuments.{applied-parts}
 use Rattle.revision.proofs.Parts.{seen-deltas, above_floor, below_newest, document_is}
 
 -- a slice of the deltas from a place on
-pub slice-from : (n : ℕ) (xs : List (List Operation)) → take (length xs - n) (drop n xs) ≡ drop n xs
+pub slice-from : {A : Type 0} (n : ℕ) (xs : List A) → take (length xs - n) (drop n xs) ≡ drop n xs
 slice-from n xs = take_all (length xs - n) (drop n xs) (omega (arith, length-drop n xs))
 
 -- what is kept, from a revision on that is held

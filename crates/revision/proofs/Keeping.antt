@@ -1,5 +1,5 @@
 -- What each state is stays so, as commands continue it and as it adopts documents.
-use Rattle.std.proofs.Common.{◌≡◌, ◌⊎◌, inl, inr, ℕ, zero, suc, ◌+◌, ◌≤◌, ◌<◌, Bool, true, false, cond, List, [], ◌∷◌, ◌++◌, length, Option, Some, None, Less, Greater, Equal, refl, sym, ap, subst, ◌∙◌, ⊎_elim, length-append, arith}
+use Rattle.std.proofs.Common.{◌≡◌, ◌⊎◌, inl, inr, ℕ, zero, suc, ◌+◌, ◌≤◌, ◌<◌, ◌^◌, Bool, true, false, cond, List, [], ◌∷◌, ◌++◌, length, Option, Some, None, Less, Greater, Equal, refl, sym, ap, subst, ◌∙◌, ⊎_elim, length-append, true≢false, arith}
 use Rattle.std.specs.Prelude.{◌&&◌, ◌||◌, ◌==◌, not, nat_lt, nat_le, is_none, is_some, bytes_eq, slice_get, unwrap_or}
 use Rattle.std.specs.Cmp.Lexicographic.{nat_list_cmp_total}
 use Rattle.std.specs.Ordering.{eq_by_cmp}
@@ -12,17 +12,18 @@ use Rattle.delta.specs.Element.{Element}
 use Rattle.delta.specs.Gaps.{counted, apply, units_below}
 use Rattle.document.specs.Outcome.{IsAccepted}
 use Rattle.document.specs.Places.{Cuts}
-use Rattle.revision.specs.Command.{Taken, width_of}
+use Rattle.delta.specs.Operation.{Operation}
+use Rattle.revision.specs.Command.{Taken, Step, Edits, Deletes, Revives, edits, width_of}
 use Rattle.revision.specs.Window.{Window, nothing_taken, taken_as, taken_next}
 use Rattle.revision.specs.Sources.{Sources, window_of, count_of, with_taken}
 use Rattle.revision.specs.Parting.{parts_pair}
-use Rattle.revision.specs.Past.{StandInTurn, deltas_of, Content, Change, Past, empty_past, newest, content_at, sources_at, with_change}
-use Rattle.revision.specs.State.{Limits, DocumentRecord, State, grows, grown, all_grow, fold, revision_of, units_of, sources_of, find, last_of_all, reaches_past, weight_of, weight_after, has_place, keeps, begins, follows, continues_by_name, change_of, record_by_name, record_after, has_room, set_document, is_window, are_sources, adopts, record_at}
+use Rattle.revision.specs.Past.{StandInTurn, deltas_of, Content, is_content, suits, units_after, content_after, Change, Past, empty_past, newest, newest_content, newest_sources, content_at, sources_at, with_change, rebased, with_step}
+use Rattle.revision.specs.State.{Limits, DocumentRecord, State, grows, grown, all_grow, fold, revision_of, units_of, sources_of, is_live, find, last_of_all, reaches_past, weight_of, weight_after, has_place, stands_on, stands, stays_light, keeps, comes_next, begins, follows, continues_by_name, change_of, record_by_name, record_after, has_room, set_document, is_window, is_mark_at, are_sources, adopts, record_at}
 use Rattle.revision.specs.Invariants.{IsLimits, KeepsAt, IsPast, IsRecord, IsState, EmptyIsState, GrowingKeeps, AdoptingKeeps, ContinuingKeeps}
 use Rattle.revision.proofs.Room.{weight-some}
 use Rattle.revision.proofs.Told.{parts_told}
 use Rattle.revision.proofs.Windows.{window-later, stays_window, first-window}
-use Rattle.revision.proofs.Changing.{units-newest, sources-newest, newest-with_change, with_change-from, units-with_change, sources-with_change, units-before, sources-before, stand-with_change, count-with_change}
+use Rattle.revision.proofs.Changing.{units-newest, sources-newest, newest-with_change, with_change-from, units-with_change, sources-with_change, content-before, sources-before, stand-with_change, count-with_change}
 
 pub empty_is_state : EmptyIsState
 empty_is_state limits is = record {
@@ -46,6 +47,13 @@ six a b c d e f h =
     let fifth = and_parts (a && b && c && d) e last.0 in
     let first = four a b c d fifth.0 in
     (first.0, first.1, first.2, first.3, fifth.1, last.1)
+
+pub seven : (a b c d e f g : Bool) → (a && b && c && d && e && f && g) ≡ true
+    → (a ≡ true) × (b ≡ true) × (c ≡ true) × (d ≡ true) × (e ≡ true) × (f ≡ true) × (g ≡ true)
+seven a b c d e f g h =
+    let last = and_parts (a && b && c && d && e && f) g h in
+    let first = six a b c d e f last.0 in
+    (first.0, first.1, first.2, first.3, first.4, first.5, last.1)
 
 -- what sources have at a revision they may have at later ones
 sources-later : (revision later : ℕ) (entries : List (List ℕ × Window)) → revision ≤ later → are_sources revision entries ≡ true → are_sources later entries ≡ true
@@ -108,29 +116,66 @@ count-noted limits source number revision sources place held =
     by_entry None h = omega (arith, ltb-true (count_of sources) limits.sources h)
     by_entry (Some window) h = held
 
--- a delta that keeps the limits is accepted
-pub kept-accepted : (limits : Limits) (units : List Element) (sources : Sources) (taken : Taken) → IsLimits limits → keeps limits units sources taken ≡ true
-    → IsAccepted units (counted taken.delta) × (weight_after limits units sources taken ≤ limits.weight)
-kept-accepted limits units sources taken is h =
-    let parts = four (not (reaches_past taken.delta units)) (not (parts_pair taken.delta units)) (nat_le (weight_after limits units sources taken) limits.weight)
-    (nat_le (width_of taken) limits.width) h in
-    let there : units_below (counted taken.delta) ≤ length units = ltb-false _ _ (not-true _ parts.0) in
-    let light : weight_after limits units sources taken ≤ limits.weight = leb-true _ _ parts.2 in
-    let whole : ¬ (Cuts units (counted taken.delta)) =
-    λ cut. both_ways (parts_pair taken.delta units) (not-true _ parts.1) ((parts_told taken.delta units).1 cut) in
-    ((there, whole, omega (arith, light, is.weight, weight-some (apply units (counted taken.delta)))), light)
+-- what a command keeps: its delta stands where it has to, and what it leaves is light
+pub kept-light : (limits : Limits) (units : List Element) (sources : Sources) (taken : Taken) → keeps limits units sources taken ≡ true
+    → (stands taken.step taken.delta units ≡ true) × (weight_after limits units sources taken ≤ limits.weight)
+kept-light limits units sources taken h =
+    let first = and_parts (stays_light limits units sources taken) (nat_le (width_of taken) limits.width) h in
+    let light = and_parts (stands taken.step taken.delta units) (nat_le (weight_after limits units sources taken) limits.weight) first.0 in
+    (light.0, leb-true _ _ light.1)
+
+-- a delta that stands on units is accepted where what it leaves is short
+pub stands-accepted : (delta : List Operation) (units : List Element) → stands_on delta units ≡ true → length (apply units (counted delta)) ≤ 2 ^ 29
+    → IsAccepted units (counted delta)
+stands-accepted delta units h short =
+    let parts = and_parts (not (reaches_past delta units)) (not (parts_pair delta units)) h in
+    let there : units_below (counted delta) ≤ length units = ltb-false _ _ (not-true _ parts.0) in
+    let whole : ¬ (Cuts units (counted delta)) =
+    λ cut. both_ways (parts_pair delta units) (not-true _ parts.1) ((parts_told delta units).1 cut) in
+    (there, whole, omega (arith, short))
+
+-- an edit that keeps the limits is accepted
+pub kept-accepted : (limits : Limits) (units : List Element) (sources : Sources) (taken : Taken) → IsLimits limits → taken.step ≡ Edits
+    → keeps limits units sources taken ≡ true
+    → IsAccepted units (counted taken.delta)
+    × (weight_of limits (apply units (counted taken.delta)) (with_taken taken.source taken.number taken.revision sources) ≤ limits.weight)
+kept-accepted limits units sources taken is edit h =
+    let kept = kept-light limits units sources taken h in
+    let stand : stands_on taken.delta units ≡ true = subst (λ st. stands st taken.delta units ≡ true) edit kept.0 in
+    let light : weight_of limits (apply units (counted taken.delta)) (with_taken taken.source taken.number taken.revision sources) ≤ limits.weight =
+    subst (λ st. weight_of limits (units_after units st taken.delta) (with_taken taken.source taken.number taken.revision sources) ≤ limits.weight) edit kept.1 in
+    (stands-accepted taken.delta units stand (omega (arith, light, is.weight, weight-some (apply units (counted taken.delta)))), light)
+
+pub edits-is : (step : Step) → edits step ≡ true → step ≡ Edits
+edits-is Edits h = refl
+edits-is Deletes h = absurd (true≢false (sym h))
+edits-is Revives h = absurd (true≢false (sym h))
+
+-- the parts of what makes a command the next one
+pub next_parts : (limits : Limits) (revision : ℕ) (sources : Sources) (taken : Taken) → comes_next limits revision sources taken ≡ true
+    → ((taken.revision == revision + 1) ≡ true) × (not (revision == last_of_all) ≡ true)
+    × ((taken.number == (window_of taken.source sources).number + 1) ≡ true) × (nat_le taken.number last_of_all ≡ true)
+    × (has_place limits taken.source sources ≡ true)
+next_parts limits revision sources taken h =
+    let last = and_parts ((taken.revision == revision + 1) && not (revision == last_of_all)
+    && (taken.number == (window_of taken.source sources).number + 1) && nat_le taken.number last_of_all) (has_place limits taken.source sources) h in
+    let first = four (taken.revision == revision + 1) (not (revision == last_of_all)) (taken.number == (window_of taken.source sources).number + 1)
+    (nat_le taken.number last_of_all) last.0 in
+    (first.0, first.1, first.2, first.3, last.1)
 
 -- what is kept at a revision comes of what is held there
-pub keeps-same : (limits : Limits) (a b : Past) (revision : ℕ) → (content_at b revision).units ≡ (content_at a revision).units → sources_at b revision ≡ sources_at a revision
+pub keeps-same : (limits : Limits) (a b : Past) (revision : ℕ) → content_at b revision ≡ content_at a revision → sources_at b revision ≡ sources_at a revision
     → KeepsAt limits a revision → KeepsAt limits b revision
-keeps-same limits a b revision units sources kept = record {
-  weight = subst (λ u. weight_of limits u (sources_at b revision) ≤ limits.weight) (sym units)
+keeps-same limits a b revision content sources kept = record {
+  weight = subst (λ (c : Content). weight_of limits c.units (sources_at b revision) ≤ limits.weight) (sym content)
       (subst (λ s. weight_of limits (content_at a revision).units s ≤ limits.weight) (sym sources) kept.weight);
   count = subst (λ s. count_of s ≤ limits.sources) (sym sources) kept.count;
   sources = subst (λ (s : Sources). are_sources revision s.entries ≡ true) (sym sources) kept.sources;
+  content = subst (λ (c : Content). is_content c ≡ true) (sym content) kept.content;
+  mark = subst (λ (c : Content). is_mark_at c.live revision ≡ true) (sym content) kept.mark;
 }
 
--- A change that keeps the limits, with its source's next number, makes of a past one that keeps them.
+-- An edit of a live document that keeps the limits, with its source's next number, makes of a past one that keeps them.
 module _ (limits : Limits) (past : Past) (taken : Taken) (is : IsLimits limits)
     (stand : StandInTurn past.content.units (deltas_of past))
     (count : length past.changes ≤ limits.keep) (last : newest past + 1 ≤ last_of_all)
@@ -138,6 +183,7 @@ module _ (limits : Limits) (past : Past) (taken : Taken) (is : IsLimits limits)
     (next : taken.revision ≡ newest past + 1) (following : taken.number ≡ (window_of taken.source (sources_at past (newest past))).number + 1)
     (bound : taken.number ≤ last_of_all)
     (place : has_place limits taken.source (sources_at past (newest past)) ≡ true)
+    (edit : taken.step ≡ Edits) (live : past.content.live ≡ true)
     (kept : keeps limits (content_at past (newest past)).units (sources_at past (newest past)) taken ≡ true) where
   change : Change
   change = change_of taken
@@ -148,7 +194,7 @@ module _ (limits : Limits) (past : Past) (taken : Taken) (is : IsLimits limits)
       let units = units-with_change past (change_of taken) limits.keep in
       let sources = sources-with_change past (change_of taken) limits.keep in
       let before = sources_at past (newest past) in
-      let light = (kept-accepted limits (content_at past (newest past)).units before taken is kept).1 in
+      let light = (kept-accepted limits (content_at past (newest past)).units before taken is edit kept).1 in
       let weight : weight_of limits (apply (content_at past (newest past)).units (counted taken.delta)) (with_taken taken.source taken.number (newest past + 1) before) ≤ limits.weight =
       subst (λ r. weight_of limits (apply (content_at past (newest past)).units (counted taken.delta)) (with_taken taken.source taken.number r before) ≤ limits.weight) next light in
       record {
@@ -157,6 +203,8 @@ module _ (limits : Limits) (past : Past) (taken : Taken) (is : IsLimits limits)
         count = subst (λ s. count_of s ≤ limits.sources) (sym sources) (count-noted limits taken.source taken.number (newest past + 1) before place here.count);
         sources = subst (λ (s : Sources). are_sources (newest past + 1) s.entries ≡ true) (sym sources)
             (sources-noted (newest past) (newest past + 1) taken.number taken.source before (omega arith) following bound here.sources);
+        content = ap (λ b. b || (length (content_at (with_change limits.keep past (change_of taken)) (newest past + 1)).units == 0)) live;
+        mark = ap (λ b. b || nat_le 2 (newest past + 1)) live;
       }
 
   keeps-each : (revision : ℕ) → (with_change limits.keep past (change_of taken)).floor ≤ revision → revision ≤ newest (with_change limits.keep past (change_of taken))
@@ -169,7 +217,7 @@ module _ (limits : Limits) (past : Past) (taken : Taken) (is : IsLimits limits)
       let held : revision ≤ newest past = omega (arith, below) in
       let above : past.floor ≤ revision = omega (arith, risen) in
       keeps-same limits past (with_change limits.keep past (change_of taken)) revision
-      (ap (λ (p : Past). p.content.units) from ∙ units-before past (change_of taken) revision above held)
+      (ap (λ (p : Past). p.content) from ∙ content-before past (change_of taken) revision above held)
       (ap (λ (p : Past). p.sources) from ∙ sources-before past (change_of taken) revision above held)
       (each revision above held))
       (λ (top : newest past + 1 ≤ revision).
@@ -181,42 +229,112 @@ module _ (limits : Limits) (past : Past) (taken : Taken) (is : IsLimits limits)
   past-after =
       let number = newest-with_change past (change_of taken) limits.keep in
       record {
-        stand = stand-with_change past (change_of taken) limits.keep stand (kept-accepted limits (content_at past (newest past)).units (sources_at past (newest past)) taken is kept).0;
+        stand = stand-with_change past (change_of taken) limits.keep stand (kept-accepted limits (content_at past (newest past)).units (sources_at past (newest past)) taken is edit kept).0;
         count = count-with_change past (change_of taken) limits.keep is.some_revision count;
         first = omega (arith, number);
         last = omega (arith, number, last);
         each = keeps-each;
       }
 
+-- a document that is adopted keeps the limits
+adopted-past : (limits : Limits) (content : Content) (revision : ℕ) (sources : Sources) → is_content content ≡ true → is_mark_at content.live revision ≡ true → 1 ≤ revision → revision ≤ last_of_all
+    → count_of sources ≤ limits.sources → are_sources revision sources.entries ≡ true → weight_of limits content.units sources ≤ limits.weight
+    → IsPast limits (record { floor = revision; content = content; sources = sources; changes = [] })
+adopted-past limits content revision sources may mark some bound count are light =
+    let past : Past = record { floor = revision; content = content; sources = sources; changes = [] } in
+    let none : newest past ≡ revision = omega arith in
+    let here : KeepsAt limits past (newest past) = record {
+      weight = subst (λ u. weight_of limits u (sources_at past (newest past)) ≤ limits.weight) (sym (units-newest past))
+          (subst (λ s. weight_of limits content.units s ≤ limits.weight) (sym (sources-newest past)) light);
+      count = subst (λ s. count_of s ≤ limits.sources) (sym (sources-newest past)) count;
+      sources = subst (λ (s : Sources). are_sources (newest past) s.entries ≡ true) (sym (sources-newest past)) (sources-later revision (newest past) sources.entries (omega arith) are);
+      content = subst (λ u. is_content (record { units = u; live = content.live }) ≡ true) (sym (units-newest past)) may;
+      mark = subst (λ r. is_mark_at content.live r ≡ true) (sym none) mark;
+    } in
+    record {
+      stand = tt;
+      count = omega arith;
+      first = omega (arith, some);
+      last = omega (arith, bound);
+      each = λ place above there. subst (KeepsAt limits past) (omega (arith, above, there)) here;
+    }
+
 -- the past that a creation makes
-begun-past : (limits : Limits) (taken : Taken) → IsLimits limits → begins limits taken ≡ true → IsPast limits (with_change limits.keep empty_past (change_of taken))
+begun-past : (limits : Limits) (taken : Taken) → IsLimits limits → begins limits taken ≡ true
+    → IsPast limits (with_step limits.keep empty_past taken.step (change_of taken))
 begun-past limits taken is h =
-    let last = and_parts ((taken.revision == 1) && (taken.number == 1)) (keeps limits [] empty taken) h in
-    let numbers = and_parts (taken.revision == 1) (taken.number == 1) last.0 in
-    let one : taken.number ≡ 1 = eqb-true _ _ numbers.1 in
-    past-after limits empty_past taken is tt (omega (arith, is.some_revision)) (omega arith) nothing (eqb-true _ _ numbers.0) (omega (arith, one)) (omega (arith, one))
-    (free limits is) last.1
+    let parts = four (edits taken.step) (taken.revision == 1) (taken.number == 1) (keeps limits [] empty taken) h in
+    let one : taken.number ≡ 1 = eqb-true _ _ parts.2 in
+    let edit : taken.step ≡ Edits = edits-is taken.step parts.0 in
+    subst (λ st. IsPast limits (with_step limits.keep empty_past st (change_of taken))) (sym edit)
+    (past-after limits empty_past taken is tt (omega (arith, is.some_revision)) (omega arith) nothing (eqb-true _ _ parts.1) (omega (arith, one)) (omega (arith, one))
+    (free limits is) edit refl parts.3)
   where
     nothing : (revision : ℕ) → 0 ≤ revision → revision ≤ newest empty_past → KeepsAt limits empty_past revision
-    nothing zero above there = record { weight = omega arith; count = omega arith; sources = refl }
+    nothing zero above there = record { weight = omega arith; count = omega arith; sources = refl; content = refl; mark = refl }
     nothing (suc revision) above there = absurd (omega (arith, there))
 
     free : (limits : Limits) → IsLimits limits → has_place limits taken.source (sources_at empty_past (newest empty_past)) ≡ true
     free limits is = lt-ltb 0 limits.sources (omega (arith, is.some_source))
 
+-- from revision 2 on a document may be deleted
+is_later : (live : Bool) (revision : ℕ) → 2 ≤ revision → is_mark_at live revision ≡ true
+is_later true revision le = refl
+is_later false revision le = le-leb 2 revision le
+
+-- the past that a deletion or a creation again makes
+turned-past : (limits : Limits) (past : Past) (taken : Taken) (content : Content) → IsPast limits past
+    → comes_next limits (newest past) (newest_sources past) taken ≡ true → newest past + 1 ≤ last_of_all → is_content content ≡ true
+    → weight_of limits content.units (with_taken taken.source taken.number taken.revision (newest_sources past)) ≤ limits.weight
+    → IsPast limits (rebased past content (change_of taken))
+turned-past limits past taken content is next bound may light =
+    let parts = next_parts limits (newest past) (newest_sources past) taken next in
+    let here = is.each (newest past) (omega arith) (omega arith) in
+    let revision : taken.revision ≡ newest past + 1 = eqb-true _ _ parts.0 in
+    let number : taken.number ≡ (window_of taken.source (newest_sources past)).number + 1 = eqb-true _ _ parts.2 in
+    let later : is_mark_at content.live (newest past + 1) ≡ true = is_later content.live (newest past + 1) (omega (arith, is.first)) in
+    adopted-past limits content (newest past + 1) (with_taken taken.source taken.number (newest past + 1) (newest_sources past)) may later (omega arith) bound
+    (count-noted limits taken.source taken.number (newest past + 1) (newest_sources past) parts.4 here.count)
+    (sources-noted (newest past) (newest past + 1) taken.number taken.source (newest_sources past) (omega arith) number (leb-true _ _ parts.3) here.sources)
+    (subst (λ r. weight_of limits content.units (with_taken taken.source taken.number r (newest_sources past)) ≤ limits.weight) revision light)
+
+below : (revision : ℕ) → revision ≤ last_of_all → (revision == last_of_all) ≡ false → revision + 1 ≤ last_of_all
+below revision le other = ⊎_elim (λ (h : revision < last_of_all). omega (arith, h)) (λ (h : last_of_all ≤ revision). absurd (eqb-false revision last_of_all other (omega (arith, le, h))))
+    (cases_lt revision last_of_all)
+
 followed-past : (limits : Limits) (found : DocumentRecord) (taken : Taken) → IsLimits limits → IsPast limits found.past → follows limits found taken ≡ true
-    → IsPast limits (with_change limits.keep found.past (change_of taken))
-followed-past limits found taken is past h =
-    let parts = six (taken.revision == revision_of found + 1) (not (revision_of found == last_of_all))
-    (taken.number == (window_of taken.source (sources_of found)).number + 1) (nat_le taken.number last_of_all)
-    (has_place limits taken.source (sources_of found)) (keeps limits (units_of found) (sources_of found) taken) h in
-    let number : taken.number ≡ (window_of taken.source (sources_of found)).number + 1 = eqb-true _ _ parts.2 in
-    past-after limits found.past taken is past.stand past.count (below (revision_of found) past.last (not-true _ parts.1)) past.each (eqb-true _ _ parts.0)
-    number (leb-true _ _ parts.3) parts.4 parts.5
-  where
-    below : (revision : ℕ) → revision ≤ last_of_all → (revision == last_of_all) ≡ false → revision + 1 ≤ last_of_all
-    below revision le other = ⊎_elim (λ (h : revision < last_of_all). omega (arith, h)) (λ (h : last_of_all ≤ revision). absurd (eqb-false revision last_of_all other (omega (arith, le, h))))
-        (cases_lt revision last_of_all)
+    → IsPast limits (with_step limits.keep found.past taken.step (change_of taken))
+followed-past limits found taken is past h = by_step taken.step refl where
+  all : (suits (is_live found) taken.step && comes_next limits (revision_of found) (sources_of found) taken ≡ true)
+      × (keeps limits (units_of found) (sources_of found) taken ≡ true)
+  all = and_parts (suits (is_live found) taken.step && comes_next limits (revision_of found) (sources_of found) taken)
+      (keeps limits (units_of found) (sources_of found) taken) h
+
+  first : (suits (is_live found) taken.step ≡ true) × (comes_next limits (revision_of found) (sources_of found) taken ≡ true)
+  first = and_parts (suits (is_live found) taken.step) (comes_next limits (revision_of found) (sources_of found) taken) all.0
+
+  parts : ((taken.revision == revision_of found + 1) ≡ true) × (not (revision_of found == last_of_all) ≡ true)
+      × ((taken.number == (window_of taken.source (sources_of found)).number + 1) ≡ true) × (nat_le taken.number last_of_all ≡ true)
+      × (has_place limits taken.source (sources_of found) ≡ true)
+  parts = next_parts limits (revision_of found) (sources_of found) taken first.1
+
+  bound : revision_of found + 1 ≤ last_of_all
+  bound = below (revision_of found) past.last (not-true _ parts.1)
+
+  light : (step : Step) → taken.step ≡ step
+      → weight_of limits (units_after (units_of found) step taken.delta) (with_taken taken.source taken.number taken.revision (sources_of found)) ≤ limits.weight
+  light step e =
+      subst (λ st. weight_of limits (units_after (units_of found) st taken.delta) (with_taken taken.source taken.number taken.revision (sources_of found)) ≤ limits.weight)
+      e (kept-light limits (units_of found) (sources_of found) taken all.1).1
+
+  by_step : (step : Step) → taken.step ≡ step → IsPast limits (with_step limits.keep found.past step (change_of taken))
+  by_step Edits e =
+      past-after limits found.past taken is past.stand past.count bound past.each (eqb-true _ _ parts.0)
+      (eqb-true _ _ parts.2) (leb-true _ _ parts.3) parts.4 e (subst (λ st. suits (is_live found) st ≡ true) e first.0) all.1
+  by_step Deletes e =
+      turned-past limits found.past taken (content_after (newest_content found.past) Deletes taken.delta) past first.1 bound refl (light Deletes e)
+  by_step Revives e =
+      turned-past limits found.past taken (content_after (newest_content found.past) Revives taken.delta) past first.1 bound refl (light Revives e)
 
 -- the list with one of its documents set, or one more
 some_is : {A : Type 0} (x y : A) → Some x ≡ Some y → x ≡ y
@@ -321,50 +439,51 @@ growing_keeps state taken is h =
     by_kind None None there room next = absurd (cc)
     by_kind (Some found) (Some name) there room next = absurd (cc)
     by_kind (Some found) None there room next =
-        changed-is-state state taken.document found (record found { past = with_change state.limits.keep found.past (change_of taken) }) is there refl
+        changed-is-state state taken.document found (record found { past = with_step state.limits.keep found.past taken.step (change_of taken) }) is there refl
         (followed-past state.limits found taken is.limits (is.each taken.document found there) next)
     by_kind None (Some name) there room next =
         let fresh = and_parts ((taken.document == length state.documents) && nat_lt (length state.documents) state.limits.docs) (is_none (find name 0 state.documents)) room in
         let place = and_parts (taken.document == length state.documents) (nat_lt (length state.documents) state.limits.docs) fresh.0 in
-        let new : DocumentRecord = record { name = name; past = with_change state.limits.keep empty_past (change_of taken) } in
+        let new : DocumentRecord = record { name = name; past = with_step state.limits.keep empty_past taken.step (change_of taken) } in
         subst (λ n. IsState (record state { documents = set_document n (Some new) state.documents })) (sym (eqb-true _ _ place.0))
         (added-is-state state new is (ltb-true _ _ place.1) fresh.1 (begun-past state.limits taken is.limits next))
-
--- a document that is adopted keeps the limits
-adopted-past : (limits : Limits) (content : Content) (revision : ℕ) (sources : Sources) → 1 ≤ revision → revision ≤ last_of_all
-    → count_of sources ≤ limits.sources → are_sources revision sources.entries ≡ true → weight_of limits content.units sources ≤ limits.weight
-    → IsPast limits (record { floor = revision; content = content; sources = sources; changes = [] })
-adopted-past limits content revision sources some bound count are light =
-    let past : Past = record { floor = revision; content = content; sources = sources; changes = [] } in
-    let here : KeepsAt limits past (newest past) = record {
-      weight = subst (λ u. weight_of limits u (sources_at past (newest past)) ≤ limits.weight) (sym (units-newest past))
-          (subst (λ s. weight_of limits content.units s ≤ limits.weight) (sym (sources-newest past)) light);
-      count = subst (λ s. count_of s ≤ limits.sources) (sym (sources-newest past)) count;
-      sources = subst (λ (s : Sources). are_sources (newest past) s.entries ≡ true) (sym (sources-newest past)) (sources-later revision (newest past) sources.entries (omega arith) are);
-    } in
-    record {
-      stand = tt;
-      count = omega arith;
-      first = omega (arith, some);
-      last = omega (arith, bound);
-      each = λ place above there. subst (KeepsAt limits past) (omega (arith, above, there)) here;
-    }
 
 -- one that may be adopted is light
 pub adopted-light : (state : State) (name : List ℕ) (content : Content) (revision : ℕ) (sources : Sources) → adopts state name content revision sources ≡ true
     → weight_of state.limits content.units sources ≤ state.limits.weight
 adopted-light state name content revision sources h = leb-true _ _ (and_parts _ _ h).1
 
+-- and nothing stands in it where it is deleted
+pub adopted-content : (state : State) (name : List ℕ) (content : Content) (revision : ℕ) (sources : Sources) → adopts state name content revision sources ≡ true
+    → is_content content ≡ true
+adopted-content state name content revision sources h =
+    let light = and_parts _ _ h in
+    let last = and_parts _ _ light.0 in
+    (seven (nat_lt (length state.documents) state.limits.docs) (is_none (find name 0 state.documents)) (is_content content) (is_mark_at content.live revision) (nat_le 1 revision)
+    (nat_le revision last_of_all) (nat_le (count_of sources) state.limits.sources) last.0).2
+
+-- and its name is new
+pub adopted-fresh : (state : State) (name : List ℕ) (content : Content) (revision : ℕ) (sources : Sources) → adopts state name content revision sources ≡ true
+    → is_none (find name 0 state.documents) ≡ true
+adopted-fresh state name content revision sources h =
+    let light = and_parts _ _ h in
+    let last = and_parts _ _ light.0 in
+    (seven (nat_lt (length state.documents) state.limits.docs) (is_none (find name 0 state.documents)) (is_content content) (is_mark_at content.live revision) (nat_le 1 revision)
+    (nat_le revision last_of_all) (nat_le (count_of sources) state.limits.sources) last.0).1
+
 pub adopting_keeps : AdoptingKeeps
 adopting_keeps state name content revision sources is h =
-    let light = and_parts (nat_lt (length state.documents) state.limits.docs && is_none (find name 0 state.documents) && nat_le 1 revision && nat_le revision last_of_all
-    && nat_le (count_of sources) state.limits.sources && are_sources revision sources.entries) (nat_le (weight_of state.limits content.units sources) state.limits.weight) h in
-    let parts = six (nat_lt (length state.documents) state.limits.docs) (is_none (find name 0 state.documents)) (nat_le 1 revision) (nat_le revision last_of_all)
-    (nat_le (count_of sources) state.limits.sources) (are_sources revision sources.entries) light.0 in
+    let light = and_parts (nat_lt (length state.documents) state.limits.docs && is_none (find name 0 state.documents) && is_content content && is_mark_at content.live revision && nat_le 1 revision
+    && nat_le revision last_of_all && nat_le (count_of sources) state.limits.sources && are_sources revision sources.entries)
+    (nat_le (weight_of state.limits content.units sources) state.limits.weight) h in
+    let last = and_parts (nat_lt (length state.documents) state.limits.docs && is_none (find name 0 state.documents) && is_content content && is_mark_at content.live revision && nat_le 1 revision
+    && nat_le revision last_of_all && nat_le (count_of sources) state.limits.sources) (are_sources revision sources.entries) light.0 in
+    let parts = seven (nat_lt (length state.documents) state.limits.docs) (is_none (find name 0 state.documents)) (is_content content) (is_mark_at content.live revision) (nat_le 1 revision)
+    (nat_le revision last_of_all) (nat_le (count_of sources) state.limits.sources) last.0 in
     let new : DocumentRecord = record_at name content revision sources in
     subst (λ l. IsState (record state { documents = l })) (set-end new state.documents)
     (added-is-state state new is (ltb-true _ _ parts.0) parts.1
-    (adopted-past state.limits content revision sources (leb-true _ _ parts.2) (leb-true _ _ parts.3) (leb-true _ _ parts.4) parts.5 (leb-true _ _ light.1)))
+    (adopted-past state.limits content revision sources parts.2 parts.3 (leb-true _ _ parts.4) (leb-true _ _ parts.5) (leb-true _ _ parts.6) last.1 (leb-true _ _ light.1)))
 
 -- one document
 record_kept : (limits : Limits) (found : Option DocumentRecord) (taken : Taken) (name : Option (List ℕ)) → IsLimits limits → IsRecord limits found

@@ -1,27 +1,18 @@
 -- What is seen of a past that lets go of what lies below its floor.
-use Rattle.std.proofs.Common.{◌≡◌, ℕ, zero, suc, ◌+◌, ◌-◌, ◌≤◌, ◌<◌, List, [], ◌∷◌, length, take, drop, get_or, add-one, refl, sym, ap, ap₂, ◌∙◌, arith}
+use Rattle.std.proofs.Common.{◌≡◌, ℕ, zero, suc, ◌+◌, ◌-◌, ◌≤◌, ◌<◌, List, [], ◌∷◌, length, take, drop, get_or, add-one, true, refl, sym, ap, ap₂, subst, ◌∙◌, arith}
 use Rattle.std.proofs.lemmas.List.{drop-take, drop-drop, take-take, length-drop, length-take-le}
 use Rattle.delta.specs.Element.{Element}
 use Rattle.delta.specs.Operation.{Operation}
 use Rattle.compose.specs.Many.{applied}
 use Rattle.revision.specs.Sources.{Sources, with_taken}
 use Rattle.revision.specs.declared.taker.Taker.{Taker}
-use Rattle.revision.specs.Past.{Parts, AreParts, Past, Change, deltas_of, sources_at, sources_after, changes_by, whole_past, from_floor, seen}
+use Rattle.revision.specs.Past.{Parts, AreParts, Past, Content, Change, LeadInTurn, is_content, taken_content, nexts_by, deltas_of, sources_at, sources_after, changes_by, whole_past, from_floor, seen}
 use Rattle.revision.proofs.Replays.{stand-drop}
 use Rattle.revision.proofs.Kept.{short-drop}
-use Rattle.revision.proofs.Floors.{from-from}
+use Rattle.revision.proofs.Floors.{applied-take, from-from}
+use Rattle.revision.proofs.Turning.{nexts-drop}
 use Rattle.revision.proofs.KeptDocuments.{kept-later, sources-parts}
-use Rattle.revision.proofs.Parts.{changes-take, changes-length, whole-deltas}
-
-pub changes-drop : (n : ℕ) (takers : List Taker) (deltas : List (List Operation)) → changes_by (drop n takers) (drop n deltas) ≡ drop n (changes_by takers deltas)
-changes-drop zero takers deltas = refl
-changes-drop (suc n) [] deltas = refl
-changes-drop (suc n) (taker ∷ takers) [] = none (drop n takers)
-  where
-    none : (left : List Taker) → changes_by left [] ≡ []
-    none [] = refl
-    none (t ∷ left) = refl
-changes-drop (suc n) (taker ∷ takers) (delta ∷ deltas) = changes-drop n takers deltas
+use Rattle.revision.proofs.Parts.{changes-take, changes-drop, changes-length, whole-deltas}
 
 -- the change at a place
 pub changes-here : (i : ℕ) (takers : List Taker) (deltas : List (List Operation)) (taker : Taker) (delta : List Operation) → length takers ≡ length deltas
@@ -55,9 +46,23 @@ later_parts parts gone sources passed = record {
   deltas = drop gone parts.deltas;
   count = parts.count - gone;
   kept = drop passed parts.kept;
+  live = parts.live;
 }
 
 module _ (parts : Parts) (is : AreParts parts) (gone : ℕ) (sources : Sources) (passed : ℕ) (within : gone ≤ parts.floor - parts.start) where
+  -- what stands there at the last revision taken is as it was
+  taken-same : taken_content (later_parts parts gone sources passed) ≡ taken_content parts
+  taken-same =
+      let sum : gone + (parts.count - gone) ≡ parts.count = omega (arith, within, is.start, is.floor) in
+      ap (λ u. record { units = u; live = parts.live })
+      (applied-take gone (parts.count - gone) parts.units parts.deltas ∙ ap (λ n. applied parts.units (take n parts.deltas)) sum)
+
+  -- what is prepared is as it was, too
+  rest-same : {X : Type 0} (xs : List X) → drop (parts.count - gone) (drop gone xs) ≡ drop parts.count xs
+  rest-same xs =
+      let sum : gone + (parts.count - gone) ≡ parts.count = omega (arith, within, is.start, is.floor) in
+      drop-drop (parts.count - gone) gone xs ∙ ap (λ n. drop n xs) sum
+
   all : List Change
   all = changes_by parts.takers parts.deltas
 
@@ -66,6 +71,10 @@ module _ (parts : Parts) (is : AreParts parts) (gone : ℕ) (sources : Sources) 
     stand = stand-drop gone parts.units parts.deltas is.stand;
     short = short-drop gone parts.units parts.deltas is.short;
     same = length-drop gone parts.takers ∙ (ap (λ n. n - gone) is.same ∙ sym (length-drop gone parts.deltas));
+    content = subst (λ (c : Content). is_content c ≡ true) (sym taken-same) is.content;
+    lead = subst (λ (c : Content). LeadInTurn c (drop (parts.count - gone) (drop gone parts.takers)) (drop (parts.count - gone) (drop gone parts.deltas))) (sym taken-same)
+        (subst (λ (t : List Taker). LeadInTurn (taken_content parts) t (drop (parts.count - gone) (drop gone parts.deltas))) (sym (rest-same parts.takers))
+        (subst (LeadInTurn (taken_content parts) (drop parts.count parts.takers)) (sym (rest-same parts.deltas)) is.lead));
     count = omega (arith, is.count, length-drop gone parts.deltas);
     start = omega (arith, within, is.start);
     floor = omega (arith, within, is.start, is.floor);
@@ -83,10 +92,7 @@ module _ (parts : Parts) (is : AreParts parts) (gone : ℕ) (sources : Sources) 
       ∙ (sym (drop-take gone (parts.count - gone) (changes_by parts.takers parts.deltas)) ∙ ap (λ n. drop gone (take n (changes_by parts.takers parts.deltas))) (sym sum))
 
   prepared : (seen (later_parts parts gone sources passed)).next ≡ (seen parts).next
-  prepared =
-      let sum : gone + (parts.count - gone) ≡ parts.count = omega (arith, within, is.start, is.floor) in
-      ap (drop (parts.count - gone)) (changes-drop gone parts.takers parts.deltas)
-      ∙ (drop-drop (parts.count - gone) gone (changes_by parts.takers parts.deltas) ∙ ap (λ n. drop n (changes_by parts.takers parts.deltas)) sum)
+  prepared = ap (drop (parts.count - gone)) (nexts-drop gone parts.takers parts.deltas is.same) ∙ rest-same (nexts_by parts.takers parts.deltas)
 
   module _ (noted : sources_after (parts.start + gone) sources (drop gone (changes_by (take (parts.floor - parts.start) parts.takers) (take (parts.floor - parts.start) parts.deltas)))
       ≡ sources_after parts.start parts.sources (changes_by (take (parts.floor - parts.start) parts.takers) (take (parts.floor - parts.start) parts.deltas))) where
@@ -97,7 +103,7 @@ module _ (parts : Parts) (is : AreParts parts) (gone : ℕ) (sources : Sources) 
     unfolding exact
     but_sources =
         let here : parts.start + gone - parts.start ≡ gone = omega arith in
-        ap₂ (λ (u : List Element) (l : List Change). record { floor = parts.start + gone; content = record { units = u }; sources = exact.sources; changes = l })
+        ap₂ (λ (u : List Element) (l : List Change). record { floor = parts.start + gone; content = record { units = u; live = parts.live }; sources = exact.sources; changes = l })
         (ap (applied parts.units) (sym (take-take gone parts.count parts.deltas (omega (arith, within, is.start, is.floor))))
         ∙ (ap (λ l. applied parts.units (take gone l)) (sym (whole-deltas parts is)) ∙ ap (λ n. applied parts.units (take n (deltas_of (whole_past parts)))) (sym here)))
         (left ∙ ap (λ n. drop n (whole_past parts).changes) (sym here))

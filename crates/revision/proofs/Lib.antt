@@ -1,4 +1,6 @@
 mod Floors
+mod Turning
+mod DeletingAll
 mod Parts
 mod Halves
 mod Weights

@@ -9,16 +9,17 @@ use Rattle.revision.specs.steps.Index.{number_of}
 use Rattle.revision.proofs.Indexed.{number-found, none_from_test, room_parts}
 use Rattle.revision.specs.steps.ChangedAt.{changed_at}
 use Rattle.revision.specs.Command.{Taken}
-use Rattle.revision.specs.Past.{Change, Past, with_change, with_changes}
+use Rattle.revision.specs.Past.{Next, Past, with_step, with_steps}
 use Rattle.revision.specs.Pending.{PendingDocument, record_of, with_prepared}
 use Rattle.revision.specs.steps.Preparing.{with_next, begun}
-use Rattle.revision.specs.State.{Limits, DocumentRecord, State, change_of, record_by_name, set_document, has_room, begins, continues_by_name, grows, grown, all_grow, first_grows, fold}
+use Rattle.revision.specs.State.{Limits, DocumentRecord, State, next_of, record_by_name, set_document, has_room, begins, continues_by_name, grows, grown, all_grow, first_grows, fold}
 use Rattle.revision.proofs.ChangedAt.{map-changed_at}
 
--- one change more, at the end
-with_changes-last : (keep : ℕ) (past : Past) (cs : List Change) (c : Change) → with_changes keep past (cs ++ c ∷ []) ≡ with_change keep (with_changes keep past cs) c
-with_changes-last keep past [] c = refl
-with_changes-last keep past (first ∷ others) c = with_changes-last keep (with_change keep past first) others c
+-- one step more, at the end
+with_steps-last : (keep : ℕ) (past : Past) (next : List Next) (last : Next)
+    → with_steps keep past (next ++ last ∷ []) ≡ with_step keep (with_steps keep past next) last.step last.change
+with_steps-last keep past [] last = refl
+with_steps-last keep past (first ∷ others) last = with_steps-last keep (with_step keep past first.step first.change) others last
 
 further : (i : ℕ) (found : Option DocumentRecord) (d : DocumentRecord) (ds : List DocumentRecord)
     → set_document (suc i) found (d ∷ ds) ≡ d ∷ set_document i found ds
@@ -28,11 +29,11 @@ further i (Some found) d ds = refl
 -- a document that is there is changed
 pub changed_by : (keep : ℕ) (i : ℕ) (documents : List PendingDocument) (taken : Taken)
     → set_document i (record_by_name keep (slice_get (map (with_prepared keep) documents) i) taken None) (map (with_prepared keep) documents)
-    ≡ map (with_prepared keep) (changed_at (with_next (change_of taken)) i documents)
+    ≡ map (with_prepared keep) (changed_at (with_next (next_of taken)) i documents)
 changed_by keep i [] taken = refl
 changed_by keep zero (d ∷ others) taken =
     ap (λ (past : Past). record { name = d.name; past = past } ∷ map (with_prepared keep) others)
-    (sym (with_changes-last keep d.past.past d.past.next (change_of taken)))
+    (sym (with_steps-last keep d.past.past d.past.next (next_of taken)))
 changed_by keep (suc i) (d ∷ others) taken =
     further i (record_by_name keep (slice_get (map (with_prepared keep) others) i) taken None) (with_prepared keep d) (map (with_prepared keep) others)
     ∙ ap (λ ds. with_prepared keep d ∷ ds) (changed_by keep i others taken)
@@ -92,11 +93,11 @@ module _ (limits : Limits) (documents : List PendingDocument) (taken : Taken) (n
 
   -- the document that is made comes at the end
   pub created_by : taken.document ≡ length documents → taken.name ≡ Some name
-      → map (with_prepared limits.keep) (documents ++ begun name (change_of taken) ∷ []) ≡ (grown (state_by limits documents) taken).documents
+      → map (with_prepared limits.keep) (documents ++ begun name (next_of taken) ∷ []) ≡ (grown (state_by limits documents) taken).documents
   created_by at named =
       let ds = map (with_prepared limits.keep) documents in
-      map-append (with_prepared limits.keep) documents (begun name (change_of taken) ∷ [])
-      ∙ sym (set-last ds (with_prepared limits.keep (begun name (change_of taken))))
+      map-append (with_prepared limits.keep) documents (begun name (next_of taken) ∷ [])
+      ∙ sym (set-last ds (with_prepared limits.keep (begun name (next_of taken))))
       ∙ ap (λ found. set_document (length ds) (record_by_name limits.keep found taken (Some name)) ds) (sym (none-past ds))
       ∙ ap₂ (λ i n. set_document i (record_by_name limits.keep (slice_get ds i) taken n) ds) (same_length limits.keep documents ∙ sym at) (sym named)
 

@@ -3,8 +3,7 @@ use Rattle.std.proofs.Common.{◌≡◌, ℕ, zero, suc, ◌+◌, ◌-◌, ◌�
 use Rattle.std.specs.Prelude.{min, slice_get}
 use Rattle.std.proofs.lemmas.List.{drop-map, length-drop}
 use Rattle.std.proofs.lemmas.Option.{same_Some}
-use Rattle.revision.specs.Past.{StandInTurn, Parts, AreParts, Past, Change, newest, newest_units, deltas_of, content_at, sources_at, from_floor, whole_past, seen}
-use Rattle.revision.specs.Pending.{newest_sources}
+use Rattle.revision.specs.Past.{StandInTurn, Parts, AreParts, Past, Change, newest, newest_units, newest_sources, deltas_of, content_at, sources_at, from_floor, whole_past, seen}
 use Rattle.revision.specs.Floors.{raised, raised_each}
 use Rattle.revision.specs.Invariants.{IsPast, NamesDiffer, IsState}
 use Rattle.revision.specs.State.{Limits, DocumentRecord, State}
@@ -20,6 +19,8 @@ module _ (parts : Parts) (is : AreParts parts) (revision floor : ℕ) (floor_is 
     stand = is.stand;
     short = is.short;
     same = is.same;
+    content = is.content;
+    lead = is.lead;
     count = is.count;
     start = omega (arith, floor_is, is.start);
     floor = omega (arith, floor_is, is.floor);
@@ -48,7 +49,7 @@ module _ (past : Past) (floor : ℕ) (above : past.floor ≤ floor) (within : fl
     count = omega (arith, is.count, length-drop (floor - past.floor) past.changes);
     first = omega (arith, is.first, same);
     last = omega (arith, is.last, same);
-    each = λ revision low high. keeps-same limits past (from_floor past floor) revision (ap (λ c. c.units) (content-from past floor above revision low))
+    each = λ revision low high. keeps-same limits past (from_floor past floor) revision (content-from past floor above revision low)
         (sources-from revision low) (is.each revision (omega (arith, low, above)) (omega (arith, high, same)));
   }
     where

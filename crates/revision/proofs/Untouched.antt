@@ -3,7 +3,7 @@ use Rattle.std.proofs.Common.{◌≡◌, ◌≢◌, ℕ, zero, suc, ◌⊎◌, i
 use Rattle.std.specs.Prelude.{slice_get}
 use Rattle.std.proofs.lemmas.Option.{none-some, same_Some}
 use Rattle.revision.specs.steps.ChangedAt.{changed_at, changed_at_all, IsAmong}
-use Rattle.revision.specs.Past.{Change, with_changes}
+use Rattle.revision.specs.Past.{Next, with_steps}
 use Rattle.revision.specs.Pending.{PendingDocument, record_of, with_prepared}
 use Rattle.revision.specs.State.{DocumentRecord}
 use Rattle.revision.specs.steps.DocumentsView.{UntouchedRest}
@@ -64,7 +64,7 @@ pub record_of-with_prepared : (keep : ℕ) (documents : List PendingDocument) �
 record_of-with_prepared keep [] none = refl
 record_of-with_prepared keep (d ∷ others) none =
     ap₂ (λ (e : DocumentRecord) es. e ∷ es)
-    (ap (λ (next : List Change). record { name = d.name; past = with_changes keep d.past.past next }) (sym (none 0 d refl)))
+    (ap (λ (next : List Next). record { name = d.name; past = with_steps keep d.past.past next }) (sym (none 0 d refl)))
     (record_of-with_prepared keep others (λ i e read. none (suc i) e read))
 
 slice_get-take : {X : Type 0} (n : ℕ) (xs : List X) (i : ℕ) (x : X) → slice_get (take n xs) i ≡ Some x → slice_get xs i ≡ Some x

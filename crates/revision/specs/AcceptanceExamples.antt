@@ -2,7 +2,7 @@
 use Rattle.std.specs.Prelude.{◌≡◌, ℕ, zero, suc, ◌+◌, true, false, Some, None, Ok, Err, List, [], ◌∷◌, ◌++◌, refl, codes, map}
 use Rattle.std.specs.Char.{encode_utf8}
 use Rattle.std.specs.Char.Utf16.{utf16_chars}
-use Rattle.refusal.specs.declared.Refusal.TheVariants.{NoDocument, Exists, Gap, OldNumber, Future, TooOld, PastEnd, TooHeavy, TooWide, NothingToUndo}
+use Rattle.refusal.specs.declared.Refusal.TheVariants.{NoDocument, Exists, Gap, OldNumber, Future, TooOld, PastEnd, TooHeavy, TooWide, NothingToUndo, TooManySources, Deleted}
 use Rattle.attributes.specs.Map.{empty, insert, retain as retained}
 use Rattle.attributes.specs.Attributes.{Changes, changed_by, reverted_by}
 use Rattle.attributes.specs.Scalar.{flag_scalar}
@@ -11,7 +11,7 @@ use Rattle.delta.specs.Operation.{Operation, insert_text, retain, delete}
 use Rattle.revision.specs.Window.{Window}
 use Rattle.revision.specs.Sources.{Sources}
 use Rattle.revision.specs.Past.{Content}
-use Rattle.revision.specs.Command.{Action, Create, Edit, Undo, Command}
+use Rattle.revision.specs.Command.{Action, Create, Edit, Undo, Delete, Command, Taken, Deletes, Revives, width_of}
 use Rattle.revision.specs.State.{DocumentRecord, State, adopts, adopted}
 use Rattle.revision.specs.Acceptance.{Reply, TakenAt, AgainAt, Refused, decide}
 use Rattle.revision.specs.Readings.{document_at, taken_since}
@@ -258,7 +258,7 @@ abbrev sevens : Sources
 sevens = insert (insert empty (bob ∷ []) (window_of_one 1 2)) (ann ∷ []) (window_of_one 3 7)
 
 abbrev no_units : Content
-no_units = record { units = [] }
+no_units = record { units = []; live = true }
 
 abbrev after_adoption : State
 after_adoption = adopted roomy (100 ∷ []) no_units 7 sevens
@@ -271,6 +271,19 @@ too_late_an_entry : adopts small (100 ∷ []) no_units 6 sevens ≡ false
 unfolding insert
 too_late_an_entry = refl
 
+-- a document that is deleted is adopted without units, as revision 2 or above
+abbrev gone : List Element → Content
+gone units = record { units = units; live = false }
+
+adopted_as_deleted : adopts small (100 ∷ []) (gone []) 2 empty ≡ true
+adopted_as_deleted = refl
+
+deleted_with_units : adopts small (100 ∷ []) (gone (text (122 ∷ []))) 2 empty ≡ false
+deleted_with_units = refl
+
+deleted_by_its_creation : adopts small (100 ∷ []) (gone []) 1 empty ≡ false
+deleted_by_its_creation = refl
+
 same_name : adopts after_adoption (100 ∷ []) no_units 7 empty ≡ false
 unfolding insert
 same_name = refl
@@ -282,3 +295,98 @@ taken_after_adoption = refl
 undo_after_adoption : reply_after after_adoption [] (ask ann 4 Undo) ≡ Refused TooOld
 unfolding insert
 undo_after_adoption = refl
+
+-- ann creates "z" (1), edits [ret 1, ins "x"] (2) and deletes with 3: that is taken as 3, and nothing older is held
+abbrev deleted : List Command
+deleted = ask ann 1 (Create (ins (codes "z") ∷ [])) ∷ ask ann 2 (Edit 1 (ret 1 ∷ ins (codes "x") ∷ [])) ∷ ask ann 3 Delete ∷ []
+
+deletion_is_taken : reply_after roomy (ask ann 1 (Create (ins (codes "z") ∷ [])) ∷ ask ann 2 (Edit 1 []) ∷ []) (ask ann 3 Delete) ≡ TakenAt 3
+unfolding utf16_chars encode_utf8 changed_by insert
+deletion_is_taken = refl
+
+floor_of_deletion : floors (after_all roomy deleted) ≡ 3 ∷ []
+unfolding utf16_chars encode_utf8 changed_by insert
+floor_of_deletion = refl
+
+deleted_is_not_read : document_at (after_all roomy deleted) (100 ∷ []) 3 ≡ Err Deleted
+unfolding utf16_chars encode_utf8 changed_by insert
+deleted_is_not_read = refl
+
+edit_of_deleted : reply_after roomy deleted (ask bob 1 (Edit 2 [])) ≡ Refused Deleted
+unfolding utf16_chars encode_utf8 changed_by insert
+edit_of_deleted = refl
+
+gap_before_deleted : reply_after roomy deleted (ask bob 2 Delete) ≡ Refused Gap
+unfolding utf16_chars encode_utf8 changed_by insert
+gap_before_deleted = refl
+
+deletion_again : reply_after roomy deleted (ask ann 3 Delete) ≡ AgainAt 3
+unfolding utf16_chars encode_utf8 changed_by insert
+deletion_again = refl
+
+deleted_twice : reply_after roomy deleted (ask ann 4 Delete) ≡ Refused Deleted
+unfolding utf16_chars encode_utf8 changed_by insert
+deleted_twice = refl
+
+-- her create 4 [ins "n"] is taken as 4, from which on the document is held
+abbrev revived : List Command
+revived = deleted ++ ask ann 4 (Create (ins (codes "n") ∷ [])) ∷ []
+
+revival_is_taken : reply_after roomy deleted (ask ann 4 (Create (ins (codes "n") ∷ []))) ≡ TakenAt 4
+unfolding utf16_chars encode_utf8 changed_by insert
+revival_is_taken = refl
+
+revived_is_read : document_at (after_all roomy revived) (100 ∷ []) 4 ≡ Ok (text (codes "n"))
+unfolding utf16_chars encode_utf8 changed_by insert
+revived_is_read = refl
+
+floor_of_revival : floors (after_all roomy revived) ≡ 4 ∷ []
+unfolding utf16_chars encode_utf8 changed_by insert
+floor_of_revival = refl
+
+base_before_deletion : reply_after roomy revived (ask bob 1 (Edit 2 [])) ≡ Refused TooOld
+unfolding utf16_chars encode_utf8 changed_by insert
+base_before_deletion = refl
+
+base_after_it : reply_after roomy revived (ask bob 1 (Edit 4 [])) ≡ TakenAt 5
+unfolding utf16_chars encode_utf8 changed_by insert
+base_after_it = refl
+
+first_creation_again : reply_after roomy revived (ask ann 1 (Create [])) ≡ AgainAt 1
+unfolding utf16_chars encode_utf8 changed_by insert
+first_creation_again = refl
+
+undo_of_revival : reply_after roomy revived (ask ann 5 Undo) ≡ Refused TooOld
+unfolding utf16_chars encode_utf8 changed_by insert
+undo_of_revival = refl
+
+created_where_it_is : reply_after roomy revived (ask ann 5 (Create [])) ≡ Refused Exists
+unfolding utf16_chars encode_utf8 changed_by insert
+created_where_it_is = refl
+
+-- the sources stay, and weigh what they weighed: with "abcde" at the limit a deletion is taken, and behind an empty document of that weight not
+deletion_of_five_letters : reply_after small (ask ann 1 (Create (ins (codes "abcde") ∷ [])) ∷ []) (ask ann 2 Delete) ≡ TakenAt 2
+unfolding utf16_chars encode_utf8 changed_by insert
+deletion_of_five_letters = refl
+
+abbrev scant : State
+scant = record { limits = record { docs = 2; sources = 1; weight = 64; width = 237; keep = 2; retry = 8 }; documents = [] }
+
+deletion_too_heavy : reply_after scant created (ask ann 2 Delete) ≡ Refused TooHeavy
+unfolding insert
+deletion_too_heavy = refl
+
+deletion_by_one_too_many : reply_after scant created (ask bob 1 Delete) ≡ Refused TooManySources
+unfolding insert
+deletion_by_one_too_many = refl
+
+-- an entry of a deletion has 24 bytes, and that of a creation again with one letter 38
+abbrev entry_of_deletion : Taken
+entry_of_deletion = record { document = 0; name = None; revision = 3; source = ann ∷ []; number = 3; step = Deletes; delta = [] }
+
+deletion_is_narrow : width_of entry_of_deletion ≡ 24
+deletion_is_narrow = refl
+
+revival_is_wider : width_of (record entry_of_deletion { revision = 4; number = 4; step = Revives; delta = ins (codes "n") ∷ [] }) ≡ 38
+unfolding utf16_chars encode_utf8 insert
+revival_is_wider = refl

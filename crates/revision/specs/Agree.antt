@@ -3,7 +3,7 @@
 -- src/laws.rt.
 use Rattle.std.specs.Prelude.{◌≡◌, ◌⊎◌, ◌≤◌, ◌<◌, ℕ, max, List, Option, Some, None, slice_get}
 use Rattle.refusal.specs.declared.Refusal.TheVariants.{TooOld}
-use Rattle.revision.specs.Command.{Taken, Action, Create, Edit, Undo, Command}
+use Rattle.revision.specs.Command.{Taken, Action, Create, Edit, Undo, Delete, Command}
 use Rattle.revision.specs.Window.{last_revision}
 use Rattle.revision.specs.Sources.{window_of}
 use Rattle.revision.specs.Past.{from_floor}
@@ -66,11 +66,12 @@ abbrev pub AgreeingAnswer : Type 0
 AgreeingAnswer = (s t : State) (command : Command) → Agree s t
     → (answer s command ≡ answer t command) ⊎ (answer s command ≡ Refuses TooOld) ⊎ (answer t command ≡ Refuses TooOld)
 
--- An action stands on no revision that either of two records has let go of: a creation stands on none, an edit on its base, an
--- undo on the revision before the source's last one.
+-- An action stands on no revision that either of two records has let go of: a creation and a deletion stand on none, an edit on its
+-- base, an undo on the revision before the source's last one.
 abbrev pub StandsOnHeld : List ℕ → Action → DocumentRecord → DocumentRecord → Type 0
 StandsOnHeld source (Create delta) a b = Unit {0}
 StandsOnHeld source (Edit base delta) a b = (a.past.floor ≤ base) × (b.past.floor ≤ base)
+StandsOnHeld source Delete a b = Unit {0}
 StandsOnHeld source Undo a b =
     (a.past.floor < last_revision (window_of source (sources_of a))) × (b.past.floor < last_revision (window_of source (sources_of b)))
 

@@ -1,9 +1,9 @@
 -- A past from higher floors on, and with changes more: what comes of one in whichever order.
 use Rattle.std.specs.Prelude.{◌≡◌, ℕ, ◌+◌, ◌≤◌, max, min, List, [], ◌∷◌, ◌++◌}
-use Rattle.delta.specs.Gaps.{counted, apply}
+use Rattle.revision.specs.Command.{Step}
 use Rattle.revision.specs.Sources.{with_taken}
 use Rattle.revision.specs.State.{DocumentRecord}
-use Rattle.revision.specs.Past.{Change, Past, newest, content_at, sources_at, from_floor, with_change}
+use Rattle.revision.specs.Past.{Change, Past, content_after, newest, newest_content, newest_sources, content_at, sources_at, from_floor, with_step}
 
 -- the past with a change more, of which nothing is let go
 abbrev pub longer : Past → Change → Past
@@ -36,9 +36,9 @@ abbrev pub FromLonger : Type 0
 FromLonger = (past : Past) (floor : ℕ) (change : Change) → past.floor ≤ floor → floor ≤ newest past
     → longer (from_floor past floor) change ≡ from_floor (longer past change) floor
 
--- a change makes the next revision, the units there by its delta, and the sources there by its source
-abbrev pub ChangeMakes : Type 0
-ChangeMakes = (keep : ℕ) (past : Past) (change : Change) → (newest (with_change keep past change) ≡ newest past + 1)
-    × ((content_at (with_change keep past change) (newest past + 1)).units ≡ apply (content_at past (newest past)).units (counted change.delta))
-    × (sources_at (with_change keep past change) (newest past + 1)
-    ≡ with_taken change.source change.number (newest past + 1) (sources_at past (newest past)))
+-- a step makes the next revision, the content there by its delta, and the sources there by its source
+abbrev pub StepMakes : Type 0
+StepMakes = (keep : ℕ) (past : Past) (step : Step) (change : Change) → (newest (with_step keep past step change) ≡ newest past + 1)
+    × (content_at (with_step keep past step change) (newest past + 1) ≡ content_after (newest_content past) step change.delta)
+    × (sources_at (with_step keep past step change) (newest past + 1)
+    ≡ with_taken change.source change.number (newest past + 1) (newest_sources past))

@@ -1,9 +1,9 @@
 -- What each state is that grew from the empty one. That it is so is promised by `laws::states_stay`.
 use Rattle.std.specs.Prelude.{◌≡◌, ℕ, ◌≤◌, ◌<◌, ◌^◌, true, List, [], Option, Some, None, length, slice_get}
-use Rattle.revision.specs.State.{weight_of, Limits, DocumentRecord, State, last_of_all, are_sources, grows, grown, adopts, adopted, all_continue, record_after_all}
+use Rattle.revision.specs.State.{weight_of, Limits, DocumentRecord, State, last_of_all, is_mark_at, are_sources, grows, grown, adopts, adopted, all_continue, record_after_all}
 use Rattle.revision.specs.Command.{Taken}
 use Rattle.revision.specs.Sources.{Sources, count_of}
-use Rattle.revision.specs.Past.{StandInTurn, Past, Content, newest, deltas_of, content_at, sources_at}
+use Rattle.revision.specs.Past.{StandInTurn, Past, Content, is_content, newest, deltas_of, content_at, sources_at}
 
 -- the ranges of the limits
 pub record IsLimits (limits : Limits) : Type 0 where
@@ -22,6 +22,8 @@ pub record KeepsAt (limits : Limits) (past : Past) (revision : ℕ) : Type 0 whe
   pub weight : weight_of limits (content_at past revision).units (sources_at past revision) ≤ limits.weight
   pub count : count_of (sources_at past revision) ≤ limits.sources
   pub sources : are_sources revision (sources_at past revision).entries ≡ true
+  pub content : is_content (content_at past revision) ≡ true
+  pub mark : is_mark_at (content_at past revision).live revision ≡ true
 
 -- what a past keeps: its deltas stand in turn, it holds no more than it should, and the limits are kept at each revision
 pub record IsPast (limits : Limits) (past : Past) : Type 0 where

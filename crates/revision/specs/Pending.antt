@@ -3,7 +3,7 @@ use Rattle.std.specs.Prelude.{◌≡◌, ℕ, Option, Some, None, List, [], refl
 use Rattle.std.specs.Coded.{Coded, code_by, coded×, coded_list, coded_ℕ}
 use Rattle.delta.specs.Element.{Element}
 use Rattle.revision.specs.Sources.{Sources, Table}
-use Rattle.revision.specs.Past.{Past, Prepared, prepared_code, newest, newest_units, prepared_units, sources_at, sources_after, with_changes}
+use Rattle.revision.specs.Past.{Past, Prepared, prepared_code, newest, newest_units, newest_sources, prepared_units, sources_after, changes_in, with_steps}
 use Rattle.revision.specs.State.{DocumentRecord}
 
 -- the document's name, and its past with the changes that are prepared
@@ -17,14 +17,11 @@ record_of d = record { name = d.name; past = d.past.past }
 
 -- the document with them
 abbrev pub with_prepared : ℕ → PendingDocument → DocumentRecord
-with_prepared keep d = record { name = d.name; past = with_changes keep d.past.past d.past.next }
+with_prepared keep d = record { name = d.name; past = with_steps keep d.past.past d.past.next }
 
--- the sources at the newest revision, and after what is prepared
-abbrev pub newest_sources : Past → Sources
-newest_sources past = sources_at past (newest past)
-
+-- the sources after what is prepared
 abbrev pub prepared_sources : Prepared → Sources
-prepared_sources prepared = sources_after (newest prepared.past) (newest_sources prepared.past) prepared.next
+prepared_sources prepared = sources_after (newest prepared.past) (newest_sources prepared.past) (changes_in prepared.next)
 
 -- the units after what is prepared, which are kept where something is
 abbrev pub AreNextUnits : Prepared → Option (List Element) → Type 0

@@ -1,17 +1,18 @@
 -- What is read of a document's past.
-use Rattle.std.specs.Prelude.{ℕ, nat_lt, if◌then◌else◌, Option, Some, None, Result, Ok, Err, List}
+use Rattle.std.specs.Prelude.{ℕ, nat_lt, not, if◌then◌else◌, Option, Some, None, Result, Ok, Err, List}
 use Rattle.refusal.specs.declared.Refusal.{Refusal}
-use Rattle.refusal.specs.declared.Refusal.TheVariants.{NoDocument, Future, TooOld}
+use Rattle.refusal.specs.declared.Refusal.TheVariants.{NoDocument, Deleted, Future, TooOld}
 use Rattle.delta.specs.Element.{Element}
 use Rattle.delta.specs.Operation.{Operation}
 use Rattle.revision.specs.Past.{Past, content_at, deltas_above}
-use Rattle.revision.specs.State.{DocumentRecord, State, revision_of, find}
+use Rattle.revision.specs.State.{DocumentRecord, State, revision_of, is_live, find}
 
--- what is asked of a document's past at a revision: the document has to be there, and the revision held
+-- what is asked of a document's past at a revision: the document has to be there and not deleted, and the revision held
 abbrev pub at_revision : {X : Type 0} → ℕ → Option (ℕ × DocumentRecord) → (Past → X) → Result X Refusal
 at_revision revision None ask = Err NoDocument
 at_revision revision (Some found) ask =
-    if nat_lt (revision_of found.1) revision then Err Future
+    if not (is_live found.1) then Err Deleted
+    else if nat_lt (revision_of found.1) revision then Err Future
     else if nat_lt revision found.1.past.floor then Err TooOld
     else Ok (ask found.1.past)
 

@@ -5,11 +5,11 @@ use Rattle.delta.specs.Element.{Element}
 use Rattle.delta.specs.Operation.{Operation}
 use Rattle.delta.specs.Gaps.{counted, apply, units_below}
 use Rattle.document.specs.Weight as document
-use Rattle.revision.specs.Command.{Taken, width_of}
+use Rattle.revision.specs.Command.{Taken, Step, Edits, Deletes, Revives, edits, width_of}
 use Rattle.revision.specs.Window.{longest, Window, ascend}
 use Rattle.revision.specs.Sources.{Sources, window_of, count_of, total_of, with_taken}
 use Rattle.revision.specs.Parting.{parts_pair}
-use Rattle.revision.specs.Past.{Content, Change, Past, empty_past, newest, content_at, sources_at, with_change}
+use Rattle.revision.specs.Past.{Content, Change, Next, Past, is_content, suits, units_after, empty_past, newest, content_at, sources_at, with_step}
 
 -- How much a state may hold: documents, sources of a document, a document's weight, the bytes of a command's entry in the journal,
 -- and how many revisions below the newest one are held; and what each number of a window weighs.
@@ -44,6 +44,10 @@ units_of document = (content_of document).units
 abbrev pub sources_of : DocumentRecord → Sources
 sources_of document = sources_at document.past (revision_of document)
 
+-- it isn't deleted: its past doesn't reach over a deletion, so what is so at the floor is so since
+abbrev pub is_live : DocumentRecord → Bool
+is_live document = document.past.content.live
+
 -- the records in order of creation, with the limits
 pub record State : Type 0 where
   pub limits : Limits
@@ -76,25 +80,34 @@ weight_of limits units sources = document.weight_of units + weight_of_sources li
 -- the weight of a document after a command on units and sources before it
 abbrev pub weight_after : Limits → List Element → Sources → Taken → ℕ
 weight_after limits units sources taken =
-    weight_of limits (apply units (counted taken.delta)) (with_taken taken.source taken.number taken.revision sources)
+    weight_of limits (units_after units taken.step taken.delta) (with_taken taken.source taken.number taken.revision sources)
 
 -- a source has its place in a document: it is there, or there is room for one more
 abbrev pub has_place : Limits → List ℕ → Sources → Bool
 has_place limits source sources = not ((window_of source sources).number == 0) || nat_lt (count_of sources) limits.sources
 
--- a delta is defined on these units, parts no pair, and leaves a document that is no heavier than it may be
+-- a delta is defined on these units, and parts no pair
+abbrev pub stands_on : List Operation → List Element → Bool
+stands_on delta units = not (reaches_past delta units) && not (parts_pair delta units)
+
+-- the delta of a step stands where it has to: on what stands in the document, or on the empty document where it is created again
+abbrev pub stands : Step → List Operation → List Element → Bool
+stands Edits delta units = stands_on delta units
+stands Deletes delta units = true
+stands Revives delta units = stands_on delta []
+
+-- a command's delta stands where it has to, and leaves a document that is no heavier than it may be
 abbrev pub stays_light : Limits → List Element → Sources → Taken → Bool
 stays_light limits units sources taken =
-    not (reaches_past taken.delta units) && not (parts_pair taken.delta units)
-    && nat_le (weight_after limits units sources taken) limits.weight
+    stands taken.step taken.delta units && nat_le (weight_after limits units sources taken) limits.weight
 
--- what a delta keeps that is taken on these units and sources: it leaves a light document, and its entry is as short as it has to be
+-- what a command keeps that is taken on these units and sources: it leaves a light document, and its entry is as short as it has to be
 abbrev pub keeps : Limits → List Element → Sources → Taken → Bool
 keeps limits units sources taken = stays_light limits units sources taken && nat_le (width_of taken) limits.width
 
 -- A creation begins a document: it is revision 1, by its source's first command.
 abbrev pub begins : Limits → Taken → Bool
-begins limits taken = (taken.revision == 1) && (taken.number == 1) && keeps limits [] empty taken
+begins limits taken = edits taken.step && (taken.revision == 1) && (taken.number == 1) && keeps limits [] empty taken
 
 -- a change is the next one after a revision with these sources: it has its source's next number, and its source has a place
 abbrev pub comes_next : Limits → ℕ → Sources → Taken → Bool
@@ -103,12 +116,13 @@ comes_next limits revision sources taken =
     && (taken.number == (window_of taken.source sources).number + 1) && nat_le taken.number last_of_all
     && has_place limits taken.source sources
 
--- a change follows the newest revision of a document: it is the next one, and keeps the limits
+-- a command follows the newest revision of a document: it suits its mark, is the next one, and keeps the limits
 abbrev pub follows : Limits → DocumentRecord → Taken → Bool
 follows limits found taken =
-    comes_next limits (revision_of found) (sources_of found) taken && keeps limits (units_of found) (sources_of found) taken
+    suits (is_live found) taken.step && comes_next limits (revision_of found) (sources_of found) taken
+    && keeps limits (units_of found) (sources_of found) taken
 
--- A command continues a document: it creates it where it isn't there, and changes it where it is.
+-- A command continues a document: it creates it where it isn't there, and changes, deletes or revives it where it is.
 abbrev pub continues_by_name : Limits → Option DocumentRecord → Taken → Option (List ℕ) → Bool
 continues_by_name limits None taken None = false
 continues_by_name limits None taken (Some name) = begins limits taken
@@ -122,11 +136,15 @@ continues limits found taken = continues_by_name limits found taken taken.name
 abbrev pub change_of : Taken → Change
 change_of taken = record { source = taken.source; number = taken.number; delta = taken.delta }
 
+-- what it does to the document
+abbrev pub next_of : Taken → Next
+next_of taken = record { step = taken.step; change = change_of taken }
+
 -- the document after a command
 abbrev pub record_by_name : ℕ → Option DocumentRecord → Taken → Option (List ℕ) → Option DocumentRecord
 record_by_name keep None taken None = None
-record_by_name keep None taken (Some name) = Some (record { name = name; past = with_change keep empty_past (change_of taken) })
-record_by_name keep (Some found) taken name = Some (record found { past = with_change keep found.past (change_of taken) })
+record_by_name keep None taken (Some name) = Some (record { name = name; past = with_step keep empty_past taken.step (change_of taken) })
+record_by_name keep (Some found) taken name = Some (record found { past = with_step keep found.past taken.step (change_of taken) })
 
 abbrev pub record_after : ℕ → Option DocumentRecord → Taken → Option DocumentRecord
 record_after keep found taken = record_by_name keep found taken taken.name
@@ -191,12 +209,16 @@ abbrev pub are_sources : ℕ → List (List ℕ × Window) → Bool
 are_sources revision [] = true
 are_sources revision (first ∷ others) = is_window revision first.1 && are_sources revision others
 
+-- a document is deleted as revision 2 or above, since a creation makes the first one
+abbrev pub is_mark_at : Bool → ℕ → Bool
+is_mark_at live revision = live || nat_le 2 revision
+
 -- A document may be added at a revision, without the past before it, with its sources: the limits are kept, its name is new, and
--- the revision and the sources are such as can be.
+-- the content, the revision and the sources are such as can be.
 abbrev pub adopts : State → List ℕ → Content → ℕ → Sources → Bool
 adopts state name content revision sources =
     nat_lt (length state.documents) state.limits.docs && is_none (find name 0 state.documents)
-    && nat_le 1 revision && nat_le revision last_of_all
+    && is_content content && is_mark_at content.live revision && nat_le 1 revision && nat_le revision last_of_all
     && nat_le (count_of sources) state.limits.sources && are_sources revision sources.entries
     && nat_le (weight_of state.limits content.units sources) state.limits.weight
 

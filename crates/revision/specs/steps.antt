@@ -4,6 +4,7 @@ pub mod Actions
 pub mod TakenView
 pub mod LimitsView
 pub mod PastView
+pub mod Turning
 pub mod Preparing
 pub mod Weighing
 pub mod Index

@@ -1,7 +1,8 @@
 //! A document is added with what stands in it, without the past before.
-ghost use Rattle.std.specs.Prelude.{◌≡◌, ◌↔◌, ◌⊎◌, ◌&&◌, false, nat_lt, nat_le, IfErr, OnOk, OnErr, IsErrOf};
+ghost use Rattle.std.specs.Prelude.{◌≡◌, ◌↔◌, ◌⊎◌, ◌&&◌, false, length, is_none, nat_lt, nat_le, IfErr, OnOk, OnErr, IsErrOf};
+ghost use Rattle.revision.specs.Past.{is_content as spec_is_content};
 ghost use Rattle.revision.specs.Window.{ascend};
-ghost use Rattle.revision.specs.State.{adopts, adopted, are_sources as spec_are_sources, is_window as spec_is_window, weight_of};
+ghost use Rattle.revision.specs.State.{adopts, adopted, find, is_mark_at as spec_is_mark_at, are_sources as spec_are_sources, is_window as spec_is_window, weight_of};
 
 use crate::doc_state::DocState;
 use crate::limits::Limits;
@@ -17,49 +18,86 @@ use std::alloc::Global;
 const LAST: u64 = (1 << 53) - 1;
 
 impl State {
-    /// Adds a document at a revision with what stands in it and with its sources, of which no past is held.
+    /// Adds a document at a revision with what stands in it and with its sources, of which no past is held. One that isn't live is
+    /// deleted.
     ///
-    /// Refused with `Stranger` just where there are `docs` documents, one of this name is there, the revision isn't 1 to
-    /// 2^53 - 1, there are more than `sources` sources, the last number of one of them isn't 1 to 2^53 - 1, its window has no number
-    /// or more than there are up to the last, the revisions there don't ascend strictly from 1 on up to the document's, or the weight
-    /// with them is above the limit: this is told before memory is taken. Refused
-    /// else for want of memory alone (`NoMemory`). A refusal leaves the state unchanged, and what was given is dropped.
+    /// Refused with `Stranger` just where there are `docs` documents, one of this name is there, something stands in it though it is
+    /// deleted, the revision isn't 1 to 2^53 - 1, or is 1 though it is deleted, there are more than `sources` sources, the last number
+    /// of one of them isn't 1 to 2^53 - 1, its window has no number or more than there are up to the last, the revisions there don't
+    /// ascend strictly from 1 on up to the document's, or the weight with them is above the limit: this is told before memory is taken.
+    /// Refused else for want of memory alone (`NoMemory`). A refusal leaves the state unchanged, and what was given is dropped.
     pub fn adopt(
         &mut self,
         alloc: Global,
         name: Name,
         document: Document,
+        live: bool,
         revision: u64,
         sources: Sources,
     ) -> Result<(), Refusal>
-        ensures ok { OnOk result (self.new ≡ adopted self.old name (record { units = document }) revision sources) }
+        ensures ok { OnOk result (self.new
+            ≡ adopted self.old name (record { units = document; live = live }) revision sources) }
         ensures stranger { IsErrOf result Refusal.Stranger
-            ↔ (adopts self.old name (record { units = document }) revision sources ≡ false) }
+            ↔ (adopts self.old name (record { units = document; live = live }) revision sources ≡ false) }
         ensures only { IfErr result (λ e. (e ≡ Refusal.Stranger) ⊎ (e ≡ Refusal.NoMemory)) }
         ensures unchanged { OnErr result (self.new ≡ self.old) }
     {
-        if !self.may_adopt(&name, &document, revision, &sources) {
+        if !self.may_adopt(&name, &document, live, revision, &sources) {
             return Err(Refusal::Stranger);
         }
-        let made = DocState::adopted(alloc, name, document, revision, sources)?;
+        let made = DocState::adopted(alloc, name, document, live, revision, sources)?;
         self.documents.adopt(alloc, made)?;
         self.documents.accept();
         Ok(())
     }
 
     // whether a document may be added
-    fn may_adopt(&self, name: &Name, document: &Document, revision: u64, sources: &Sources) -> bool
-        ensures { result ≡ adopts self.now name.now (record { units = document.now }) revision sources.now }
+    fn may_adopt(
+        &self,
+        name: &Name,
+        document: &Document,
+        live: bool,
+        revision: u64,
+        sources: &Sources,
+    ) -> bool
+        ensures { result
+            ≡ adopts self.now name.now (record { units = document.now; live = live }) revision sources.now }
     {
         let limits = self.limits();
-        (self.documents().len() as u64) < u64::from(limits.docs())
-            && self.find(name).is_none()
+        self.has_room_for(name, document, live, revision)
             && 1 <= revision
             && revision <= LAST
             && sources.count() as u64 <= u64::from(limits.sources())
             && are_sources(revision, sources.entries())
             && is_light(limits, document, sources)
     }
+
+    // whether there is room for a document of this name, which is live or deleted as it may be at a revision
+    fn has_room_for(&self, name: &Name, document: &Document, live: bool, revision: u64) -> bool
+        ensures { result
+            ≡ (nat_lt (length self.now.documents) self.now.limits.docs
+            && is_none (find name.now 0 self.now.documents)
+            && spec_is_content (record { units = document.now; live = live }) && spec_is_mark_at live revision) }
+    {
+        (self.documents().len() as u64) < u64::from(self.limits().docs())
+            && self.find(name).is_none()
+            && is_content(document, live)
+            && is_mark_at(live, revision)
+    }
+}
+
+// whether a document may be live or deleted at a revision: it isn't deleted as the first one
+fn is_mark_at(live: bool, revision: u64) -> bool
+    ensures { result ≡ spec_is_mark_at live revision }
+{
+    live || revision >= 2
+}
+
+// whether nothing stands in a document that is deleted
+fn is_content(document: &Document, live: bool) -> bool
+    ensures { result ≡ spec_is_content (record { units = document.now; live = live }) }
+{
+    live || document.len16() == 0
 }
 
 // whether each source has what it may have at a revision

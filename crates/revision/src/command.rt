@@ -1,7 +1,7 @@
 //! What a source asks for.
 ghost use Rattle.std.specs.Prelude.{◌≡◌, ◌<◌, ◌≤◌, ◌^◌, ◌↔◌, true, IsErrOf, IfErr, IfOk, IsOkUnless};
 ghost use Rattle.revision.specs.Name.{is_source_name};
-ghost use Rattle.revision.specs.Command.{Create, Edit, Undo, IsShort, IsShortDelta};
+ghost use Rattle.revision.specs.Command.{Create, Edit, Undo, Delete, IsShort, IsShortDelta};
 ghost use Rattle.revision.specs.steps.Actions.{action_of};
 
 use crate::name::Name;
@@ -23,6 +23,8 @@ pub enum Action {
     Edit { base: u64, delta: Delta },
     /// Take the source's last change back.
     Undo,
+    /// Delete it.
+    Delete,
 }
 
 impl Action {
@@ -38,6 +40,7 @@ impl Action {
                 delta: delta.copy(alloc)?,
             }),
             Action::Undo => Ok(Action::Undo),
+            Action::Delete => Ok(Action::Delete),
         }
     }
 }
@@ -68,7 +71,7 @@ impl Model for Command {
 }
 
 impl Command {
-    /// Asks that the document of this name be made by a delta on the empty document. The source's name has 1 to 32
+    /// Asks that the document of this name be made, or be made again where it is deleted, by a delta on the empty document. The source's name has 1 to 32
     /// characters, and its number for the command is 1 to 2^53 - 1. Refused with `BadOps` where the delta stands on more
     /// than 2^44 UTF-16 code units, or its output has more; the names and the delta are then gone. It takes no memory.
     /// Whether the command is taken, `State::plan` says.
@@ -133,6 +136,22 @@ impl Command {
             source,
             number,
             action: Action::Undo,
+        }
+    }
+
+    /// Asks that the document of this name be deleted. The source's name and its number are as those of `create`. It is never
+    /// refused.
+    pub fn delete(name: Name, source: Name, number: u64) -> Command
+        requires source { is_source_name source ≡ true }
+        requires first { 1 ≤ number }
+        requires last { number < 2 ^ 53 }
+        ensures { result ≡ record { name = name; source = source; number = number; action = Delete } }
+    {
+        Command {
+            name,
+            source,
+            number,
+            action: Action::Delete,
         }
     }
 

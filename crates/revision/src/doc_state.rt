@@ -1,19 +1,21 @@
 //! A document as a state holds it.
-ghost use Rattle.std.specs.Prelude.{◌≡◌, ◌&&◌, ◌+◌, ◌≤◌, ◌<◌, ◌^◌, ◌⊎◌, ◌∷◌, ◌++◌, true, false, [], length, is_some, unwrap_or, IfOk, IfErr, OnOk, OnErr, IsErrOf, IsOkUnless};
+ghost use Rattle.std.specs.Prelude.{◌≡◌, ◌&&◌, ◌+◌, ◌≤◌, ◌<◌, ◌^◌, ◌⊎◌, ◌∷◌, ◌++◌, ◌-◌, min, true, false, [], length, is_some, unwrap_or, IfOk, IfErr, OnOk, OnErr, IsErrOf, IsOkUnless};
 ghost use Rattle.delta.specs.Operation.{base_of, out_of};
 ghost use Rattle.delta.specs.Gaps.{counted, apply};
 ghost use Rattle.revision.specs.Floors.{raised};
 ghost use Rattle.revision.specs.Late.{late as late_edit, HasCommandRoom};
 ghost use Rattle.compose.specs.Many.{applied};
-ghost use Rattle.revision.specs.Past.{empty_past, StandInTurn, newest, content_at, sources_at, deltas_of, deltas_above, undo_of, with_changes, prepared_units, prepared_revision};
+ghost use Rattle.revision.specs.Past.{empty_past, StandInTurn, newest, content_at, sources_at, deltas_of, deltas_above, undo_of, own_delta, is_content, IsBlankFor, suits as spec_suits, units_after, next_by, with_steps, prepared_content, prepared_units, prepared_revision};
 ghost use Rattle.document.specs.Outcome.{IsAccepted};
+ghost use Rattle.document.specs.Weight.{weight_of};
 ghost use Rattle.revision.specs.Replay.{IsReplay};
 ghost use Rattle.revision.specs.Invariants.{IsLimits};
+ghost use Rattle.revision.specs.Command.{IsDeltaOf};
 ghost use Rattle.attributes.specs.Map.{get};
 ghost use Rattle.revision.specs.Name.{is_source_name};
 ghost use Rattle.revision.specs.Window.{nothing_taken};
 ghost use Rattle.revision.specs.Sources.{window_of, with_taken};
-ghost use Rattle.revision.specs.State.{revision_of, units_of, sources_of, begins as spec_begins, comes_next as spec_comes_next, follows, keeps as spec_keeps, stays_light as spec_stays_light, change_of};
+ghost use Rattle.revision.specs.State.{revision_of, units_of, sources_of, begins as spec_begins, comes_next as spec_comes_next, follows, keeps as spec_keeps, stays_light as spec_stays_light, stands, is_live, next_of};
 ghost use Rattle.revision.specs.Pending.{record_of, with_prepared};
 
 use crate::limits::Limits;
@@ -21,9 +23,10 @@ use crate::name::Name;
 use crate::past::{Past, Replay};
 use crate::source_table::SourceTable;
 use crate::sources::{Sources, window_in};
-use crate::taken::Taken;
+use crate::step::Step;
+use crate::taken::{Taken, deletes, edits};
 use crate::window::Window;
-use delta::Delta;
+use delta::{Builder, Delta, Op};
 use document::Document;
 use refusal::Refusal;
 use std::alloc::Global;
@@ -65,23 +68,25 @@ impl DocState {
     {
         DocState {
             name,
-            past: Past::new(alloc, 0, Document::empty(alloc), Sources::new(alloc)),
+            past: Past::new(alloc, 0, Document::empty(alloc), true, Sources::new(alloc)),
             document: Document::empty(alloc),
             next: None,
             sources: SourceTable::new(alloc),
         }
     }
 
-    /// A document whose past begins at a revision with what stands in it, at most 2^29 units, and with its sources. Refused
-    /// for want of memory alone.
+    /// A document whose past begins at a revision with what stands in it, at most 2^29 units, and with its sources. Nothing stands in
+    /// one that isn't live. Refused for want of memory alone.
     pub(crate) fn adopted(
         alloc: Global,
         name: Name,
         document: Document,
+        live: bool,
         revision: u64,
         sources: Sources,
     ) -> Result<DocState, Refusal>
         requires short { length document ≤ 2 ^ 29 }
+        requires content { is_content (record { units = document; live = live }) ≡ true }
         requires revision { revision < 2 ^ 53 }
         ensures ok { IfOk result (λ made. made
             ≡ record {
@@ -91,7 +96,7 @@ impl DocState {
                     past =
                         record {
                           floor = revision;
-                          content = record { units = document };
+                          content = record { units = document; live = live };
                           sources = sources;
                           changes = [];
                         };
@@ -104,7 +109,7 @@ impl DocState {
         let table = SourceTable::from_sources(alloc, &sources)?;
         Ok(DocState {
             name,
-            past: Past::new(alloc, revision, document, sources),
+            past: Past::new(alloc, revision, document, live, sources),
             document: newest,
             next: None,
             sources: table,
@@ -112,7 +117,7 @@ impl DocState {
     }
 
     /// Prepares a change that follows what is prepared so far, as `place_for` tells; its source is looked for first at the place that
-    /// `place_for` gave. Its delta is moved into the past. Refused for want of memory alone, and then nothing more is prepared. What is
+    /// `place_for` gave. Its delta is moved into the past, and of a deletion one that deletes all. Refused for want of memory alone, and then nothing more is prepared. What is
     /// read stays as it is.
     pub(crate) fn prepare_next(
         &mut self,
@@ -124,18 +129,20 @@ impl DocState {
         requires limits { IsLimits limits }
         requires follows { follows limits (with_prepared limits.keep self.old) taken ≡ true }
         ensures ok { OnOk result (self.new
-            ≡ record self.old { past = record self.old.past { next = self.old.past.next ++ change_of taken ∷ [] } }) }
+            ≡ record self.old { past = record self.old.past { next = self.old.past.next ++ next_of taken ∷ [] } }) }
         ensures only { IsOkUnless result Refusal.NoMemory }
         ensures unchanged { OnErr result (self.new ≡ self.old) }
     {
-        let delta = taken.delta();
+        // nothing stands in a document that is deleted
+        let _ = self.past.is_prepared_live();
+        let change = change_on(alloc, self.ahead(), taken)?;
         match self.next.as_mut() {
             // no document is made anew for a second change
-            Some(next) => note_on(alloc, &mut self.past, &mut self.sources, next, taken, near)?,
+            Some(next) => note_on(alloc, &mut self.past, &mut self.sources, next, change, near)?,
             None => {
-                let after = after_taken(alloc, &self.document, delta)?;
+                let after = after_taken(alloc, &self.document, &change.delta)?;
                 self.past.keep(alloc, &self.document);
-                note(alloc, &mut self.past, &mut self.sources, taken, near)?;
+                note(alloc, &mut self.past, &mut self.sources, change, near)?;
                 self.next = Some(after);
             }
         }
@@ -153,6 +160,9 @@ impl DocState {
     pub(crate) fn place_for(&self, limits: Limits, taken: &Taken) -> Option<usize>
         ensures { is_some result ≡ follows limits (with_prepared limits.keep self.now) taken.now }
     {
+        if !suits(self.past.is_prepared_live(), taken.step()) {
+            return None;
+        }
         let revision = self.past.prepared_revision();
         follows_at(
             limits,
@@ -163,13 +173,13 @@ impl DocState {
         )
     }
 
-    /// Accepts what was prepared: each change is the next revision, and the floor rises to `keep` below the newest one where it
-    /// is lower. It takes no memory, and isn't refused.
+    /// Accepts what was prepared: each change is the next revision, and the floor rises as `Past::accept` says. It takes no memory, and
+    /// isn't refused.
     pub(crate) fn accept(&mut self, limits: Limits)
         ensures { self.new
             ≡ record self.old {
               past =
-                  record { past = with_changes limits.keep self.old.past.past self.old.past.next; next = [] };
+                  record { past = with_steps limits.keep self.old.past.past self.old.past.next; next = [] };
             } }
     {
         self.past.accept(limits.keep());
@@ -213,6 +223,13 @@ impl DocState {
         ensures { result.now ≡ self.now.name }
     {
         &self.name
+    }
+
+    /// Whether it is live; else it is deleted.
+    pub fn is_live(&self) -> bool
+        ensures { result ≡ is_live (record_of self.now) }
+    {
+        self.past.is_live()
     }
 
     /// Its newest revision, below 2^53.
@@ -338,9 +355,23 @@ pub(crate) fn begins(alloc: Global, limits: Limits, taken: &Taken) -> bool
     requires { IsLimits limits }
     ensures { result ≡ spec_begins limits taken.now }
 {
+    if !edits(taken.step()) {
+        return false;
+    }
     let sources = Sources::new(alloc);
     let document = Document::empty(alloc);
     follows_at(limits, 0, &document, &sources, taken).is_some()
+}
+
+// whether a document of this mark is changed so
+fn suits(live: bool, step: Step) -> bool
+    ensures { result ≡ spec_suits live step }
+{
+    match step {
+        Step::Edits => live,
+        Step::Deletes => live,
+        Step::Revives => !live,
+    }
 }
 
 // Where a change's source stands or would stand, if the change follows a revision with this document and these sources. The source
@@ -352,7 +383,8 @@ fn follows_at(
     sources: &Sources,
     taken: &Taken,
 ) -> Option<usize>
-    requires { revision < 2 ^ 53 }
+    requires revision { revision < 2 ^ 53 }
+    requires blank { IsBlankFor taken.now.step document.now }
     ensures { is_some result
         ≡ (spec_comes_next limits revision sources.now taken.now
         && spec_keeps limits document.now sources.now taken.now) }
@@ -396,14 +428,15 @@ fn keeps(
     found: &Option<Window>,
     taken: &Taken,
 ) -> bool
-    requires { found.now ≡ get sources.now taken.now.source }
+    requires blank { IsBlankFor taken.now.step document.now }
+    requires found { found.now ≡ get sources.now taken.now.source }
     ensures { result ≡ spec_keeps limits document.now sources.now taken.now }
 {
     stays_light(limits, document, sources, found, taken)
         && taken.width() <= u64::from(limits.width())
 }
 
-// whether a change's delta is defined on the document, parts no pair, and leaves what is no heavier than it may be
+// whether a change's delta is defined on what it has to stand on, parts no pair, and leaves what is no heavier than it may be
 fn stays_light(
     limits: Limits,
     document: &Document,
@@ -411,13 +444,102 @@ fn stays_light(
     found: &Option<Window>,
     taken: &Taken,
 ) -> bool
-    requires { found.now ≡ get sources.now taken.now.source }
+    requires blank { IsBlankFor taken.now.step document.now }
+    requires found { found.now ≡ get sources.now taken.now.source }
     ensures { result ≡ spec_stays_light limits document.now sources.now taken.now }
 {
     let beside = sources.weight_with(limits, found);
-    match document.weigh(taken.delta()) {
+    match weigh_after(document, taken) {
         Ok(units) => units.saturating_add(beside) <= u64::from(limits.weight()),
         Err(_) => false,
+    }
+}
+
+// what a change leaves weighs, where its delta is defined on what it has to stand on, and parts no pair
+fn weigh_after(document: &Document, taken: &Taken) -> Result<u64, Refusal>
+    requires blank { IsBlankFor taken.now.step document.now }
+    ensures stands { OnOk result (stands taken.now.step taken.now.delta document.now ≡ true) }
+    ensures weight { IfOk result (λ weight. weight
+        ≡ min (weight_of (units_after document.now taken.now.step taken.now.delta)) (2 ^ 64 - 1)) }
+    ensures err { OnErr result (stands taken.now.step taken.now.delta document.now ≡ false) }
+{
+    if deletes(taken.step()) {
+        return Ok(0);
+    }
+    document.weigh(taken.delta())
+}
+
+// A change as the past and the sources take it.
+#[derive(Drop)]
+struct Change {
+    source: Name,
+    number: u64,
+    revision: u64,
+    step: Step,
+    delta: Delta,
+}
+
+// A change of this document: that of a command which was taken on it, where a deletion has the delta that deletes all. Refused for want of
+// memory alone.
+fn change_on(alloc: Global, document: &Document, taken: Taken) -> Result<Change, Refusal>
+    requires blank { IsBlankFor taken.step document.now }
+    requires stands { stands taken.step taken.delta document.now ≡ true }
+    requires short { length (units_after document.now taken.step taken.delta) ≤ 2 ^ 29 }
+    ensures named { IfOk result (λ change. is_source_name change.source ≡ true) }
+    ensures next { IfOk result (λ change. next_by change.source change.number change.step change.delta ≡ next_of taken) }
+    ensures revision { IfOk result (λ change. change.revision ≡ taken.revision) }
+    ensures last { IfOk result (λ change. change.revision < 2 ^ 53) }
+    ensures leads { IfOk result (λ change. apply document.now (counted change.delta)
+        ≡ units_after document.now change.step change.delta) }
+    ensures accepted { IfOk result (λ change. IsAccepted document.now (counted change.delta)) }
+    ensures short { IfOk result (λ change. length (apply document.now (counted change.delta)) ≤ 2 ^ 29) }
+    ensures only { IsOkUnless result Refusal.NoMemory }
+{
+    let (revision, step) = (taken.revision(), taken.step());
+    let (source, number, delta) = taken.into_change();
+    let delta = kept_delta(alloc, document, step, delta)?;
+    Ok(Change {
+        source,
+        number,
+        revision,
+        step,
+        delta,
+    })
+}
+
+// The delta that leads from this document to what stands after a step. Refused for want of memory alone.
+fn kept_delta(
+    alloc: Global,
+    document: &Document,
+    step: Step,
+    delta: Delta,
+) -> Result<Delta, Refusal>
+    requires blank { IsBlankFor step document.now }
+    requires own { IsDeltaOf step delta }
+    requires stands { stands step delta document.now ≡ true }
+    requires short { length (units_after document.now step delta) ≤ 2 ^ 29 }
+    ensures own { IfOk result (λ kept. own_delta step kept ≡ delta) }
+    ensures leads { IfOk result (λ kept. apply document.now (counted kept) ≡ units_after document.now step kept) }
+    ensures accepted { IfOk result (λ kept. IsAccepted document.now (counted kept)) }
+    ensures short { IfOk result (λ kept. length (apply document.now (counted kept)) ≤ 2 ^ 29) }
+    ensures only { IsOkUnless result Refusal.NoMemory }
+{
+    if deletes(step) {
+        return deleting_all(alloc, document);
+    }
+    Ok(delta)
+}
+
+// the delta that deletes all that stands in a document
+fn deleting_all(alloc: Global, document: &Document) -> Result<Delta, Refusal>
+    ensures accepted { IfOk result (λ made. IsAccepted document.now (counted made)) }
+    ensures empty { IfOk result (λ made. apply document.now (counted made) ≡ []) }
+    ensures only { IsOkUnless result Refusal.NoMemory }
+{
+    let mut made = Builder::new(alloc);
+    match made.push(Op::delete(document.len16())) {
+        Ok(()) => Ok(made.finish()),
+        Err(refusal) => Err(refusal),
     }
 }
 
@@ -435,19 +557,23 @@ fn after_taken(alloc: Global, document: &Document, taken: &Delta) -> Result<Docu
 
 // Prepares a change in the past, and gives its source. Refused for want of memory alone, and then the past is unchanged. What lies
 // below the floor is let go of, as far as memory goes.
-fn add_to(alloc: Global, past: &mut Past, taken: Taken) -> Result<Name, Refusal>
-    requires accepted { IsAccepted (prepared_units past.old) (counted taken.delta) }
-    requires short { length (apply (prepared_units past.old) (counted taken.delta)) ≤ 2 ^ 29 }
+fn add_to(alloc: Global, past: &mut Past, change: Change) -> Result<Name, Refusal>
+    requires named { is_source_name change.source ≡ true }
+    requires suits { spec_suits (prepared_content past.old).live change.step ≡ true }
+    requires leads { apply (prepared_units past.old) (counted change.delta)
+        ≡ units_after (prepared_units past.old) change.step change.delta }
+    requires accepted { IsAccepted (prepared_units past.old) (counted change.delta) }
+    requires short { length (apply (prepared_units past.old) (counted change.delta)) ≤ 2 ^ 29 }
     requires revision { prepared_revision past.old + 1 < 2 ^ 53 }
-    ensures past { OnOk result (past.new ≡ record past.old { next = past.old.next ++ change_of taken ∷ [] }) }
-    ensures source { IfOk result (λ source. source ≡ taken.source) }
+    ensures past { OnOk result (past.new ≡ record past.old { next = past.old.next ++ next_by change.source change.number change.step change.delta ∷ [] }) }
+    ensures source { IfOk result (λ source. source ≡ change.source) }
     ensures named { IfOk result (λ source. is_source_name source ≡ true) }
     ensures unchanged { OnErr result (past.new ≡ past.old) }
     ensures only { IsOkUnless result Refusal.NoMemory }
 {
     past.let_go(alloc);
-    let (source, number, delta) = taken.into_change();
-    past.prepare(source.copy(alloc)?, number, delta)?;
+    let source = change.source.copy(alloc)?;
+    past.prepare(change.source, change.number, change.step, change.delta)?;
     Ok(source)
 }
 
@@ -457,23 +583,27 @@ fn note(
     alloc: Global,
     past: &mut Past,
     sources: &mut SourceTable,
-    taken: Taken,
+    change: Change,
     near: usize,
 ) -> Result<(), Refusal>
-    requires accepted { IsAccepted (prepared_units past.old) (counted taken.delta) }
-    requires short { length (apply (prepared_units past.old) (counted taken.delta)) ≤ 2 ^ 29 }
+    requires named { is_source_name change.source ≡ true }
+    requires suits { spec_suits (prepared_content past.old).live change.step ≡ true }
+    requires leads { apply (prepared_units past.old) (counted change.delta)
+        ≡ units_after (prepared_units past.old) change.step change.delta }
+    requires accepted { IsAccepted (prepared_units past.old) (counted change.delta) }
+    requires short { length (apply (prepared_units past.old) (counted change.delta)) ≤ 2 ^ 29 }
     requires revision { prepared_revision past.old + 1 < 2 ^ 53 }
-    ensures past { OnOk result (past.new ≡ record past.old { next = past.old.next ++ change_of taken ∷ [] }) }
+    ensures past { OnOk result (past.new ≡ record past.old { next = past.old.next ++ next_by change.source change.number change.step change.delta ∷ [] }) }
     ensures sources { OnOk result (sources.new
         ≡ record sources.old {
-          prepared = with_taken taken.source taken.number taken.revision sources.old.prepared;
+          prepared = with_taken change.source change.number change.revision sources.old.prepared;
         }) }
     ensures past_unchanged { OnErr result (past.new ≡ past.old) }
     ensures sources_unchanged { OnErr result (sources.new ≡ sources.old) }
     ensures only { IsOkUnless result Refusal.NoMemory }
 {
-    let (number, revision) = (taken.number(), taken.revision());
-    let source = add_to(alloc, past, taken)?;
+    let (number, revision) = (change.number, change.revision);
+    let source = add_to(alloc, past, change)?;
     let noted = sources.prepare(alloc, &source, number, revision, near);
     if noted.is_err() {
         past.take_back();
@@ -487,26 +617,30 @@ fn note_on(
     past: &mut Past,
     sources: &mut SourceTable,
     next: &mut Document,
-    taken: Taken,
+    change: Change,
     near: usize,
 ) -> Result<(), Refusal>
     requires next { next.old ≡ prepared_units past.old }
-    requires accepted { IsAccepted (prepared_units past.old) (counted taken.delta) }
-    requires short { length (apply (prepared_units past.old) (counted taken.delta)) ≤ 2 ^ 29 }
+    requires named { is_source_name change.source ≡ true }
+    requires suits { spec_suits (prepared_content past.old).live change.step ≡ true }
+    requires leads { apply (prepared_units past.old) (counted change.delta)
+        ≡ units_after (prepared_units past.old) change.step change.delta }
+    requires accepted { IsAccepted (prepared_units past.old) (counted change.delta) }
+    requires short { length (apply (prepared_units past.old) (counted change.delta)) ≤ 2 ^ 29 }
     requires revision { prepared_revision past.old + 1 < 2 ^ 53 }
-    ensures next { OnOk result (next.new ≡ apply next.old (counted taken.delta)) }
-    ensures past { OnOk result (past.new ≡ record past.old { next = past.old.next ++ change_of taken ∷ [] }) }
+    ensures next { OnOk result (next.new ≡ units_after next.old change.step change.delta) }
+    ensures past { OnOk result (past.new ≡ record past.old { next = past.old.next ++ next_by change.source change.number change.step change.delta ∷ [] }) }
     ensures sources { OnOk result (sources.new
         ≡ record sources.old {
-          prepared = with_taken taken.source taken.number taken.revision sources.old.prepared;
+          prepared = with_taken change.source change.number change.revision sources.old.prepared;
         }) }
     ensures next_unchanged { OnErr result (next.new ≡ next.old) }
     ensures past_unchanged { OnErr result (past.new ≡ past.old) }
     ensures sources_unchanged { OnErr result (sources.new ≡ sources.old) }
     ensures only { IsOkUnless result Refusal.NoMemory }
 {
-    let (number, revision) = (taken.number(), taken.revision());
-    let source = add_to(alloc, past, taken)?;
+    let (number, revision) = (change.number, change.revision);
+    let source = add_to(alloc, past, change)?;
     let noted = sources.prepare_with(
         alloc,
         &source,

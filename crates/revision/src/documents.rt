@@ -8,7 +8,7 @@ ghost use Rattle.revision.specs.steps.Index.{IsIndex, NoneTwice};
 ghost use Rattle.revision.specs.Invariants.{IsLimits};
 ghost use Rattle.revision.specs.Pending.{record_of, with_prepared};
 ghost use Rattle.revision.specs.steps.Preparing.{accepted, forgotten, with_next, begun};
-ghost use Rattle.revision.specs.State.{begins as spec_begins, has_room, change_of, continues_by_name, grows, grown, all_grow, first_grows, fold, find};
+ghost use Rattle.revision.specs.State.{begins as spec_begins, has_room, next_of, continues_by_name, grows, grown, all_grow, first_grows, fold, find};
 
 use crate::doc_state::{DocState, begins};
 use crate::limits::Limits;
@@ -189,7 +189,7 @@ impl Documents {
         }
     }
 
-    // prepares an edit or an undo that continues what was prepared
+    // prepares a change of a document that is there, which continues what was prepared
     fn change_next(&mut self, alloc: Global, taken: Taken, near: usize) -> Result<(), Refusal>
         requires name { taken.name ≡ None }
         requires continues { grows self.old.after taken ≡ true }
@@ -329,7 +329,7 @@ impl Documents {
     }
 }
 
-// where the source of an edit or an undo stands or would stand, if that continues a document that is there
+// where the source of a change stands or would stand, if that continues a document that is there
 fn place_in(documents: &[DocState], limits: Limits, taken: &Taken) -> Option<usize>
     ensures { is_some result
         ≡ continues_by_name limits (slice_get (map (with_prepared limits.keep) documents.now) taken.now.document)
@@ -341,7 +341,7 @@ fn place_in(documents: &[DocState], limits: Limits, taken: &Taken) -> Option<usi
     }
 }
 
-// prepares an edit or an undo that continues a document
+// prepares a change that continues a document
 fn change(
     alloc: Global,
     documents: &mut Vec<DocState>,
@@ -353,7 +353,7 @@ fn change(
     requires continues { continues_by_name limits
         (slice_get (map (with_prepared limits.keep) documents.old.items) taken.document) taken None ≡ true }
     ensures ok { OnOk result (documents.new.items
-        ≡ changed_at (with_next (change_of taken)) taken.document documents.old.items) }
+        ≡ changed_at (with_next (next_of taken)) taken.document documents.old.items) }
     ensures only { IsOkUnless result Refusal.NoMemory }
     ensures unchanged { OnErr result (documents.new.items ≡ documents.old.items) }
 {
@@ -366,7 +366,7 @@ fn change(
 fn begin(alloc: Global, limits: Limits, taken: &Taken, name: &Name) -> Result<DocState, Refusal>
     requires limits { IsLimits limits }
     requires begins { spec_begins limits taken.now ≡ true }
-    ensures ok { IfOk result (λ made. made ≡ begun name.now (change_of taken.now)) }
+    ensures ok { IfOk result (λ made. made ≡ begun name.now (next_of taken.now)) }
     ensures only { IsOkUnless result Refusal.NoMemory }
 {
     let mut document = DocState::empty(alloc, name.copy(alloc)?);

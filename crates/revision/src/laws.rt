@@ -8,7 +8,7 @@ ghost use Rattle.revision.specs.Parting.{PartsTold};
 ghost use Rattle.revision.specs.Replay.{PartsStand};
 ghost use Rattle.revision.specs.Agree.{AgreeSame, AgreeTurned, AgreeThrough, AgreeingContinue, AgreeingGrow, AgreeingAnswer, AgreeingAnswerHeld};
 ghost use Rattle.revision.specs.Invariants.{EmptyIsState, GrowingKeeps, AdoptingKeeps, ContinuingKeeps};
-ghost use Rattle.revision.specs.Floors.{FromItself, FromTwice, FromNewest, FromLonger, ChangeMakes};
+ghost use Rattle.revision.specs.Floors.{FromItself, FromTwice, FromNewest, FromLonger, StepMakes};
 ghost use Rattle.revision.specs.Retries.{AgainInWindow, NoneOutside, Shifts, StaysWindow, OneRevision, AgainForLong, TakenOrHad, FromNothing, CutStays, CutWeighs};
 ghost use Rattle.revision.specs.Late.{InsertedStay, LightInserts, RoomForCommands, RoomForUndo};
 
@@ -91,11 +91,11 @@ pub fn last_numbers()
     ensures weigh { CutWeighs }
 {}
 
-/// A past from higher floors on, and with a change more.
+/// A past from higher floors on, with a change more, and by a step more.
 pub fn floors()
     ensures itself { FromItself }
     ensures twice { FromTwice }
     ensures newest { FromNewest }
     ensures longer { FromLonger }
-    ensures change { ChangeMakes }
+    ensures step { StepMakes }
 {}

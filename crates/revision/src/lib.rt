@@ -1,7 +1,7 @@
 //! The rule of acceptance: which command is taken, which revision comes of it, and what the store then holds.
 //!
 //! A state is the documents in order of creation, each a document of rich text with its past as far back as it is held, and
-//! with its sources. `State::plan` answers a command by the first case that holds and leaves the state alone;
+//! with its sources. A document may be deleted, and created again, and its revisions go on. `State::plan` answers a command by the first case that holds and leaves the state alone;
 //! `State::prepare` and `PreparedState::accept` add what was taken, in two steps of which the second can't fail, and
 //! `State::decide` does all in one. `State::adopt` adds a document whose past isn't held. `State::find`, `at` and `since`
 //! read. The definitions stand in specs/Command.antt, specs/State.antt and specs/Acceptance.antt; what a document's past is,
@@ -52,6 +52,7 @@ mod reading;
 mod source_table;
 mod sources;
 mod state;
+mod step;
 mod taken;
 mod taker;
 mod widths;
@@ -65,6 +66,7 @@ pub use past::{Past, Replay};
 pub use planning::{Plan, Reply};
 pub use sources::Sources;
 pub use state::{PreparedState, State, Unprepared};
+pub use step::Step;
 pub use taken::Taken;
 pub use taker::Taker;
 pub use widths::delta_width;

@@ -1,5 +1,5 @@
 //! A document's past, as far back as it is held.
-ghost use Rattle.std.specs.Prelude.{◌≡◌, ◌+◌, ◌≤◌, ◌<◌, ◌^◌, ◌∷◌, ◌++◌, [], true, ℕ, ◌-◌, List, length, take, drop, IfOk, IfSome, OnOk, OnErr, IsOkUnless};
+ghost use Rattle.std.specs.Prelude.{◌≡◌, ◌+◌, ◌≤◌, ◌<◌, ◌^◌, ◌∷◌, ◌++◌, [], true, false, ℕ, ◌-◌, List, length, take, drop, IfOk, IfSome, OnOk, OnErr, IsOkUnless};
 ghost use Rattle.delta.specs.Element.{Element};
 ghost use Rattle.delta.specs.Operation.{Operation, base_of, out_of};
 ghost use Rattle.delta.specs.Gaps.{counted, apply};
@@ -7,7 +7,8 @@ ghost use Rattle.document.specs.Outcome.{IsAccepted};
 ghost use Rattle.compose.specs.Many.{applied};
 ghost use Rattle.revision.specs.Floors.{raised};
 ghost use Rattle.revision.specs.Late.{late as late_edit, all_inserted, HasCommandRoom};
-ghost use Rattle.revision.specs.Past.{Change, StandInTurn, IsKept, AreKept, newest, newest_units, content_at, deltas_of, deltas_above, undo_of, way_back, way_back_late, with_changes, prepared_units, prepared_revision, without_last, sources_after, sources_at, changes_by};
+ghost use Rattle.revision.specs.Past.{Change, StandInTurn, IsKept, AreKept, newest, newest_units, content_at, deltas_of, deltas_above, undo_of, way_back, way_back_late, Next, is_content, suits, live_after as spec_live_after, units_after, next_by, with_steps, prepared_content, prepared_units, prepared_revision, without_last, sources_after, sources_at, changes_by};
+ghost use Rattle.revision.specs.steps.Turning.{steps_up_to_turn, turned_floor as spec_turned_floor, live_after_takers};
 ghost use Rattle.revision.specs.Name.{is_source_name};
 ghost use Rattle.revision.specs.Replay.{IsReplay};
 
@@ -15,6 +16,8 @@ use crate::kept_document::Kept;
 use crate::late::{late, past_all};
 use crate::name::Name;
 use crate::sources::Sources;
+use crate::step::Step;
+use crate::taken::edits;
 use crate::taker::Taker;
 use compose::invert;
 use delta::Delta;
@@ -33,6 +36,9 @@ const APART: u64 = 256;
 /// it. The first document that is kept may be older: what is seen is computed from it, so that the floor rises without a copy. Further
 /// documents are kept at every 256th revision or so, which share what they have in common, so that the way to a revision is short.
 ///
+/// A deletion is kept as the delta that deletes all. It raises the floor to its own revision, as a creation again does, so the revisions
+/// that are held are of one mark, live or deleted. What stood there before is let go of by the next change.
+///
 /// A change is first prepared, which leaves what is seen as it is, and may find no memory. What is prepared is then accepted,
 /// which needs none.
 #[derive(Drop)]
@@ -45,6 +51,8 @@ pub struct Past {
     deltas: Vec<Delta>,
     count: usize,
     kept: Vec<Kept>,
+    live: bool,
+    stale: bool,
 }
 
 /// What a revision is made of: what stands at an older revision, the deltas in turn that lead from it, and the sources at the revision.
@@ -70,14 +78,21 @@ impl Model for Past {
 }
 
 impl Past {
-    /// A past that begins with a document, which is short, and its sources at a revision. It takes no memory.
-    pub fn new(alloc: Global, floor: u64, document: Document, sources: Sources) -> Past
+    /// A past that begins with a document, which is short, live or deleted, and its sources at a revision. Nothing stands in one that is
+    /// deleted. It takes no memory.
+    pub fn new(alloc: Global, floor: u64, document: Document, live: bool, sources: Sources) -> Past
         requires short { length document ≤ 2 ^ 29 }
+        requires content { is_content (record { units = document; live = live }) ≡ true }
         requires revision { floor < 2 ^ 53 }
         ensures { result
             ≡ record {
               past =
-                  record { floor = floor; content = record { units = document }; sources = sources; changes = [] };
+                  record {
+                    floor = floor;
+                    content = record { units = document; live = live };
+                    sources = sources;
+                    changes = [];
+                  };
               next = [];
             } }
     {
@@ -90,7 +105,24 @@ impl Past {
             deltas: Vec::new(alloc),
             count: 0,
             kept: Vec::new(alloc),
+            live,
+            stale: false,
         }
+    }
+
+    /// Whether the document is live; else it is deleted.
+    pub fn is_live(&self) -> bool
+        ensures { result ≡ self.now.past.content.live }
+    {
+        self.live
+    }
+
+    /// Whether it is live after all that was prepared; nothing stands in it where it isn't.
+    pub fn is_prepared_live(&self) -> bool
+        ensures live { result ≡ (prepared_content self.now).live }
+        ensures content { is_content (prepared_content self.now) ≡ true }
+    {
+        live_after(&self.takers.as_slice()[self.count..], self.live)
     }
 
     /// The lowest revision that is held.
@@ -212,32 +244,46 @@ impl Past {
         self.start + self.deltas.len() as u64
     }
 
-    /// Prepares the change of the revision after all that was prepared: its source's name has 1 to 32 characters, the document takes
-    /// it there, and stays short. What is seen of the past stays as it is. Refused for want of memory alone, and then nothing more
-    /// is prepared.
-    pub fn prepare(&mut self, source: Name, number: u64, delta: Delta) -> Result<(), Refusal>
+    /// Prepares the change of the revision after all that was prepared: its source's name has 1 to 32 characters, what it does suits the
+    /// document's mark there, and its delta leads to what stands there after it, that of a deletion to nothing. The document takes it,
+    /// and stays short. What is seen of the past stays as it is. Refused for want of memory alone, and then nothing more is prepared.
+    pub fn prepare(
+        &mut self,
+        source: Name,
+        number: u64,
+        step: Step,
+        delta: Delta,
+    ) -> Result<(), Refusal>
         requires named { is_source_name source ≡ true }
+        requires suits { suits (prepared_content self.old).live step ≡ true }
+        requires leads { apply (prepared_units self.old) (counted delta) ≡ units_after (prepared_units self.old) step delta }
         requires accepted { IsAccepted (prepared_units self.old) (counted delta) }
         requires short { length (apply (prepared_units self.old) (counted delta)) ≤ 2 ^ 29 }
         requires revision { prepared_revision self.old + 1 < 2 ^ 53 }
         ensures ok { OnOk result (self.new
             ≡ record self.old {
               next = self.old.next
-                  ++ record { source = source; number = number; delta = delta } ∷ [];
+                  ++ next_by source number step delta ∷ [];
             }) }
         ensures only { IsOkUnless result Refusal.NoMemory }
         ensures unchanged { OnErr result (self.new ≡ self.old) }
     {
-        let taker = Taker { source, number };
+        let taker = Taker {
+            source,
+            number,
+            step,
+        };
         push_both(&mut self.takers, &mut self.deltas, taker, delta)?;
         Ok(())
     }
 
-    /// The delta of the last change that was prepared.
+    /// The delta that leads to what stands in the document after the last change that was prepared.
     pub(crate) fn prepared_delta(&self) -> &Delta
         requires some { 0 < length self.now.next }
-        ensures { (before : List Change) (last : Change) → self.now.next ≡ before ++ last ∷ []
-            → result.now ≡ last.delta }
+        ensures accepted { (before : List Next) (last : Next) → self.now.next ≡ before ++ last ∷ []
+            → IsAccepted (prepared_units (record self.now { next = before })) (counted result.now) }
+        ensures leads { (before : List Next) (last : Next) → self.now.next ≡ before ++ last ∷ []
+            → apply (prepared_units (record self.now { next = before })) (counted result.now) ≡ prepared_units self.now }
     {
         let last = self.deltas.len() - 1;
         &self.deltas[last]
@@ -254,45 +300,53 @@ impl Past {
         }
     }
 
-    /// Accepts what was prepared: each change is the next revision, and the floor rises to `keep` below the newest one where it
-    /// is lower. It takes no memory, and isn't refused.
+    /// Accepts what was prepared: each change is the next revision, and the floor rises to the last one that deletes the document or
+    /// creates it again, and to `keep` below the newest one, where it is lower. It takes no memory, and isn't refused.
     pub fn accept(&mut self, keep: u32)
         requires some { 1 ≤ keep }
         requires bound { keep ≤ 65536 }
-        ensures { self.new ≡ record { past = with_changes keep self.old.past self.old.next; next = [] } }
+        ensures { self.new ≡ record { past = with_steps keep self.old.past self.old.next; next = [] } }
     {
-        let newest = self.start + self.deltas.len() as u64;
         if self.count == self.deltas.len() {
             return;
         }
-        self.count = self.deltas.len();
+        let taken = self.start + self.count as u64;
+        let newest = self.start + self.deltas.len() as u64;
+        let added = &self.takers.as_slice()[self.count..];
+        let turns = up_to_turn(added);
+        let live = live_after(added, self.live);
         let least = newest.saturating_sub(u64::from(keep));
-        if least > self.floor {
-            self.floor = least;
-        }
+        self.floor = turned_floor(taken, self.floor, turns).max(least);
+        self.live = live;
+        self.stale = self.stale || turns > 0;
+        self.count = self.deltas.len();
     }
 
-    /// Keeps a copy of the document at the newest revision, once 256 revisions have come since the last that is kept, as far as memory
-    /// goes. What is seen stays as it is.
+    /// Keeps a copy of the document at the newest revision, once 256 revisions have come since the last that is kept, or where it was
+    /// deleted or created again, as far as memory goes. What is seen stays as it is.
     pub(crate) fn keep(&mut self, alloc: Global, document: &Document)
         requires newest { document.now ≡ newest_units self.old.past }
         ensures { self.new ≡ self.old }
     {
         let revision = self.start + self.count as u64;
         let last = last_kept(self.kept.as_slice(), self.start);
-        if revision.saturating_sub(last) >= APART {
+        if self.stale || revision.saturating_sub(last) >= APART {
             push_kept(alloc, &mut self.kept, revision, document);
         }
     }
 
     /// Lets go of the revisions below the floor, once there are 512 of them, up to the last document that is kept from there, as far
-    /// as memory goes. What is seen stays as it is.
+    /// as memory goes; and of all of them where the document was deleted or created again. What is seen stays as it is.
     ///
     /// With fewer a call costs nothing. Else it applies no delta: the document that is kept takes the place of the first one, and the
     /// sources of the changes up to it are noted.
     pub fn let_go(&mut self, alloc: Global)
         ensures { self.new ≡ self.old }
     {
+        if self.stale {
+            self.let_go_to_floor(alloc);
+            return;
+        }
         if self.floor - self.start < MOST_BELOW {
             return;
         }
@@ -321,6 +375,34 @@ impl Past {
         }
     }
 
+    // Lets go of all revisions below the floor, as far as memory goes. What is seen stays as it is.
+    fn let_go_to_floor(&mut self, alloc: Global)
+        ensures { self.new ≡ self.old }
+    {
+        let gone = (self.floor - self.start) as usize;
+        let Ok(document) = self.document_at(alloc, self.floor) else {
+            return;
+        };
+        let noted = noted_all(
+            alloc,
+            &self.sources,
+            self.start,
+            &self.takers.as_slice()[..gone],
+            &self.deltas.as_slice()[..gone],
+        );
+        if let Ok(sources) = noted {
+            let passed = count_up_to(self.kept.as_slice(), self.floor);
+            self.document = document;
+            self.sources = sources;
+            drop_first(&mut self.takers, gone);
+            drop_first(&mut self.deltas, gone);
+            drop_first(&mut self.kept, passed);
+            self.start = self.floor;
+            self.count -= gone;
+            self.stale = false;
+        }
+    }
+
     /// An equal past, of which nothing is prepared. Refused for want of memory alone.
     pub fn copy_held(&self, alloc: Global) -> Result<Past, Refusal>
         ensures same { IfOk result (λ copy. copy ≡ record { past = self.now.past; next = [] }) }
@@ -340,6 +422,8 @@ impl Past {
             deltas,
             count: self.count,
             kept,
+            live: self.live,
+            stale: self.stale,
         })
     }
 
@@ -358,6 +442,50 @@ impl Past {
     {
         self.takers.truncate(self.count);
         self.deltas.truncate(self.count);
+    }
+}
+
+// How many of the changes there are up to the last that deletes the document or creates it again, 0 where all of them edit it.
+fn up_to_turn(takers: &[Taker]) -> usize
+    ensures { result ≡ steps_up_to_turn takers.now }
+{
+    let mut count = takers.len();
+    while count > 0 && edits(takers[count - 1].step) {
+        count -= 1;
+    }
+    count
+}
+
+// The floor of a past with a newest revision after changes that follow it, of which so many lead up to the last that isn't an edit.
+fn turned_floor(newest: u64, floor: u64, turns: usize) -> u64
+    requires { newest + turns < 2 ^ 53 }
+    ensures { result ≡ spec_turned_floor newest floor turns }
+{
+    if turns == 0 {
+        floor
+    } else {
+        newest + turns as u64
+    }
+}
+
+// whether the document is live after these changes
+fn live_after(takers: &[Taker], live: bool) -> bool
+    ensures { result ≡ live_after_takers live takers.now }
+{
+    let mut now = live;
+    for taker in takers {
+        now = live_after_step(now, taker.step);
+    }
+    now
+}
+
+fn live_after_step(live: bool, step: Step) -> bool
+    ensures { result ≡ spec_live_after live step }
+{
+    match step {
+        Step::Edits => live,
+        Step::Deletes => false,
+        Step::Revives => true,
     }
 }
 
@@ -381,6 +509,7 @@ fn copy_of_taker(alloc: Global, taker: &Taker) -> Result<Taker, Refusal>
     Ok(Taker {
         source: taker.source.copy(alloc)?,
         number: taker.number,
+        step: taker.step,
     })
 }
 

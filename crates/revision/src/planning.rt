@@ -1,12 +1,13 @@
 //! Which commands are taken.
 ghost use Rattle.std.specs.Prelude.{◌≡◌, ◌≢◌, ◌⊎◌, ◌<◌, ◌≤◌, ◌^◌, ◌+◌, ℕ, List, true, length, Some, IfOk, OnOk, IfErr, IsErrOf, IsOkUnless};
-ghost use Rattle.revision.specs.Acceptance.{answer, by_number, take_on, create_existing, create_new, edit, undo, change, Takes, Refuses};
+ghost use Rattle.delta.specs.Element.{Element};
+ghost use Rattle.revision.specs.Acceptance.{answer, by_number, take_on, if_live, take_within, create_existing, create_new, create_next as spec_create_next, revive, edit, undo, delete, delete_next as spec_delete_next, change, Takes, Refuses};
 ghost use Rattle.revision.specs.Command.{Taken as Change, IsShortDelta};
 ghost use Rattle.revision.specs.Invariants.{IsPast};
 ghost use Rattle.revision.specs.Pending.{record_of};
 ghost use Rattle.revision.specs.Sources.{window_of};
 ghost use Rattle.revision.specs.State.{revision_of, sources_of, last_of_all, has_place as spec_has_place};
-ghost use Rattle.revision.specs.Planned.{Gives, IsTurn, IsAsked, IsDecided, PlanGrows, takes_command, rests_on_delta, may_want_memory};
+ghost use Rattle.revision.specs.Planned.{Gives, IsTurn, IsAsked, IsDeletion, IsDecided, PlanGrows, takes_command, rests_on_delta, may_want_memory};
 
 use crate::command::{Action, Command};
 use crate::doc_state::DocState;
@@ -14,7 +15,7 @@ use crate::limits::Limits;
 use crate::name::Name;
 use crate::sources::Sources;
 use crate::state::State;
-use crate::taken::{Taken, creation_width, edit_width};
+use crate::taken::{Taken, creation_width, deletion_width, edit_width};
 use crate::window::Window;
 use delta::Delta;
 use document::Document;
@@ -46,17 +47,20 @@ impl State {
     /// The answer to a command, which leaves the state as it is. The first that holds decides.
     ///
     /// Of a creation: where the document is there, a number of the source's window is answered with `Again`, and any other is refused
-    /// with `Exists`; `Gap` for a number above 1, `TooManyDocuments` where there are `docs` documents. Of an edit or an undo:
-    /// `NoDocument`; `Again` for a number of the source's window, `OldNumber` for one below it, `Gap` for one above the next. Then of
-    /// an edit: `TooManySources` where the source isn't there and `sources` others are, `Future` for a base above the newest
-    /// revision, `TooOld` for one below the floor. Of an undo: `NothingToUndo` where the source has no change, `TooOld` where
-    /// its last one isn't held with the revision before it. Of both: `RevisionsSpent` where the newest revision is 2^53 - 1.
-    /// Of all: `PastEnd` where the delta, late past what was taken since its base, speaks of a unit that isn't there,
-    /// `CutsPair` where it parts a surrogate pair, `TooHeavy` and `TooWide` where the document's weight or the entry's bytes
+    /// with `Exists`, unless the document is deleted; where it isn't there, `Gap` for a number above 1, `TooManyDocuments` where there
+    /// are `docs` documents. Of an edit, an undo or a deletion: `NoDocument`. Of these and of a creation of a deleted document: `Again`
+    /// for a number of the source's window, `OldNumber` for one below it, `Gap` for one above the next. Then of an edit, an undo or a
+    /// deletion: `Deleted` where the document is. Of an edit, a deletion or a creation of a deleted document: `TooManySources` where the source isn't there and
+    /// `sources` others are. Of an edit: `Future` for a base above the newest revision, `TooOld` for one below the floor. Of an undo:
+    /// `NothingToUndo` where the source has no change, `TooOld` where its last one isn't held with the revision before it. Of all but a
+    /// new document's creation: `RevisionsSpent` where the newest revision is 2^53 - 1. Of all but a deletion: `PastEnd` where the
+    /// delta, an edit's and an undo's late past what was taken since its base, speaks of a unit that isn't there, `CutsPair` where it
+    /// parts a surrogate pair. Of all: `TooHeavy` and `TooWide` where the document's weight or the entry's bytes
     /// would be above the limit; else it is taken. specs/Acceptance.antt states it as `answer`.
     ///
     /// All that is told by names and numbers alone is told before memory is taken. So want of memory (`NoMemory`) comes only in
-    /// place of the last five answers, and for a creation, whose delta is looked at as it stands, only where it would be taken.
+    /// place of the last five answers, and for a creation, whose delta is looked at as it stands, and a deletion only where it would be
+    /// taken.
     pub fn plan(&self, alloc: Global, command: &Command) -> Result<Plan, Refusal>
         ensures due { Gives result (answer self.now command.now) }
         ensures memory { IsErrOf result Refusal.NoMemory
@@ -100,7 +104,9 @@ impl State {
         match command.action() {
             Action::Create(delta) => match found {
                 None => plan_new(alloc, self, command, delta),
-                Some((_, found)) => plan_existing(found, command),
+                Some((number, found)) => {
+                    plan_existing(alloc, self, number, found, command, delta)
+                }
             },
             Action::Edit { base, delta } => match found {
                 None => Err(Refusal::NoDocument),
@@ -112,18 +118,92 @@ impl State {
                 None => Err(Refusal::NoDocument),
                 Some((number, found)) => plan_undo(alloc, self, number, found, command),
             },
+            Action::Delete => match found {
+                None => Err(Refusal::NoDocument),
+                Some((number, found)) => plan_delete(alloc, self, number, found, command),
+            },
         }
     }
 }
 
-fn plan_existing(found: &DocState, command: &Command) -> Result<Plan, Refusal>
-    ensures due { Gives result (create_existing (record_of found.now) command.now) }
-    ensures no_memory { ¬ (IsErrOf result Refusal.NoMemory) }
+fn plan_existing(
+    alloc: Global,
+    state: &State,
+    number: u32,
+    found: &DocState,
+    command: &Command,
+    delta: &Delta,
+) -> Result<Plan, Refusal>
+    requires past { IsPast state.now.limits (record_of found.now).past }
+    ensures due { Gives result (create_existing state.now number (record_of found.now) command.now delta.now) }
+    ensures memory { IsErrOf result Refusal.NoMemory
+        → takes_command (create_existing state.now number (record_of found.now) command.now delta.now) ≡ true }
 {
-    match found.window(command.source()).revision_of(command.number()) {
-        Some(rev) => Ok(Plan::Again { rev }),
-        None => Err(Refusal::Exists),
+    let own = found.window(command.source());
+    if found.is_live() {
+        return match own.revision_of(command.number()) {
+            Some(rev) => Ok(Plan::Again { rev }),
+            None => Err(Refusal::Exists),
+        };
     }
+    match turn(&own, command.number()) {
+        Ok(None) => plan_revival(alloc, state, number, found, command, delta),
+        Ok(Some(rev)) => Ok(Plan::Again { rev }),
+        Err(refusal) => Err(refusal),
+    }
+}
+
+// a creation of a document that is deleted, as revision 2 or above, of which the number is the source's next one
+fn plan_revival(
+    alloc: Global,
+    state: &State,
+    number: u32,
+    found: &DocState,
+    command: &Command,
+    delta: &Delta,
+) -> Result<Plan, Refusal>
+    requires past { IsPast state.now.limits (record_of found.now).past }
+    requires later { 2 ≤ revision_of (record_of found.now) }
+    ensures due { Gives result (revive state.now number (record_of found.now) command.now delta.now) }
+    ensures memory { IsErrOf result Refusal.NoMemory
+        → takes_command (revive state.now number (record_of found.now) command.now delta.now) ≡ true }
+{
+    let last = found.window(command.source()).number();
+    if !has_place(state.limits(), found.sources(), last) {
+        return Err(Refusal::TooManySources);
+    }
+    if found.revision() == LAST {
+        return Err(Refusal::RevisionsSpent);
+    }
+    create_next(alloc, state, number, found, command, delta)
+}
+
+// the next revision of a document by this delta on the empty one; the newest one isn't the last that there is
+fn create_next(
+    alloc: Global,
+    state: &State,
+    number: u32,
+    found: &DocState,
+    command: &Command,
+    delta: &Delta,
+) -> Result<Plan, Refusal>
+    requires later { 2 ≤ revision_of (record_of found.now) }
+    requires unspent { revision_of (record_of found.now) ≢ last_of_all }
+    ensures due { Gives result (spec_create_next state.now number (record_of found.now) command.now delta.now) }
+    ensures memory { IsErrOf result Refusal.NoMemory
+        → takes_command (spec_create_next state.now number (record_of found.now) command.now delta.now) ≡ true }
+{
+    let revision = found.revision();
+    let source = command.source();
+    let width = edit_width(source, delta);
+    let limits = state.limits();
+    let document = Document::empty(alloc);
+    if let Err(refusal) = admit(limits, &document, found.sources(), source, delta, width) {
+        return Err(refusal);
+    }
+    let source = source.copy(alloc)?;
+    let delta = shared_copy(alloc, delta)?;
+    Ok(Plan::Taken(Taken::revival(number, revision + 1, source, command.number(), delta)))
 }
 
 fn plan_new(alloc: Global, state: &State, command: &Command, delta: &Delta) -> Result<Plan, Refusal>
@@ -172,16 +252,19 @@ fn plan_edit(
     requires short { IsShortDelta delta.now }
     ensures due { Gives result
         (by_number (window_of command.now.source (sources_of (record_of found.now))) command.now.number
-        (edit state.now number (record_of found.now) command.now base delta.now)) }
+        (if_live (record_of found.now) (edit state.now number (record_of found.now) command.now base delta.now))) }
     ensures memory { IsErrOf result Refusal.NoMemory → rests_on_delta
         (by_number (window_of command.now.source (sources_of (record_of found.now))) command.now.number
-        (edit state.now number (record_of found.now) command.now base delta.now)) ≡ true }
+        (if_live (record_of found.now) (edit state.now number (record_of found.now) command.now base delta.now))) ≡ true }
 {
     let window = found.window(command.source());
     match turn(&window, command.number()) {
         Ok(None) => {}
         Ok(Some(rev)) => return Ok(Plan::Again { rev }),
         Err(refusal) => return Err(refusal),
+    }
+    if !found.is_live() {
+        return Err(Refusal::Deleted);
     }
     if !has_place(state.limits(), found.sources(), window.number()) {
         return Err(Refusal::TooManySources);
@@ -209,16 +292,19 @@ fn plan_undo(
     requires past { IsPast state.now.limits (record_of found.now).past }
     ensures due { Gives result
         (by_number (window_of command.now.source (sources_of (record_of found.now))) command.now.number
-        (undo state.now number (record_of found.now) command.now)) }
+        (if_live (record_of found.now) (undo state.now number (record_of found.now) command.now))) }
     ensures memory { IsErrOf result Refusal.NoMemory → rests_on_delta
         (by_number (window_of command.now.source (sources_of (record_of found.now))) command.now.number
-        (undo state.now number (record_of found.now) command.now)) ≡ true }
+        (if_live (record_of found.now) (undo state.now number (record_of found.now) command.now))) ≡ true }
 {
     let own = found.window(command.source());
     match turn(&own, command.number()) {
         Ok(None) => {}
         Ok(Some(rev)) => return Ok(Plan::Again { rev }),
         Err(refusal) => return Err(refusal),
+    }
+    if !found.is_live() {
+        return Err(Refusal::Deleted);
     }
     if own.number() == 0 {
         return Err(Refusal::NothingToUndo);
@@ -232,6 +318,64 @@ fn plan_undo(
     }
     let delta = found.undo(alloc, last)?;
     plan_change(alloc, state, number, found, command, delta)
+}
+
+fn plan_delete(
+    alloc: Global,
+    state: &State,
+    number: u32,
+    found: &DocState,
+    command: &Command,
+) -> Result<Plan, Refusal>
+    requires past { IsPast state.now.limits (record_of found.now).past }
+    ensures due { Gives result
+        (by_number (window_of command.now.source (sources_of (record_of found.now))) command.now.number
+        (if_live (record_of found.now) (delete state.now number (record_of found.now) command.now))) }
+    ensures memory { IsErrOf result Refusal.NoMemory → takes_command
+        (by_number (window_of command.now.source (sources_of (record_of found.now))) command.now.number
+        (if_live (record_of found.now) (delete state.now number (record_of found.now) command.now))) ≡ true }
+{
+    let own = found.window(command.source());
+    match turn(&own, command.number()) {
+        Ok(None) => {}
+        Ok(Some(rev)) => return Ok(Plan::Again { rev }),
+        Err(refusal) => return Err(refusal),
+    }
+    if !found.is_live() {
+        return Err(Refusal::Deleted);
+    }
+    if !has_place(state.limits(), found.sources(), own.number()) {
+        return Err(Refusal::TooManySources);
+    }
+    if found.revision() == LAST {
+        return Err(Refusal::RevisionsSpent);
+    }
+    delete_next(alloc, state, number, found, command)
+}
+
+// the next revision of a document by a deletion; the newest one isn't the last that there is
+fn delete_next(
+    alloc: Global,
+    state: &State,
+    number: u32,
+    found: &DocState,
+    command: &Command,
+) -> Result<Plan, Refusal>
+    requires past { IsPast state.now.limits (record_of found.now).past }
+    requires unspent { revision_of (record_of found.now) ≢ last_of_all }
+    ensures due { Gives result (spec_delete_next state.now number (record_of found.now) command.now) }
+    ensures memory { IsErrOf result Refusal.NoMemory
+        → takes_command (spec_delete_next state.now number (record_of found.now) command.now) ≡ true }
+{
+    let revision = found.revision();
+    let source = command.source();
+    let limits = state.limits();
+    if let Err(refusal) = admit_deletion(limits, found.sources(), source) {
+        return Err(refusal);
+    }
+    let source = source.copy(alloc)?;
+    let taken = Taken::deletion(alloc, number, revision + 1, source, command.number());
+    Ok(Plan::Taken(taken))
 }
 
 // the next revision of a document by this delta; the newest one isn't the last that there is
@@ -302,9 +446,9 @@ fn admit(
     delta: &Delta,
     width: u64,
 ) -> Result<(), Refusal>
-    ensures ok { OnOk result ((asked : Change) → IsAsked asked source.now delta.now width
+    ensures ok { OnOk result ((asked : Change) → IsAsked asked source.now document.now delta.now width
         → take_on limits document.now sources.now asked ≡ Takes asked) }
-    ensures err { IfErr result (λ e. (asked : Change) → IsAsked asked source.now delta.now width
+    ensures err { IfErr result (λ e. (asked : Change) → IsAsked asked source.now document.now delta.now width
         → take_on limits document.now sources.now asked ≡ Refuses e) }
     ensures no_memory { IfErr result (λ e. e ≢ Refusal.NoMemory) }
     ensures narrow { OnOk result (width < 2 ^ 32) }
@@ -318,6 +462,23 @@ fn admit(
         return Err(Refusal::TooHeavy);
     }
     if width > u64::from(limits.width()) {
+        return Err(Refusal::TooWide);
+    }
+    Ok(())
+}
+
+// Whether the deletion of a document with these sources is taken: nothing but they weighs anything after it.
+fn admit_deletion(limits: Limits, sources: &Sources, source: &Name) -> Result<(), Refusal>
+    ensures ok { OnOk result ((units : List Element) (asked : Change) → IsDeletion asked source.now
+        → take_within limits units sources.now asked ≡ Takes asked) }
+    ensures err { IfErr result (λ e. (units : List Element) (asked : Change) → IsDeletion asked source.now
+        → take_within limits units sources.now asked ≡ Refuses e) }
+    ensures no_memory { IfErr result (λ e. e ≢ Refusal.NoMemory) }
+{
+    if sources.weight_after(limits, source) > u64::from(limits.weight()) {
+        return Err(Refusal::TooHeavy);
+    }
+    if deletion_width(source) > u64::from(limits.width()) {
         return Err(Refusal::TooWide);
     }
     Ok(())

@@ -13,7 +13,7 @@ use refusal::Refusal;
 use std::alloc::Global;
 
 impl State {
-    /// What stood in a document at a revision. Refused with `NoDocument`, `Future` where the revision is above the newest one,
+    /// What stood in a document at a revision. Refused with `NoDocument`, `Deleted` where it is deleted now, `Future` where the revision is above the newest one,
     /// `TooOld` where it is below the floor, which is told before memory is taken; else for want of memory alone.
     /// specs/Readings.antt states it as `document_at`.
     pub fn at(&self, alloc: Global, name: &Name, revision: u64) -> Result<Document, Refusal>
@@ -32,7 +32,7 @@ impl State {
     }
 }
 
-// the document of a name, where it holds a revision
+// the document of a name, where it isn't deleted and holds a revision
 fn held_at<'a>(state: &'a State, name: &Name, revision: u64) -> Result<&'a DocState, Refusal>
     ensures past { read_as (λ found. (record_of found.now).past) result ≡ past_at state.now name.now revision }
     ensures held { IfOk result (λ found. found.now.past.past.floor ≤ revision) }
@@ -43,6 +43,9 @@ fn held_at<'a>(state: &'a State, name: &Name, revision: u64) -> Result<&'a DocSt
         Some((_, found)) => found,
         None => return Err(Refusal::NoDocument),
     };
+    if !found.is_live() {
+        return Err(Refusal::Deleted);
+    }
     if revision > found.revision() {
         return Err(Refusal::Future);
     }

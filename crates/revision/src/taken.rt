@@ -1,12 +1,13 @@
 //! A command that was taken.
-ghost use Rattle.std.specs.Prelude.{◌≡◌, ◌↔◌, ◌<◌, ◌^◌, ◌+◌, ◌-◌, min, Some, None, length, option_map, IfOk, IsOkUnless, IsTrue};
+ghost use Rattle.std.specs.Prelude.{◌≡◌, ◌↔◌, ◌<◌, ◌^◌, ◌+◌, ◌-◌, [], min, Some, None, length, option_map, IfOk, IsOkUnless, IsTrue};
 ghost use Rattle.revision.specs.Spellable.{IsSpellable};
 ghost use Rattle.revision.specs.Width as wide;
-ghost use Rattle.revision.specs.Command.{IsTaken, width_of};
+ghost use Rattle.revision.specs.Command.{Edits, Deletes, Revives, edits as spec_edits, deletes as spec_deletes, IsTaken, step_width, width_of};
 
 use crate::name::Name;
+use crate::step::Step;
 use crate::widths::delta_width;
-use delta::Delta;
+use delta::{Builder, Delta};
 use refusal::Refusal;
 use std::alloc::Global;
 use std::marker::Model;
@@ -19,6 +20,7 @@ pub struct Taken {
     revision: u64,
     source: Name,
     number: u64,
+    step: Step,
     delta: Delta,
 }
 
@@ -47,6 +49,7 @@ impl Taken {
               revision = 1;
               source = source;
               number = 1;
+              step = Edits;
               delta =
                   delta;
             }) }
@@ -57,6 +60,7 @@ impl Taken {
               revision = 1;
               source = source;
               number = 1;
+              step = Edits;
               delta =
                   delta;
             } }
@@ -67,6 +71,7 @@ impl Taken {
             revision: 1,
             source,
             number: 1,
+            step: Step::Edits,
             delta,
         }
     }
@@ -83,6 +88,7 @@ impl Taken {
               revision = revision;
               source = source;
               number = number;
+              step = Edits;
               delta =
                   delta;
             }) }
@@ -93,6 +99,7 @@ impl Taken {
               revision = revision;
               source = source;
               number = number;
+              step = Edits;
               delta =
                   delta;
             } }
@@ -103,6 +110,80 @@ impl Taken {
             revision,
             source,
             number,
+            step: Step::Edits,
+            delta,
+        }
+    }
+
+    /// The deletion of a document that is there, as an edit is made, without a delta. It is never refused and takes no memory.
+    pub fn deletion(alloc: Global, document: u32, revision: u64, source: Name, number: u64) -> Taken
+        requires { IsTaken
+            (record {
+              document = document;
+              name = None;
+              revision = revision;
+              source = source;
+              number = number;
+              step = Deletes;
+              delta =
+                  [];
+            }) }
+        ensures { result
+            ≡ record {
+              document = document;
+              name = None;
+              revision = revision;
+              source = source;
+              number = number;
+              step = Deletes;
+              delta =
+                  [];
+            } }
+    {
+        Taken {
+            document,
+            name: None,
+            revision,
+            source,
+            number,
+            step: Step::Deletes,
+            delta: Builder::new(alloc).finish(),
+        }
+    }
+
+    /// The creation of a document that is deleted, as an edit is made: its delta is one on the empty document, and the revision that
+    /// comes of it is from 3 on. It is never refused and takes no memory.
+    pub fn revival(document: u32, revision: u64, source: Name, number: u64, delta: Delta) -> Taken
+        requires { IsTaken
+            (record {
+              document = document;
+              name = None;
+              revision = revision;
+              source = source;
+              number = number;
+              step = Revives;
+              delta =
+                  delta;
+            }) }
+        ensures { result
+            ≡ record {
+              document = document;
+              name = None;
+              revision = revision;
+              source = source;
+              number = number;
+              step = Revives;
+              delta =
+                  delta;
+            } }
+    {
+        Taken {
+            document,
+            name: None,
+            revision,
+            source,
+            number,
+            step: Step::Revives,
             delta,
         }
     }
@@ -142,7 +223,15 @@ impl Taken {
         self.number
     }
 
-    /// The delta from the revision before.
+    /// What it does to the document: a creation edits it.
+    pub fn step(&self) -> Step
+        ensures step { result ≡ self.now.step }
+        ensures taken { IsTaken self.now }
+    {
+        self.step
+    }
+
+    /// The delta from the revision before; of a deletion the empty one, and of a creation again one on the empty document.
     pub fn delta(&self) -> &Delta
         ensures delta { result.now ≡ self.now.delta }
         ensures taken { IsTaken self.now }
@@ -159,7 +248,7 @@ impl Taken {
             Some(name) => 2 + name.len(),
             None => 0,
         };
-        delta_width(&self.delta).saturating_add(23 + self.source.len() + name)
+        step_bytes(self.step, &self.delta).saturating_add(23 + self.source.len() + name)
     }
 
     /// An equal command, or `NoMemory`.
@@ -179,6 +268,7 @@ impl Taken {
             revision: self.revision,
             source,
             number: self.number,
+            step: self.step,
             delta,
         })
     }
@@ -194,6 +284,7 @@ impl Taken {
             revision: _,
             source,
             number,
+            step: _,
             delta,
         } = self;
         (source, number, delta)
@@ -206,9 +297,49 @@ impl Taken {
         self.document_number() == other.document_number()
             && self.revision() == other.revision()
             && self.number() == other.number()
+            && is_same_step(self.step(), other.step())
             && has_same_name(self.name(), other.name())
             && is_same_name(self.source(), other.source())
             && is_same_delta(self.delta(), other.delta())
+    }
+}
+
+/// Whether a step edits the document.
+pub(crate) fn edits(step: Step) -> bool
+    ensures { result ≡ spec_edits step }
+{
+    match step {
+        Step::Edits => true,
+        Step::Deletes => false,
+        Step::Revives => false,
+    }
+}
+
+/// Whether a step deletes the document.
+pub(crate) fn deletes(step: Step) -> bool
+    ensures { result ≡ spec_deletes step }
+{
+    match step {
+        Step::Edits => false,
+        Step::Deletes => true,
+        Step::Revives => false,
+    }
+}
+
+fn is_same_step(one: Step, other: Step) -> bool
+    ensures { IsTrue result ↔ (one ≡ other) }
+{
+    one == other
+}
+
+// how many bytes a command's delta takes in the journal, where a deletion has none
+fn step_bytes(step: Step, delta: &Delta) -> u64
+    ensures { result ≡ min (step_width step delta.now) (2 ^ 64 - 1) }
+{
+    match step {
+        Step::Edits => delta_width(delta),
+        Step::Deletes => 0,
+        Step::Revives => delta_width(delta),
     }
 }
 
@@ -244,7 +375,14 @@ pub(crate) fn creation_width(name: &Name, source: &Name, delta: &Delta) -> u64
     delta_width(delta).saturating_add(25 + source.len() + name.len())
 }
 
-/// How many bytes an edit or an undo would take in the journal; 2^64 - 1 where it would be more.
+/// How many bytes a deletion would take in the journal.
+pub(crate) fn deletion_width(source: &Name) -> u64
+    ensures { result ≡ 23 + length source.now + 0 + 0 }
+{
+    23 + source.len()
+}
+
+/// How many bytes an edit, an undo or a creation again would take in the journal; 2^64 - 1 where it would be more.
 pub(crate) fn edit_width(source: &Name, delta: &Delta) -> u64
     ensures width { result ≡ min (23 + length source.now + 0 + wide.delta_width delta.now) (2 ^ 64 - 1) }
     ensures short { result < 2 ^ 32 → IsSpellable delta.now }

@@ -38,7 +38,7 @@ fn adopt(
     let mut sources = Sources::new(rt.alloc());
     let ann = Name::source(rt.alloc(), "ann").expect(rt, "a source");
     sources.put(ann, Window::of_one(2, 3)).expect(rt, "memory");
-    state.adopt(rt.alloc(), doc(rt, name), document, revision, sources)
+    state.adopt(rt.alloc(), doc(rt, name), document, true, revision, sources)
 }
 
 #[test]
@@ -48,4 +48,45 @@ fn an_adopted_document_goes_on(rt: HostRuntime) {
         assert_eq!(rt; adopt(&rt, &mut state, *name, *revision), *wanted);
     }
     after(&rt, state, ASKED);
+}
+
+/// What is asked of "d", adopted at revision 4 as deleted.
+const ASKED_OF_DELETED: &[Row] = &[
+    ("ann", "d", 2, X, Again(3)),
+    ("ann", "d", 3, X, Not(Refusal::Deleted)),
+    ("ann", "d", 3, What::Delete, Not(Refusal::Deleted)),
+    ("ann", "d", 3, What::Create(&[Step::Plain("n")]), Now(5)),
+];
+
+fn adopt_deleted(
+    rt: &(impl Abort + AllocGlobal),
+    state: &mut State,
+    steps: &[Step],
+    revision: u64,
+    window: Window,
+) -> Result<(), Refusal> {
+    let document = Document::from_delta(rt.alloc(), &delta_of(rt, steps)).expect(rt, "a document");
+    let mut sources = Sources::new(rt.alloc());
+    let ann = Name::source(rt.alloc(), "ann").expect(rt, "a source");
+    sources.put(ann, window).expect(rt, "memory");
+    state.adopt(rt.alloc(), doc(rt, "d"), document, false, revision, sources)
+}
+
+#[test]
+fn a_deleted_document_is_adopted_empty(rt: HostRuntime) {
+    let mut state = roomy(&rt, false);
+    let full = adopt_deleted(
+        &rt,
+        &mut state,
+        &[Step::Plain("ab")],
+        4,
+        Window::of_one(2, 3),
+    );
+    assert_eq!(rt; full, Err(Refusal::Stranger));
+    // A creation makes the first revision.
+    let first = adopt_deleted(&rt, &mut state, &[], 1, Window::of_one(1, 1));
+    assert_eq!(rt; first, Err(Refusal::Stranger));
+    let empty = adopt_deleted(&rt, &mut state, &[], 4, Window::of_one(2, 3));
+    assert_eq!(rt; empty, Ok(()));
+    after(&rt, state, ASKED_OF_DELETED);
 }

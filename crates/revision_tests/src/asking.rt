@@ -14,6 +14,8 @@ pub enum What {
     Edit(u64, &'static [Step]),
     /// An undo.
     Undo,
+    /// A deletion.
+    Delete,
 }
 
 /// The reply to a command.
@@ -75,6 +77,7 @@ pub fn command(
         What::Create(steps) => Command::create(name, source, number, delta_of(rt, steps)),
         What::Edit(base, steps) => Command::edit(name, source, number, base, delta_of(rt, steps)),
         What::Undo => Ok(Command::undo(name, source, number)),
+        What::Delete => Ok(Command::delete(name, source, number)),
     }
 }
 

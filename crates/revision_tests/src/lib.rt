@@ -18,6 +18,10 @@ mod copies;
 #[cfg(test)]
 mod creations;
 #[cfg(test)]
+mod deleting;
+#[cfg(test)]
+mod drawn;
+#[cfg(test)]
 mod edits;
 #[cfg(test)]
 mod limits;
@@ -25,5 +29,7 @@ mod limits;
 mod names;
 #[cfg(test)]
 mod past;
+#[cfg(test)]
+mod plain;
 #[cfg(test)]
 mod steps;

@@ -13,7 +13,7 @@ use serving::Failure;
 use session::Output;
 use std::alloc::{AllocError, Global};
 
-/// Writes one line for each document, in order of creation: name, revision, floor and operations. Ends where a write
+/// Writes one line for each document, in order of creation: name, revision, floor and operations, or `deleted`. Ends where a write
 /// fails (`Stream`), or with `NoMemory`, and then a beginning of the lines is written.
 pub fn dump<O: Output>(alloc: Global, state: &State, output: &mut O) -> Result<(), Failure>
     ensures dumped { OnOk result (Appends (O.contents output.old) (O.contents output.new)
@@ -38,11 +38,24 @@ fn line_of(alloc: Global, document: &DocState) -> Result<String, Refusal>
     ensures ok { IfOk result (λ line. string_bytes line ≡ spec.document_line (record_of document.now)) }
     ensures only { IfErr result (λ e. e ≡ Refusal.NoMemory) }
 {
-    let delta = document.document().as_delta(alloc)?;
-    let content = write_delta(alloc, &delta)?;
+    let content = content_text(alloc, document)?;
     let name = document.name().as_str();
     let line = line_with(alloc, name, document.revision(), document.floor(), &content)?;
     Ok(line)
+}
+
+// what stands in a document, or that it is deleted
+fn content_text(alloc: Global, document: &DocState) -> Result<String, Refusal>
+    ensures ok { IfOk result (λ text. string_bytes text ≡ spec.content_text (record_of document.now)) }
+    ensures only { IfErr result (λ e. e ≡ Refusal.NoMemory) }
+{
+    if !document.is_live() {
+        let text = String::from_str(alloc, "deleted")?;
+        return Ok(text);
+    }
+    let delta = document.document().as_delta(alloc)?;
+    let content = write_delta(alloc, &delta)?;
+    Ok(content)
 }
 
 fn line_with(

@@ -1,17 +1,19 @@
 -- What a state gives of a document at a revision that it has reached, each later one gives too, or no longer holds it.
-use Rattle.std.proofs.Common.{◌≡◌, ◌⊎◌, inl, inr, ℕ, zero, suc, ◌+◌, ◌-◌, ◌≤◌, max, Bool, true, false, cond, List, [], ◌∷◌, Option, Some, None, refl, sym, ap, subst, ◌∙◌, arith}
+use Rattle.std.proofs.Common.{◌≡◌, ◌⊎◌, inl, inr, ℕ, zero, suc, ◌+◌, ◌-◌, ◌≤◌, max, Bool, true, false, cond, not, List, [], ◌∷◌, Option, Some, None, refl, sym, ap, subst, ◌∙◌, arith}
 use Rattle.std.specs.Prelude.{◌++◌, ◌&&◌, OnOk, OnErr, bytes_eq, nat_lt, slice_get, slice_index_or, Result, Ok, Err}
-use Rattle.std.proofs.lemmas.Bool.{ltb-false, le-ltb}
+use Rattle.std.proofs.lemmas.Bool.{ltb-false, le-ltb, lt-ltb}
 use Rattle.std.proofs.lemmas.Option.{same_Some}
 use Rattle.refusal.specs.declared.Refusal.{Refusal}
-use Rattle.refusal.specs.declared.Refusal.TheVariants.{Future, TooOld}
+use Rattle.refusal.specs.declared.Refusal.TheVariants.{Deleted, Future, TooOld}
 use Rattle.delta.specs.Element.{Element}
 use Rattle.revision.specs.Command.{Taken}
+use Rattle.revision.specs.declared.step.Step.{Step}
+use Rattle.revision.specs.declared.step.Step.TheVariants.{Edits, Deletes, Revives}
 use Rattle.revision.specs.Floors.{longer}
-use Rattle.revision.specs.Past.{Past, Change, Content, newest, content_at, with_change}
+use Rattle.revision.specs.Past.{Past, Change, Content, newest, content_at, with_change, with_step}
 use Rattle.revision.specs.Readings.{at_revision}
-use Rattle.revision.specs.State.{DocumentRecord, State, find, grows, grown, all_grow, fold, record_by_name, set_document, change_of}
-use Rattle.revision.proofs.CallerLemmas.{from_twice, from_longer, change_makes}
+use Rattle.revision.specs.State.{DocumentRecord, State, revision_of, is_live, find, grows, grown, all_grow, fold, record_by_name, set_document, change_of}
+use Rattle.revision.proofs.CallerLemmas.{from_twice, from_longer, step_makes}
 use Rattle.session.specs.Shelf.{Kept, IsGiven, IsLater, FitsLater}
 
 -- a change leaves what stood at each revision that is still held
@@ -28,13 +30,24 @@ content-stays keep past change revision over within =
 abbrev units_of_found : ℕ → Option (ℕ × DocumentRecord) → Result (List Element) Refusal
 units_of_found revision found = at_revision revision found (λ past. (content_at past revision).units)
 
--- such a reading gives these units, or the revision is no longer held
-abbrev Gives : ℕ → List Element → Option (ℕ × DocumentRecord) → Type 0
-Gives revision units found = (units_of_found revision found ≡ Ok units) ⊎ (units_of_found revision found ≡ Err TooOld)
+-- the document is there and deleted, and has reached the revision
+record Gone (revision : ℕ) (there : Option (ℕ × DocumentRecord)) : Type 0 where
+  pub deleted : units_of_found revision there ≡ Err Deleted
+  pub number : ℕ
+  pub found : DocumentRecord
+  pub is : there ≡ Some (number, found)
+  pub reached : revision ≤ revision_of found
 
--- the reading by its two tests
+-- such a reading gives these units, or the revision is no longer held, or the document was deleted since
+abbrev Gives : ℕ → List Element → Option (ℕ × DocumentRecord) → Type 0
+Gives revision units found = (units_of_found revision found ≡ Ok units) ⊎ (units_of_found revision found ≡ Err TooOld) ⊎ Gone revision found
+
+-- the reading of a live document by its two tests, and of any by its mark
 abbrev by_tests : Bool → Bool → List Element → Result (List Element) Refusal
 by_tests future old units = cond future (Err Future) (cond old (Err TooOld) (Ok units))
+
+abbrev by_mark : Bool → Bool → Bool → List Element → Result (List Element) Refusal
+by_mark live future old units = cond (not live) (Err Deleted) (by_tests future old units)
 
 -- one that gave units, or was too old, does so where fewer revisions are held and the units are the same in those that are
 still : (future future' old old' : Bool) (units units' given : List Element)
@@ -55,20 +68,109 @@ still false future' old false units units' given reached same was =
       from_held a b (inl g) = inl (sym b ∙ (a ∙ g))
       from_held a b (inr g) = inr (sym b ∙ (a ∙ g))
 
--- a change of the record leaves what is read at a revision that it had reached
-gives-changed : (keep : ℕ) (change : Change) (revision number : ℕ) (found : DocumentRecord) (units : List Element)
+-- a document gave units, or was too old, at a revision that it had reached
+is-reached : (live future old : Bool) (units given : List Element) → (by_mark live future old units ≡ Ok given) ⊎ (by_mark live future old units ≡ Err TooOld)
+    → future ≡ false
+is-reached true false old units given was = refl
+is-reached true true old units given (inl is) = absurd cc
+is-reached true true old units given (inr is) = absurd cc
+is-reached false future old units given (inl is) = absurd cc
+is-reached false future old units given (inr is) = absurd cc
+
+never-deleted : (future old : Bool) (units : List Element) → by_tests future old units ≡ Err Deleted → ⊥
+never-deleted true old units is = cc
+never-deleted false true units is = cc
+never-deleted false false units is = cc
+
+module _ (revision number : ℕ) (found : DocumentRecord) (units : List Element) where
+  abbrev future : Bool
+  future = nat_lt (newest found.past) revision
+
+  abbrev old : Bool
+  old = nat_lt revision found.past.floor
+
+  abbrev there : List Element
+  there = (content_at found.past revision).units
+
+  reached : Gives revision units (Some (number, found)) → revision ≤ newest found.past
+  reached (inl is) = ltb-false (newest found.past) revision (is-reached (is_live found) future old there units (inl is))
+  reached (inr (inl is)) = ltb-false (newest found.past) revision (is-reached (is_live found) future old there units (inr is))
+  reached (inr (inr gone)) =
+      let both : (number, found) ≡ (gone.number, gone.found) = same_Some (number, found) (gone.number, gone.found) gone.is in
+      omega (arith, gone.reached, ap (λ (p : ℕ × DocumentRecord). newest p.1.past) both)
+
+  -- what is read of a live one
+  live-reading : is_live found ≡ true → units_of_found revision (Some (number, found)) ≡ by_tests future old there
+  live-reading live = ap (λ b. by_mark b future old there) live
+
+  was-live : is_live found ≡ true → Gives revision units (Some (number, found)) → (by_tests future old there ≡ Ok units) ⊎ (by_tests future old there ≡ Err TooOld)
+  was-live live (inl is) = inl (sym (live-reading live) ∙ is)
+  was-live live (inr (inl is)) = inr (sym (live-reading live) ∙ is)
+  was-live live (inr (inr gone)) = absurd (never-deleted future old there (sym (live-reading live) ∙ gone.deleted))
+
+  now-live : is_live found ≡ true → (by_tests future old there ≡ Ok units) ⊎ (by_tests future old there ≡ Err TooOld) → Gives revision units (Some (number, found))
+  now-live live (inl is) = inl (live-reading live ∙ is)
+  now-live live (inr is) = inr (inl (live-reading live ∙ is))
+
+-- an edit of the record leaves what is read at a revision that it had reached
+gives-edited : (keep : ℕ) (change : Change) (revision number : ℕ) (found : DocumentRecord) (units : List Element)
     → Gives revision units (Some (number, found))
     → Gives revision units (Some (number, record found { past = with_change keep found.past change }))
-gives-changed keep change revision number found units =
-    let past : Past = found.past in
-    let next : Past = with_change keep past change in
-    let longer_by : newest next ≡ newest past + 1 = (change_makes keep past change).0 in
-    still (nat_lt (newest past) revision) (nat_lt (newest next) revision) (nat_lt revision past.floor) (nat_lt revision next.floor)
-    (content_at past revision).units (content_at next revision).units units
-    (λ reached. le-ltb (newest next) revision (omega (arith, longer_by, ltb-false (newest past) revision reached)))
-    (λ reached held.
-    let over : next.floor ≤ revision = ltb-false revision next.floor held in
-    (le-ltb revision past.floor (omega (arith, over)), ap (λ (c : Content). c.units) (content-stays keep past change revision over (ltb-false (newest past) revision reached))))
+gives-edited keep change revision number found units gives = by_live (is_live found) refl
+  where
+    past : Past
+    past = found.past
+
+    next : Past
+    next = with_change keep past change
+
+    after : DocumentRecord
+    after = record found { past = next }
+
+    longer_by : newest next ≡ newest past + 1
+    longer_by = (step_makes keep past Edits change).0
+
+    over : revision ≤ newest past
+    over = reached revision number found units gives
+
+    by_live : (live : Bool) → is_live found ≡ live → Gives revision units (Some (number, after))
+    by_live false live = inr (inr (record {
+      deleted = ap (λ b. by_mark b (nat_lt (newest next) revision) (nat_lt revision next.floor) (content_at next revision).units) live;
+      number = number;
+      found = after;
+      is = refl;
+      reached = omega (arith, over, longer_by);
+    }))
+    by_live true live =
+        now-live revision number after units live
+        (still (nat_lt (newest past) revision) (nat_lt (newest next) revision) (nat_lt revision past.floor) (nat_lt revision next.floor)
+        (content_at past revision).units (content_at next revision).units units
+        (λ within. le-ltb (newest next) revision (omega (arith, longer_by, over)))
+        (λ within held.
+        let low : next.floor ≤ revision = ltb-false revision next.floor held in
+        (le-ltb revision past.floor (omega (arith, low)), ap (λ (c : Content). c.units) (content-stays keep past change revision low over)))
+        (was-live revision number found units live gives))
+
+-- a deletion leaves nothing to be read, and a creation again nothing of before
+gives-stepped : (keep : ℕ) (step : Step) (change : Change) (revision number : ℕ) (found : DocumentRecord) (units : List Element)
+    → Gives revision units (Some (number, found))
+    → Gives revision units (Some (number, record found { past = with_step keep found.past step change }))
+gives-stepped keep Edits change revision number found units gives = gives-edited keep change revision number found units gives
+gives-stepped keep Deletes change revision number found units gives =
+    inr (inr (record {
+      deleted = refl;
+      number = number;
+      found = record found { past = with_step keep found.past Deletes change };
+      is = refl;
+      reached = omega (arith, reached revision number found units gives, (step_makes keep found.past Deletes change).0);
+    }))
+gives-stepped keep Revives change revision number found units gives =
+    let next : Past = with_step keep found.past Revives change in
+    let over : revision ≤ newest found.past = reached revision number found units gives in
+    let within : nat_lt (newest next) revision ≡ false = le-ltb (newest next) revision (omega (arith, over, (step_makes keep found.past Revives change).0)) in
+    let low : nat_lt revision next.floor ≡ true = lt-ltb revision next.floor (omega (arith, over)) in
+    inr (inl (ap (λ f. by_tests f (nat_lt revision next.floor) (content_at next revision).units) within
+    ∙ ap (λ o. by_tests false o (content_at next revision).units) low))
 
 -- the document of a name, where another is set in the place of one that has its name
 find-set : (name : List ℕ) (place number : ℕ) (documents : List DocumentRecord) (old new : DocumentRecord) (at : ℕ) (found : DocumentRecord)
@@ -141,29 +243,43 @@ gives-grown state taken name revision units = by_found (find name 0 state.docume
   by_place None (Some created) at found none is gives =
       subst (Gives revision units) (sym (find-behind name place 0 state.documents _ at found none is)) gives
   by_place (Some old) name_of at found there is gives =
-      set_in (find-set name place 0 state.documents old (record old { past = with_change keep old.past (change_of taken) }) at found there refl is) where
-        set_in : (find name 0 (set_document place (Some (record old { past = with_change keep old.past (change_of taken) })) state.documents) ≡ Some (at, found))
-            ⊎ ((find name 0 (set_document place (Some (record old { past = with_change keep old.past (change_of taken) })) state.documents) ≡ Some (at, record old { past = with_change keep old.past (change_of taken) })) × (found ≡ old))
-            → Gives revision units (find name 0 (set_document place (Some (record old { past = with_change keep old.past (change_of taken) })) state.documents))
+      set_in (find-set name place 0 state.documents old (record old { past = with_step keep old.past taken.step (change_of taken) }) at found there refl is) where
+        set_in : (find name 0 (set_document place (Some (record old { past = with_step keep old.past taken.step (change_of taken) })) state.documents) ≡ Some (at, found))
+            ⊎ ((find name 0 (set_document place (Some (record old { past = with_step keep old.past taken.step (change_of taken) })) state.documents) ≡ Some (at, record old { past = with_step keep old.past taken.step (change_of taken) })) × (found ≡ old))
+            → Gives revision units (find name 0 (set_document place (Some (record old { past = with_step keep old.past taken.step (change_of taken) })) state.documents))
         set_in (inl same) = subst (Gives revision units) (sym same) gives
         set_in (inr (new, was)) =
             subst (Gives revision units) (sym new)
-            (gives-changed keep (change_of taken) revision at old units (subst (λ (d : DocumentRecord). Gives revision units (Some (at, d))) was gives))
+            (gives-stepped keep taken.step (change_of taken) revision at old units (subst (λ (d : DocumentRecord). Gives revision units (Some (at, d))) was gives))
 
   by_found : (found : Option (ℕ × DocumentRecord)) → find name 0 state.documents ≡ found
       → Gives revision units (find name 0 state.documents) → Gives revision units (find name 0 (grown state taken).documents)
   by_found None is gives = nothing (subst (Gives revision units) is gives) where
     nothing : Gives revision units None → Gives revision units (find name 0 (grown state taken).documents)
     nothing (inl e) = cc
-    nothing (inr e) = cc
+    nothing (inr (inl e)) = cc
+    nothing (inr (inr gone)) = let none : None ≡ Some (gone.number, gone.found) = gone.is in absurd cc
   by_found (Some (at, found)) is gives =
       by_place (slice_get state.documents place) taken.name at found refl is (subst (Gives revision units) is gives)
+
+given-gives : (state : State) (kept : Kept) → IsGiven state kept → Gives kept.revision kept.units (find kept.name 0 state.documents)
+given-gives state kept (inl is) = inl is
+given-gives state kept (inr (inl is)) = inr (inl is)
+given-gives state kept (inr (inr gone)) =
+    inr (inr (record { deleted = gone.deleted; number = gone.number; found = gone.found; is = gone.there; reached = gone.reached }))
+
+gives-given : (state : State) (kept : Kept) → Gives kept.revision kept.units (find kept.name 0 state.documents) → IsGiven state kept
+gives-given state kept (inl is) = inl is
+gives-given state kept (inr (inl is)) = inr (inl is)
+gives-given state kept (inr (inr gone)) =
+    inr (inr (record { deleted = gone.deleted; number = gone.number; found = gone.found; there = gone.is; reached = gone.reached }))
 
 -- and so do several
 given-fold : (commands : List Taken) (state : State) (kept : Kept) → IsGiven state kept → IsGiven (fold state commands) kept
 given-fold [] state kept given = given
 given-fold (first ∷ others) state kept given =
-    given-fold others (grown state first) kept (gives-grown state first kept.name kept.revision kept.units given)
+    given-fold others (grown state first) kept
+    (gives-given (grown state first) kept (gives-grown state first kept.name kept.revision kept.units (given-gives state kept given)))
 
 pub fits_later : FitsLater
 fits_later old new shelf (commands, grow, is) fits =

@@ -1,6 +1,6 @@
 -- What the shelf keeps, as documents are found on it and put there.
 use Rattle.std.proofs.Common.{◌≡◌, ◌⊎◌, inl, inr, ℕ, Bool, true, false, cond, List, [], ◌∷◌, map, Option, Some, None, refl, sym, ap, subst, ◌∙◌}
-use Rattle.std.specs.Prelude.{All, Contains, IfSome, option_map, Result, Ok, Err, OnOk, OnErr, bytes_eq, nat_eq, nat_lt}
+use Rattle.std.specs.Prelude.{not, All, Contains, IfSome, option_map, Result, Ok, Err, OnOk, OnErr, bytes_eq, nat_eq, nat_lt}
 use Rattle.std.specs.Map.{lookup}
 use Rattle.std.specs.Option.{ForSome}
 use Rattle.std.specs.String.{string_bytes}
@@ -11,11 +11,11 @@ use Rattle.std.specs.List.{AllByRecursion}
 use Rattle.lru.specs.LruCache.{LruCache, lru_cache, promoted, put_entries}
 use Rattle.lru.proofs.CallerLemmas.{Contains-promoted, Contains-put_entries, Contains-lookup, IsPut}
 use Rattle.refusal.specs.declared.Refusal.{Refusal}
-use Rattle.refusal.specs.declared.Refusal.TheVariants.{Future, TooOld}
+use Rattle.refusal.specs.declared.Refusal.TheVariants.{Deleted, Future, TooOld}
 use Rattle.delta.specs.Element.{Element}
 use Rattle.revision.specs.Past.{Past, newest, content_at}
 use Rattle.revision.specs.Readings.{document_at, past_at, at_revision}
-use Rattle.revision.specs.State.{State, DocumentRecord, find}
+use Rattle.revision.specs.State.{State, DocumentRecord, is_live, find}
 use Rattle.session.specs.declared.shelf.Key.{Key}
 use Rattle.session.specs.contracts.shelf.KeyPartialEq.TheImpl as key
 use Rattle.session.specs.Exchange.{IsReadOf}
@@ -90,12 +90,13 @@ module _ (state : State) where
 read_held : {X : Type 0} (ask : Past → X) (revision : ℕ) (found : Option (ℕ × DocumentRecord)) (past : Past)
     → at_revision revision found (λ p. p) ≡ Ok past → at_revision revision found ask ≡ Ok (ask past)
 read_held ask revision None past is = cc
-read_held {X} ask revision (Some found) past is = by_tests (nat_lt (newest found.1.past) revision) (nat_lt revision found.1.past.floor) is where
-  by_tests : (future old : Bool) → cond future (Err Future) (cond old (Err TooOld) (Ok found.1.past)) ≡ Ok past
-      → cond future (Err Future) (cond old (Err TooOld) (Ok (ask found.1.past))) ≡ Ok (ask past)
-  by_tests true old e = cc
-  by_tests false true e = cc
-  by_tests false false e = let same_past : found.1.past ≡ past = cc in ap (λ p. Ok (ask p)) same_past
+read_held {X} ask revision (Some found) past is = by_tests (is_live found.1) (nat_lt (newest found.1.past) revision) (nat_lt revision found.1.past.floor) is where
+  by_tests : (live future old : Bool) → cond (not live) (Err Deleted) (cond future (Err Future) (cond old (Err TooOld) (Ok found.1.past))) ≡ Ok past
+      → cond (not live) (Err Deleted) (cond future (Err Future) (cond old (Err TooOld) (Ok (ask found.1.past)))) ≡ Ok (ask past)
+  by_tests false future old e = cc
+  by_tests true true old e = cc
+  by_tests true false true e = cc
+  by_tests true false false e = let same_past : found.1.past ≡ past = cc in ap (λ p. Ok (ask p)) same_past
 
 -- the document that a look has made is given where the look is
 pub made_given : (state : State) (k : Key) (made : Option (List Element)) (units : List Element) → made ≡ Some units
@@ -126,7 +127,8 @@ module _ (state : State) (name : List ℕ) (revision : ℕ) (past : Past) (held 
       (subst (λ (n : List ℕ). IsGiven state (record { name = n; revision = k.revision; units = units })) name_is (found-given state entries k units fits found))) where
         still_held : IsGiven state (record { name = name; revision = revision; units = units }) → document_at state name revision ≡ Ok units
         still_held (inl is) = is
-        still_held (inr old) = let never : Ok (content_at past revision).units ≡ Err TooOld = sym held-due ∙ old in cc
+        still_held (inr (inl old)) = let never : Ok (content_at past revision).units ≡ Err TooOld = sym held-due ∙ old in cc
+        still_held (inr (inr gone)) = let never : Ok (content_at past revision).units ≡ Err Deleted = sym held-due ∙ gone.deleted in cc
 
 -- what is shown of a document is shown of what is due
 pub shown_due : {X : Type 0} (shows : List Element → X → Type 0) (due : Result (List Element) Refusal) (units : List Element) (answer : X)

@@ -15,6 +15,8 @@ pub data Message : Type 0 where
   Edit : (doc : List ℕ) (number base : ℕ) (operations : Items) → Message
   -- the source's last change of a document is to be taken back, under the source's number
   Undo : (doc : List ℕ) (number : ℕ) → Message
+  -- a document is to be deleted, under the source's number
+  Delete : (doc : List ℕ) (number : ℕ) → Message
   -- something is asked of a document
   Read : (doc : List ℕ) (question : Question) → Message
   -- a document is to be followed from a revision on
@@ -69,11 +71,19 @@ edit_of value =
     (text_at (codes "doc") value)
     else None
 
+-- a command on a document without operations, by its number `n`
+abbrev pub numbered_of : (List ℕ → ℕ → Message) → Data → Option Message
+numbered_of message value =
+    if member_count value == 3 then option_and_then (λ doc. option_map (message doc) (number_at (codes "n") value)) (text_at (codes "doc") value)
+    else None
+
 -- `{"do":"undo","doc":..,"n":..}`
 abbrev pub undo_of : Data → Option Message
-undo_of value =
-    if member_count value == 3 then option_and_then (λ doc. option_map (Undo doc) (number_at (codes "n") value)) (text_at (codes "doc") value)
-    else None
+undo_of value = numbered_of Undo value
+
+-- `{"do":"delete","doc":..,"n":..}`
+abbrev pub delete_of : Data → Option Message
+delete_of value = numbered_of Delete value
 
 -- `{"do":"fetch","doc":..}`
 abbrev pub fetch_newest_of : Data → Option Message
@@ -112,6 +122,7 @@ message_called kind value =
     else if bytes_eq kind (codes "create") then create_of value
     else if bytes_eq kind (codes "edit") then edit_of value
     else if bytes_eq kind (codes "undo") then undo_of value
+    else if bytes_eq kind (codes "delete") then delete_of value
     else if bytes_eq kind (codes "fetch") then fetch_of value
     else if bytes_eq kind (codes "since") then since_of value
     else if bytes_eq kind (codes "subscribe") then subscribe_of value
@@ -128,6 +139,7 @@ IsNumbered (Hello source) = Unit {0}
 IsNumbered (Create doc n operations) = (1 ≤ n) × (n < 2 ^ 53)
 IsNumbered (Edit doc n base operations) = (1 ≤ n) × (n < 2 ^ 53) × (base < 2 ^ 53)
 IsNumbered (Undo doc n) = (1 ≤ n) × (n < 2 ^ 53)
+IsNumbered (Delete doc n) = (1 ≤ n) × (n < 2 ^ 53)
 IsNumbered (Read doc question) = Unit {0}
 IsNumbered (Subscribe doc revision) = Unit {0}
 IsNumbered (Unsubscribe doc) = Unit {0}

@@ -1,19 +1,19 @@
 -- What is told of a document.
-use Rattle.std.specs.Prelude.{ℕ, List, Option, Some, None, Result, Ok, Err}
+use Rattle.std.specs.Prelude.{ℕ, if◌then◌else◌, List, Option, Some, None, Result, Ok, Err}
 use Rattle.serde_json.specs.Data.{Data}
 use Rattle.refusal.specs.declared.Refusal.{Refusal}
-use Rattle.refusal.specs.declared.Refusal.TheVariants.{NoDocument, StoreFailed}
+use Rattle.refusal.specs.declared.Refusal.TheVariants.{NoDocument, Deleted, StoreFailed}
 use Rattle.revision.specs.Past.{newest, content_at, deltas_above}
 use Rattle.revision.specs.Readings.{at_revision}
-use Rattle.revision.specs.State.{DocumentRecord, State, find, revision_of, units_of}
+use Rattle.revision.specs.State.{DocumentRecord, State, find, revision_of, units_of, is_live}
 use Rattle.session.specs.declared.question.Question.{Question}
 use Rattle.session.specs.declared.question.Question.TheVariants.{Newest, At, Since}
 use Rattle.session.specs.Reply.{document_reply, since_reply, line_of, refusal_line}
 
--- the document at its newest revision, which has to be there
+-- the document at its newest revision, which has to be there and not deleted
 abbrev pub newest_of : List ℕ → Option (ℕ × DocumentRecord) → Result Data Refusal
 newest_of doc None = Err NoDocument
-newest_of doc (Some found) = Ok (document_reply doc (units_of found.1) (revision_of found.1))
+newest_of doc (Some found) = if is_live found.1 then Ok (document_reply doc (units_of found.1) (revision_of found.1)) else Err Deleted
 
 -- what is told of a document that is there or not; a revision that is asked for has to be held
 abbrev pub told : List ℕ → Question → Option (ℕ × DocumentRecord) → Result Data Refusal

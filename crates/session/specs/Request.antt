@@ -29,6 +29,7 @@ before_hello (message.Hello source) = if is_source_name source then Ok (Greet so
 before_hello (message.Create doc number operations) = Err NoHello
 before_hello (message.Edit doc number base operations) = Err NoHello
 before_hello (message.Undo doc number) = Err NoHello
+before_hello (message.Delete doc number) = Err NoHello
 before_hello (message.Read doc question) = Err NoHello
 before_hello (message.Subscribe doc revision) = Err NoHello
 before_hello (message.Unsubscribe doc) = Err NoHello
@@ -42,6 +43,8 @@ after_hello source (message.Edit doc number base operations) =
     of_document doc (with_delta source doc number (command.Edit base) (delta_of operations))
 after_hello source (message.Undo doc number) =
     of_document doc (Ok (Ask (record { name = doc; source = source; number = number; action = command.Undo })))
+after_hello source (message.Delete doc number) =
+    of_document doc (Ok (Ask (record { name = doc; source = source; number = number; action = command.Delete })))
 after_hello source (message.Read doc question) = of_document doc (Ok (Read doc question))
 after_hello source (message.Subscribe doc revision) = of_document doc (Ok (Subscribe doc revision))
 after_hello source (message.Unsubscribe doc) = of_document doc (Ok (Unsubscribe doc))

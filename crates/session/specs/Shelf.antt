@@ -1,12 +1,12 @@
 -- Documents at older revisions, kept for the next one who asks for them; and when they are right of a state.
-use Rattle.std.specs.Prelude.{◌≡◌, ◌⊎◌, true, ℕ, List, All, Option, Result, Ok, Err}
+use Rattle.std.specs.Prelude.{◌≡◌, ◌⊎◌, ◌≤◌, true, Some, ℕ, List, All, Option, Result, Ok, Err}
 use Rattle.std.specs.Option.{ForSome}
 use Rattle.refusal.specs.declared.Refusal.{Refusal}
-use Rattle.refusal.specs.declared.Refusal.TheVariants.{TooOld, NoMemory}
+use Rattle.refusal.specs.declared.Refusal.TheVariants.{Deleted, TooOld, NoMemory}
 use Rattle.delta.specs.Element.{Element}
 use Rattle.revision.specs.Command.{Taken}
 use Rattle.revision.specs.Readings.{document_at}
-use Rattle.revision.specs.State.{State, all_grow, fold}
+use Rattle.revision.specs.State.{DocumentRecord, State, revision_of, find, all_grow, fold}
 
 -- a document of a name at a revision
 pub record Kept : Type 0 where
@@ -14,9 +14,19 @@ pub record Kept : Type 0 where
   pub revision : ℕ
   pub units : List Element
 
--- What is kept is what the state gives of that document at that revision, or the state no longer holds the revision.
+-- the state has no document of that name any longer, which has reached the revision and was deleted since
+pub record IsGone (state : State) (kept : Kept) : Type 0 where
+  pub deleted : document_at state kept.name kept.revision ≡ Err Deleted
+  pub number : ℕ
+  pub found : DocumentRecord
+  pub there : find kept.name 0 state.documents ≡ Some (number, found)
+  pub reached : kept.revision ≤ revision_of found
+
+-- What is kept is what the state gives of that document at that revision, or the state no longer holds the revision, or the document was
+-- deleted since. Its revisions go on where it is created again, so the name and the revision are still those of one document.
 abbrev pub IsGiven : State → Kept → Type 0
-IsGiven state kept = (document_at state kept.name kept.revision ≡ Ok kept.units) ⊎ (document_at state kept.name kept.revision ≡ Err TooOld)
+IsGiven state kept =
+    (document_at state kept.name kept.revision ≡ Ok kept.units) ⊎ (document_at state kept.name kept.revision ≡ Err TooOld) ⊎ IsGone state kept
 
 -- each document that is kept is right of the state
 abbrev pub Fits : State → List Kept → Type 0

@@ -1,7 +1,7 @@
 //! Messages: what a line's JSON value asks for.
 ghost use Rattle.std.specs.Prelude.{◌≡◌, ◌≤◌, ◌<◌, ◌^◌, IfSome, option_map};
 ghost use Rattle.serde_json.specs.View.{view, items_view};
-ghost use Rattle.session.specs.Message.{message_of, hello_of, create_of, edit_of, undo_of, fetch_newest_of, read_at, fetch_of, since_of, subscribe_of, unsubscribe_of, text_at, number_at, revision_at, array_at, IsNumbered};
+ghost use Rattle.session.specs.Message.{message_of, hello_of, create_of, edit_of, undo_of, delete_of, fetch_newest_of, read_at, fetch_of, since_of, subscribe_of, unsubscribe_of, text_at, number_at, revision_at, array_at, IsNumbered};
 ghost use Rattle.session.specs.steps.MessageView.{message_view};
 ghost use Rattle.session.specs.declared.question.Question.TheVariants.{At};
 
@@ -38,6 +38,11 @@ pub enum Message<'a> {
         doc: &'a str,
         number: u64,
     },
+    /// A document is to be deleted, under the source's number for it.
+    Delete {
+        doc: &'a str,
+        number: u64,
+    },
     /// Something is asked of a document.
     Read {
         doc: &'a str,
@@ -65,6 +70,7 @@ impl<'a> Message<'a> {
             "create" => Message::read_create(value),
             "edit" => Message::read_edit(value),
             "undo" => Message::read_undo(value),
+            "delete" => Message::read_delete(value),
             "fetch" => Message::read_fetch(value),
             "since" => Message::read_since(value),
             "subscribe" => Message::read_subscribe(value),
@@ -130,6 +136,18 @@ impl<'a> Message<'a> {
         let doc = text_in(value, "doc")?;
         let number = number_in(value, "n")?;
         Some(Message::Undo { doc, number })
+    }
+
+    fn read_delete(value: &'a Value) -> Option<Message<'a>>
+        ensures message { option_map message_view result ≡ delete_of (view value.now) }
+        ensures numbered { IfSome result (λ message. IsNumbered (message_view message)) }
+    {
+        if member_count(value) != 3 {
+            return None;
+        }
+        let doc = text_in(value, "doc")?;
+        let number = number_in(value, "n")?;
+        Some(Message::Delete { doc, number })
     }
 
     fn read_fetch(value: &'a Value) -> Option<Message<'a>>

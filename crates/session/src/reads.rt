@@ -46,9 +46,19 @@ fn read_newest(alloc: Global, state: &State, name: &Name) -> Result<String, Allo
     ensures { IfOk result (λ text. string_bytes text ≡ read_line name.now Newest state.now) }
 {
     match state.find(name) {
-        Some((_, found)) => document_reply(alloc, name, found.document(), found.revision()),
+        Some((_, found)) => newest_of(alloc, name, found),
         None => refusal_reply(alloc, Refusal::NoDocument),
     }
+}
+
+fn newest_of(alloc: Global, name: &Name, found: &DocState) -> Result<String, AllocError>
+    ensures { IfOk result (λ text. string_bytes text
+        ≡ line_told (told name.now Newest (Some (0, record_of found.now)))) }
+{
+    if found.is_live() {
+        return document_reply(alloc, name, found.document(), found.revision());
+    }
+    refusal_reply(alloc, Refusal::Deleted)
 }
 
 fn read_at(alloc: Global, state: &State, shelf: &Shelf, name: &Name, rev: u64) -> Told
@@ -94,6 +104,9 @@ fn since_of(alloc: Global, name: &Name, found: &DocState, rev: u64) -> Result<St
     ensures { IfOk result (λ text. string_bytes text
         ≡ line_told (told name.now (Since rev) (Some (0, record_of found.now)))) }
 {
+    if !found.is_live() {
+        return refusal_reply(alloc, Refusal::Deleted);
+    }
     if rev > found.revision() {
         return refusal_reply(alloc, Refusal::Future);
     }
@@ -116,6 +129,9 @@ pub fn check_held(state: &State, name: &Name, rev: u64) -> Result<(), Refusal>
 fn check_rev(found: &DocState, rev: u64) -> Result<(), Refusal>
     ensures { result ≡ at_revision rev (Some (0, record_of found.now)) (λ past. tt) }
 {
+    if !found.is_live() {
+        return Err(Refusal::Deleted);
+    }
     if rev > found.revision() {
         return Err(Refusal::Future);
     }

@@ -4,7 +4,7 @@ ghost use Rattle.std.specs.Option.{ForSome};
 ghost use Rattle.serde_json.specs.View.{items_view};
 ghost use Rattle.revision.specs.Name.{is_source_name};
 ghost use Rattle.optext.specs.Answer.{IsAnswer};
-ghost use Rattle.session.specs.Message.{Create, Edit, Undo, IsNumbered};
+ghost use Rattle.session.specs.Message.{Create, Edit, Undo, Delete, IsNumbered};
 ghost use Rattle.session.specs.steps.MessageView.{message_view};
 ghost use Rattle.session.specs.Request as spec;
 
@@ -88,6 +88,7 @@ impl Request {
                 operations,
             } => edit(alloc, source, doc, number, base, operations),
             Message::Undo { doc, number } => undo(alloc, source, doc, number),
+            Message::Delete { doc, number } => deletion(alloc, source, doc, number),
             Message::Read { doc, question } => Ok(Request::Read(Name::doc(alloc, doc)?, question)),
             Message::Subscribe { doc, rev } => Ok(Request::Subscribe(Name::doc(alloc, doc)?, rev)),
             Message::Unsubscribe { doc } => Ok(Request::Unsubscribe(Name::doc(alloc, doc)?)),
@@ -144,4 +145,16 @@ fn undo(alloc: Global, source: &Name, doc: &str, number: u64) -> Result<Request,
     let name = Name::doc(alloc, doc)?;
     let source = source.copy(alloc)?;
     Ok(Request::Ask(Command::undo(name, source, number)))
+}
+
+fn deletion(alloc: Global, source: &Name, doc: &str, number: u64) -> Result<Request, Refusal>
+    requires source { is_source_name source.now ≡ true }
+    requires first { 1 ≤ number }
+    requires last { number < 2 ^ 53 }
+    ensures due { IsAnswer (spec.after_hello source.now (Delete doc.now number)) result }
+    ensures greets { IfOk result spec.GreetsSource }
+{
+    let name = Name::doc(alloc, doc)?;
+    let source = source.copy(alloc)?;
+    Ok(Request::Ask(Command::delete(name, source, number)))
 }

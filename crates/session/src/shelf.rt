@@ -97,9 +97,9 @@ impl Shelf {
         self.documents.len()
     }
 
-    /// Shows what stood in a document at a revision, and gives the look to be noted. Refused with `NoDocument`, `Future` where the
-    /// revision is above the newest one, `TooOld` where it is below the floor, and out of memory where the document can't be
-    /// made.
+    /// Shows what stood in a document at a revision, and gives the look to be noted. Refused with `NoDocument`, `Deleted` where it is
+    /// deleted now, `Future` where the revision is above the newest one, `TooOld` where it is below the floor, and out of memory where the
+    /// document can't be made.
     pub fn show<R, F: Drop + FnOnce(&Document) -> R>(
         &self,
         alloc: Global,
@@ -149,7 +149,7 @@ impl Shelf {
     }
 }
 
-// The document of a name, where it holds a revision.
+// The document of a name, where it isn't deleted and holds a revision.
 fn held_at<'a>(state: &'a State, name: &Name, revision: u64) -> Result<&'a DocState, Refusal>
     ensures past { read_as (λ found. (record_of found.now).past) result ≡ past_at state.now name.now revision }
     ensures held { IfOk result (λ found. found.now.past.past.floor ≤ revision) }
@@ -158,6 +158,9 @@ fn held_at<'a>(state: &'a State, name: &Name, revision: u64) -> Result<&'a DocSt
     let Some((_, found)) = state.find(name) else {
         return Err(Refusal::NoDocument);
     };
+    if !found.is_live() {
+        return Err(Refusal::Deleted);
+    }
     if revision > found.revision() {
         return Err(Refusal::Future);
     }

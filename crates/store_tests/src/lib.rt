@@ -17,6 +17,8 @@ mod creating;
 #[cfg(test)]
 mod damage;
 #[cfg(test)]
+mod deleting;
+#[cfg(test)]
 mod deltas;
 #[cfg(test)]
 mod devices;

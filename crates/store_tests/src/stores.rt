@@ -152,13 +152,18 @@ pub fn text_of(rt: &(impl Abort + AllocGlobal), delta: &Delta) -> String {
     all
 }
 
-/// A document as its name, its revision and its text.
+/// A document as its name, its revision and its text, or that it is deleted.
 pub fn line_of(rt: &(impl Abort + AllocGlobal), record: &DocState) -> String {
     let delta = record.document().as_delta(rt.alloc()).expect(rt, "memory");
     let text = text_of(rt, &delta);
+    let shown = if record.is_live() {
+        text.as_str()
+    } else {
+        "deleted"
+    };
     let name = record.name().as_str();
     let revision = record.revision();
-    format!(in rt.alloc(); "{name} {revision} {text}").expect(rt, "memory")
+    format!(in rt.alloc(); "{name} {revision} {shown}").expect(rt, "memory")
 }
 
 /// The documents of a state, each as a line.

@@ -15,7 +15,7 @@ use revision::{Command, Name};
 use std::process::Abort;
 
 /// Where the gate of the third record stands.
-const GATE: usize = 1_207;
+pub const GATE: usize = 1_207;
 
 /// The first spelling of the third batch, of 56 bytes: behind two units the source a inserts yy.
 const INSERTING: [u8; 56] = [
@@ -36,8 +36,8 @@ const DELETING: [u8; 41] = [
     4, 1, 0, 0, 0, 0, 0, 0, 0, // a delete of 1
 ];
 
-// A device of the two batches.
-fn with_two(rt: &(impl Abort + AllocGlobal)) -> Vec<u8> {
+/// A device of the two batches.
+pub fn with_two(rt: &(impl Abort + AllocGlobal)) -> Vec<u8> {
     let mut slot = part(rt, &SLOT, 0, 59)
         .to_vec(rt.alloc())
         .expect(rt, "memory");
@@ -47,8 +47,8 @@ fn with_two(rt: &(impl Abort + AllocGlobal)) -> Vec<u8> {
     with_bytes_at(rt, small_device(rt).bytes(), 1_088, &slot)
 }
 
-// A commit onto a device goes wrong at one of its calls: 0 and 1 write and sync the body, 2 and 3 the gate.
-fn failed_commit(
+/// A commit onto a device goes wrong at one of its calls: 0 and 1 write and sync the body, 2 and 3 the gate.
+pub fn failed_commit(
     rt: &(impl Abort + AllocGlobal),
     bytes: &[u8],
     batch: &[u8],
@@ -61,14 +61,14 @@ fn failed_commit(
     store.close()
 }
 
-// And this is what a crash then leaves.
-fn left_by(rt: &(impl Abort + AllocGlobal), disk: &FaultDisk) -> Vec<u8> {
+/// And this is what a crash then leaves.
+pub fn left_by(rt: &(impl Abort + AllocGlobal), disk: &FaultDisk) -> Vec<u8> {
     let after = disk.after_crash(rt.alloc()).expect(rt, "memory");
     after.bytes().to_vec(rt.alloc()).expect(rt, "memory")
 }
 
-// A plan that stops at a call of a commit onto a device.
-fn stop_at(rt: &(impl Abort + AllocGlobal), bytes: &[u8], call: u64, left: Left) -> FaultPlan {
+/// A plan that stops at a call of a commit onto a device.
+pub fn stop_at(rt: &(impl Abort + AllocGlobal), bytes: &[u8], call: u64, left: Left) -> FaultPlan {
     FaultPlan::stop(calls_before(rt, bytes).saturating_add(call), left)
 }
 

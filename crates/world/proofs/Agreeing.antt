@@ -13,9 +13,8 @@ use Rattle.world.specs.Event.{Done, Failed, Stopped, Event, Submit, Take, Device
 use Rattle.world.specs.World.{Entry, entry_of, takens, World, begun, last_sent, last_composed}
 use Rattle.world.specs.Step.{keeping_all, whole, with_floors, may_begin_at, may_pick, is_numbered, is_among_last, with_command, is_written, written, acknowledged, may_leave, stopped, opened, can_open, running_step, crashed_step, step, run}
 use Rattle.world.specs.Law.{OverAll, StateAgrees}
-use Rattle.world.proofs.Pasts.{newest-from_floor, units-from_floor, sources-from_floor}
-use Rattle.revision.specs.Floors.{longer}
-use Rattle.world.proofs.Cutting.{IsCut, cut-itself, cut-floor, cut-change, cuts-agree}
+use Rattle.world.proofs.Pasts.{newest-from_floor, content-from_floor, sources-from_floor}
+use Rattle.world.proofs.Cutting.{IsCut, cut-itself, cut-floor, longer_by, cut-step, cuts-agree}
 use Rattle.world.proofs.Holding.{IsConsistent, with_answer, begun-holds, run-holds}
 
 record CutDocument (all document : DocumentRecord) : Type 0 where
@@ -62,8 +61,8 @@ cuts-set (suc n) (Some made) (Some document) (first ∷ more) (second ∷ others
 -- a document after a command, of which nothing is let go
 abbrev longer_by_name : Option DocumentRecord → Taken → Option (List ℕ) → Option DocumentRecord
 longer_by_name None taken None = None
-longer_by_name None taken (Some name) = Some (record { name = name; past = longer empty_past (change_of taken) })
-longer_by_name (Some found) taken name = Some (record found { past = longer found.past (change_of taken) })
+longer_by_name None taken (Some name) = Some (record { name = name; past = longer_by empty_past taken.step (change_of taken) })
+longer_by_name (Some found) taken name = Some (record found { past = longer_by found.past taken.step (change_of taken) })
 
 abbrev grown_longer : List DocumentRecord → Taken → List DocumentRecord
 grown_longer all taken = set_document taken.document (longer_by_name (slice_get all taken.document) taken taken.name) all
@@ -75,11 +74,11 @@ fold_longer all (first ∷ others) = fold_longer (grown_longer all first) others
 cuts-next : (keep : ℕ) (made found : Option DocumentRecord) (taken : Taken) (name : Option (List ℕ)) → CutOption made found
     → CutOption (longer_by_name made taken name) (record_by_name keep found taken name)
 cuts-next keep None None taken None cut = tt
-cuts-next keep None None taken (Some name) cut = record { name = refl; past = cut-change keep empty_past empty_past (change_of taken) (cut-itself empty_past) }
+cuts-next keep None None taken (Some name) cut = record { name = refl; past = cut-step keep empty_past empty_past taken.step (change_of taken) (cut-itself empty_past) }
 cuts-next keep None (Some found) taken name cut = absurd cut
 cuts-next keep (Some made) None taken name cut = absurd cut
-cuts-next keep (Some made) (Some found) taken None cut = record { name = cut.name; past = cut-change keep made.past found.past (change_of taken) cut.past }
-cuts-next keep (Some made) (Some found) taken (Some name) cut = record { name = cut.name; past = cut-change keep made.past found.past (change_of taken) cut.past }
+cuts-next keep (Some made) (Some found) taken None cut = record { name = cut.name; past = cut-step keep made.past found.past taken.step (change_of taken) cut.past }
+cuts-next keep (Some made) (Some found) taken (Some name) cut = record { name = cut.name; past = cut-step keep made.past found.past taken.step (change_of taken) cut.past }
 
 cuts-grown : (all : List DocumentRecord) (state : State) (taken : Taken) → CutsAll all state.documents → CutsAll (grown_longer all taken) (grown state taken).documents
 cuts-grown all state taken cuts =
@@ -113,15 +112,12 @@ documents-agree all a b first second = record {
   name = first.name ∙ sym second.name;
   revision = ap newest first.past.is ∙ (newest-from_floor all.past a.past.floor first.past.low first.past.high
       ∙ sym (ap newest second.past.is ∙ newest-from_floor all.past b.past.floor second.past.low second.past.high));
-  content = λ i. record { units = units i };
+  content = ap (λ p. Rattle.revision.specs.Past.content_at p (newest p)) first.past.is ∙ (content-from_floor all.past a.past.floor first.past.low first.past.high
+      ∙ sym (ap (λ p. Rattle.revision.specs.Past.content_at p (newest p)) second.past.is ∙ content-from_floor all.past b.past.floor second.past.low second.past.high));
   sources = ap (λ p. Rattle.revision.specs.Past.sources_at p (newest p)) first.past.is ∙ (sources-from_floor all.past a.past.floor first.past.low first.past.high
       ∙ sym (ap (λ p. Rattle.revision.specs.Past.sources_at p (newest p)) second.past.is ∙ sources-from_floor all.past b.past.floor second.past.low second.past.high));
   past = λ floor over other within. cuts-agree all.past a.past b.past floor first.past second.past over other;
 }
-  where
-    units : (Rattle.revision.specs.Past.content_at a.past (newest a.past)).units ≡ (Rattle.revision.specs.Past.content_at b.past (newest b.past)).units
-    units = ap (λ p. (Rattle.revision.specs.Past.content_at p (newest p)).units) first.past.is ∙ (units-from_floor all.past a.past.floor first.past.low first.past.high
-        ∙ sym (ap (λ p. (Rattle.revision.specs.Past.content_at p (newest p)).units) second.past.is ∙ units-from_floor all.past b.past.floor second.past.low second.past.high))
 
 places-agree : (all a b : Option DocumentRecord) → CutOption all a → CutOption all b → PlacesAgree a b
 places-agree None None None first second = tt

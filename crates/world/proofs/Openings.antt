@@ -8,14 +8,14 @@ use Rattle.revision.specs.State.{DocumentRecord, revision_of, State}
 use Rattle.world.specs.World.{last_composed}
 use Rattle.world.specs.Step.{keeping_all, whole, with_floors, may_begin_at, may_pick}
 use Rattle.world.specs.Shown.{shown, all_shown}
-use Rattle.world.proofs.Pasts.{newest-from_floor, units-from_floor, sources-from_floor}
+use Rattle.world.proofs.Pasts.{newest-from_floor, content-from_floor, sources-from_floor}
 use Rattle.world.proofs.Showing.{fold_shown, shown-fold}
 
 shown-from_floor : (found : DocumentRecord) (floor : ℕ) → found.past.floor ≤ floor → floor ≤ revision_of found
     → shown (record found { past = from_floor found.past floor }) ≡ shown found
 shown-from_floor found floor above below = λ i. record {
   name = found.name;
-  units = units-from_floor found.past floor above below i;
+  content = content-from_floor found.past floor above below i;
   revision = newest-from_floor found.past floor above below i;
   sources = sources-from_floor found.past floor above below i;
 }

@@ -3,23 +3,23 @@ use Rattle.std.proofs.Common.{◌≡◌, ℕ, zero, suc, ◌+◌, List, [], ◌�
 use Rattle.std.specs.Prelude.{slice_get, option_map}
 use Rattle.std.proofs.lemmas.Option.{slice_get-map}
 use Rattle.revision.specs.Command.{Taken}
-use Rattle.revision.specs.Past.{empty_past, with_change}
+use Rattle.revision.specs.Past.{empty_past, with_step}
 use Rattle.revision.specs.State.{change_of, DocumentRecord, State, record_by_name, record_after, set_document, grown, fold}
 use Rattle.world.specs.Shown.{Shown, shown, all_shown}
 pub use Rattle.world.specs.steps.Showing.{next_shown, blank, shown_by_name, set_shown, grown_shown, fold_shown}
-use Rattle.world.proofs.Pasts.{newest-with_change, units-with_change, sources-with_change}
+use Rattle.world.proofs.Pasts.{newest-with_step, content-with_step, sources-with_step}
 
 pub shown-next : (keep : ℕ) (found : DocumentRecord) (taken : Taken)
-    → shown (record found { past = with_change keep found.past (change_of taken) }) ≡ next_shown taken (shown found)
+    → shown (record found { past = with_step keep found.past taken.step (change_of taken) }) ≡ next_shown taken (shown found)
 shown-next keep found taken = λ i. record {
   name = found.name;
-  units = units-with_change keep found.past (change_of taken) i;
-  revision = newest-with_change keep found.past (change_of taken) i;
-  sources = sources-with_change keep found.past (change_of taken) i;
+  content = content-with_step keep found.past taken.step (change_of taken) i;
+  revision = newest-with_step keep found.past taken.step (change_of taken) i;
+  sources = sources-with_step keep found.past taken.step (change_of taken) i;
 }
 
 shown-created : (keep : ℕ) (name : List ℕ) (taken : Taken)
-    → shown (record { name = name; past = with_change keep empty_past (change_of taken) }) ≡ next_shown taken (blank name)
+    → shown (record { name = name; past = with_step keep empty_past taken.step (change_of taken) }) ≡ next_shown taken (blank name)
 shown-created keep name taken = shown-next keep (record { name = name; past = empty_past }) taken
 
 shown-by_name : (keep : ℕ) (found : Option DocumentRecord) (taken : Taken) (name : Option (List ℕ))

@@ -155,14 +155,17 @@ module _ (world : World) (limits : Limits) (kept : ℕ) (milestones : List ℕ) 
   made : state ≡ recovered world.board.start (takens (take kept world.board.order)) milestones
   made = is ∙ ap (λ s. recovered s (takens (take kept world.board.order)) milestones) (sym start)
 
-  can : can_open world kept (floors_left world kept milestones) ≡ are_reached limits.keep world.composed 0 state.documents
+  abbrev pub folded : State
+  folded = fold (empty_store limits) (takens (take kept world.board.order))
+
+  can : can_open world kept (floors_left world kept milestones) ≡ are_reached world.composed 0 folded.documents state.documents
   can =
       ap (λ b. b && may_pick world.board.start.limits.keep world.composed 0 (whole world.board.start (takens (take kept world.board.order))).documents (floors_left world kept milestones)) may
       ∙ (recovered_picks world.board.start none some (takens (take kept world.board.order)) milestones world.composed
-      ∙ (ap (λ (s : State). are_reached world.board.start.limits.keep world.composed 0 s.documents) (sym made)
-      ∙ ap (λ (s : State). are_reached s.limits.keep world.composed 0 state.documents) start))
+      ∙ (ap (λ (s : State). are_reached world.composed 0 (fold world.board.start (takens (take kept world.board.order))).documents s.documents) (sym made)
+      ∙ ap (λ (s : State). are_reached world.composed 0 (fold s (takens (take kept world.board.order))).documents state.documents) start))
 
-  pub open-steps : are_reached limits.keep world.composed 0 state.documents ≡ true
+  pub open-steps : are_reached world.composed 0 (fold (empty_store limits) (takens (take kept world.board.order))).documents state.documents ≡ true
       → record world {
         board = reopened world.board state kept;
         published = takens (take kept (take kept world.board.order));
@@ -188,7 +191,7 @@ module _ (world : World) (limits : Limits) (kept : ℕ) (milestones : List ℕ) 
         crashed = false;
       }) ∙ sym (ap (λ b. cond b (opened world kept (floors_left world kept milestones)) world) (can ∙ reached))
 
-  pub closed-steps : are_reached limits.keep world.composed 0 state.documents ≡ false
+  pub closed-steps : are_reached world.composed 0 (fold (empty_store limits) (takens (take kept world.board.order))).documents state.documents ≡ false
       → world ≡ (if can_open world kept (floors_left world kept milestones) then opened world kept (floors_left world kept milestones) else world)
   closed-steps out = sym (ap (λ b. cond b (opened world kept (floors_left world kept milestones)) world) (can ∙ out))
 

@@ -1,20 +1,20 @@
 -- What a state shows of its documents, however far back it holds them.
 use Rattle.std.specs.Prelude.{ℕ, List, map}
-use Rattle.delta.specs.Element.{Element}
+use Rattle.revision.specs.Past.{Content}
 use Rattle.revision.specs.Sources.{Sources}
-use Rattle.revision.specs.State.{DocumentRecord, State, revision_of, units_of, sources_of}
+use Rattle.revision.specs.State.{DocumentRecord, State, revision_of, content_of, sources_of}
 
--- a document's name, and its units, revision and sources as they are now
+-- a document's name, and its content, revision and sources as they are now
 pub record Shown : Type 0 where
   pub name : List ℕ
-  pub units : List Element
+  pub content : Content
   pub revision : ℕ
   pub sources : Sources
 
 abbrev pub shown : DocumentRecord → Shown
 shown document = record {
   name = document.name;
-  units = units_of document;
+  content = content_of document;
   revision = revision_of document;
   sources = sources_of document;
 }

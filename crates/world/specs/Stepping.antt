@@ -71,11 +71,12 @@ recovered start commands milestones = record (fold start commands) { documents =
 abbrev pub floors_left : World → ℕ → List ℕ → List ℕ
 floors_left world kept milestones = floors_of (recovered world.board.start (takens (take kept world.board.order)) milestones).documents
 
--- no floor is above both what was composed of its document and `keep` below the newest revision; counted from this number on
-abbrev pub are_reached : ℕ → List (ℕ × ℕ) → ℕ → List DocumentRecord → Bool
-are_reached keep composed number [] = true
-are_reached keep composed number (first ∷ others) =
-    nat_le first.past.floor (max (last_composed number composed) (revision_of first - keep)) && are_reached keep composed (number + 1) others
+-- no floor is above both the one that its document has without a milestone and what was composed of it; counted from this number on
+abbrev pub are_reached : List (ℕ × ℕ) → ℕ → List DocumentRecord → List DocumentRecord → Bool
+are_reached composed number [] held = true
+are_reached composed number (first ∷ others) [] = true
+are_reached composed number (first ∷ others) (one ∷ more) =
+    nat_le one.past.floor (max first.past.floor (last_composed number composed)) && are_reached composed (number + 1) others more
 
 -- the event of a world that an event of the program is
 abbrev pub event_of : World → program.Event → Event

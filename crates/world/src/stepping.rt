@@ -7,7 +7,7 @@ ghost use Rattle.revision.specs.State.{newest_revision, all_grow, fold};
 ghost use Rattle.world.specs.Event as spec_event;
 ghost use Rattle.world.specs.World.{takens, begun, last_composed as spec_last_composed};
 ghost use Rattle.world.specs.Step.{with_command, may_leave, stopped, acknowledged as spec_acknowledged, can_open, opened, running_step, step as spec_step};
-ghost use Rattle.world.specs.Stepping.{empty_store, taken_of, outcome_of, event_of, recovered as spec_recovered, floors_left, are_reached as spec_are_reached};
+ghost use Rattle.world.specs.Stepping.{empty_store, taken_of, outcome_of, event_of, floors_left, are_reached as spec_are_reached};
 
 use crate::board::Board;
 use crate::entry::Entry;
@@ -347,12 +347,16 @@ impl World {
     {
         // the limits are in their ranges
         let _ = self.limits.docs();
-        let keep = self.limits.keep();
         if !self.may_leave(kept) {
             return Ok(());
         }
-        let state = recovered(alloc, self.limits, self.first(kept), milestones)?;
-        if !are_reached(keep, self.composed.as_slice(), state.documents()) {
+        let made = folded(alloc, self.limits, self.first(kept))?;
+        let state = made.copy_from(alloc, milestones)?;
+        if !are_reached(
+            self.composed.as_slice(),
+            made.documents(),
+            state.documents(),
+        ) {
             return Ok(());
         }
         self.board.reopen(state, kept);
@@ -377,28 +381,12 @@ fn add(order: &mut Vec<Entry>, entry: Option<Entry>)
     }
 }
 
-// What a store holds that is opened with these commands, each document from its milestone on.
-fn recovered(
-    alloc: Global,
-    limits: Limits,
-    entries: &[Entry],
-    milestones: &[u64],
-) -> Result<State, Refusal>
-    requires grow { all_grow (empty_store limits) (takens entries.now) ≡ true }
-    ensures state { IfOk result (λ state. state
-        ≡ spec_recovered (empty_store limits) (takens entries.now) milestones.now) }
-    ensures only { IsOkUnless result Refusal.NoMemory }
+// Whether no document's floor is above both the one that it has without a milestone and what was composed of it.
+fn are_reached(composed: &[(usize, u64)], made: &[DocState], held: &[DocState]) -> bool
+    ensures { result ≡ spec_are_reached composed.now 0 (map record_of made.now) (map record_of held.now) }
 {
-    folded(alloc, limits, entries)?.copy_from(alloc, milestones)
-}
-
-// Whether no document's floor is above both what was composed of it and `keep` below its newest revision.
-fn are_reached(keep: u32, composed: &[(usize, u64)], documents: &[DocState]) -> bool
-    ensures { result ≡ spec_are_reached keep composed.now 0 (map record_of documents.now) }
-{
-    for (number, document) in documents.iter().enumerate() {
-        let least = document.revision().saturating_sub(u64::from(keep));
-        if document.floor() > last_composed(composed, number).max(least) {
+    for number in 0..made.len().min(held.len()) {
+        if held[number].floor() > made[number].floor().max(last_composed(composed, number)) {
             return false;
         }
     }

@@ -3,6 +3,7 @@ use Rattle.std.specs.Prelude.{ℕ, zero, suc, ◌==◌, ◌^◌, nat_lt, if◌th
 use Rattle.std.specs.Int.{w32, w64}
 use Rattle.revision.specs.Name.{is_source_name, is_document_name}
 use Rattle.revision.specs.Command.{Taken}
+use Rattle.revision.specs.declared.step.Step.TheVariants.{Edits, Deletes, Revives}
 use Rattle.journal.specs.steps.Reading.{◌>>=◌, number_at, fixed_at, within_at, byte_at, name_at}
 use Rattle.journal.specs.steps.DeltaReading.{delta_at}
 
@@ -15,7 +16,7 @@ creation_at bytes = do
   numbered ← fixed_at w64 1 source.1
   name ← name_at is_document_name numbered
   delta ← delta_at name.1
-  Some (record { document = document.0; name = Some name.0; revision = 1; source = source.0; number = 1; delta = delta.0 }, delta.1)
+  Some (record { document = document.0; name = Some name.0; revision = 1; source = source.0; number = 1; step = Edits; delta = delta.0 }, delta.1)
 
 -- an edit or undo, behind its tag
 unfoldable pub edit_at : List ℕ → Option (Taken × List ℕ)
@@ -25,11 +26,35 @@ edit_at bytes = do
   source ← name_at is_source_name revision.1
   n ← within_at w64 0 (2 ^ 53) source.1
   delta ← delta_at n.1
-  Some (record { document = document.0; name = None; revision = revision.0; source = source.0; number = n.0; delta = delta.0 }, delta.1)
+  Some (record { document = document.0; name = None; revision = revision.0; source = source.0; number = n.0; step = Edits; delta = delta.0 }, delta.1)
+
+-- a deletion, behind its tag
+unfoldable pub deletion_at : List ℕ → Option (Taken × List ℕ)
+deletion_at bytes = do
+  document ← number_at w32 bytes
+  revision ← within_at w64 2 (2 ^ 53) document.1
+  source ← name_at is_source_name revision.1
+  n ← within_at w64 0 (2 ^ 53) source.1
+  Some (record { document = document.0; name = None; revision = revision.0; source = source.0; number = n.0; step = Deletes; delta = [] }, n.1)
+
+-- a creation of a document that is deleted, behind its tag
+unfoldable pub revival_at : List ℕ → Option (Taken × List ℕ)
+revival_at bytes = do
+  document ← number_at w32 bytes
+  revision ← within_at w64 3 (2 ^ 53) document.1
+  source ← name_at is_source_name revision.1
+  n ← within_at w64 0 (2 ^ 53) source.1
+  delta ← delta_at n.1
+  Some (record { document = document.0; name = None; revision = revision.0; source = source.0; number = n.0; step = Revives; delta = delta.0 }, delta.1)
 
 -- the command that stands behind a tag
 unfoldable pub entry_behind : ℕ → List ℕ → Option (Taken × List ℕ)
-entry_behind tag bytes = if tag == 1 then creation_at bytes else if tag == 2 then edit_at bytes else None
+entry_behind tag bytes =
+    if tag == 1 then creation_at bytes
+    else if tag == 2 then edit_at bytes
+    else if tag == 3 then deletion_at bytes
+    else if tag == 4 then revival_at bytes
+    else None
 
 unfoldable pub entry_at : List ℕ → Option (Taken × List ℕ)
 entry_at bytes = do

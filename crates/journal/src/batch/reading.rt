@@ -5,7 +5,7 @@ ghost use Rattle.revision.specs.Name.{is_source_name, is_document_name};
 ghost use Rattle.revision.specs.Command as command;
 ghost use Rattle.journal.specs.BatchSpelling as spelling;
 ghost use Rattle.journal.specs.steps.Reading.{Gives, part_at, number_at, fixed_at, within_at, byte_at, utf8_at, text_at, name_at};
-ghost use Rattle.journal.specs.steps.BatchReading.{creation_at, edit_at, entry_behind, entry_at, entries_at, batch_at, whole_at};
+ghost use Rattle.journal.specs.steps.BatchReading.{creation_at, edit_at, deletion_at, revival_at, entry_behind, entry_at, entries_at, batch_at, whole_at};
 
 mod deltas;
 mod normal_form;
@@ -66,8 +66,8 @@ fn batch_of(alloc: Global, bytes: &[u8]) -> Result<(Vec<Taken>, &[u8]), Unread>
     entries(alloc, count, rest)
 }
 
-// no entry is spelled in fewer bytes: an edit of a source whose name has one, with an empty delta, has just so many
-const LEAST_ENTRY: usize = 28;
+// no entry is spelled in fewer bytes: a deletion by a source whose name has one has just so many
+const LEAST_ENTRY: usize = 24;
 
 // So many entries, one behind the other. Room is made for all of them at once, as far as the bytes can hold them.
 fn entries(alloc: Global, count: u32, bytes: &[u8]) -> Result<(Vec<Taken>, &[u8]), Unread>
@@ -98,6 +98,8 @@ fn entry_of_tag(alloc: Global, tag: u8, bytes: &[u8]) -> Result<(Taken, &[u8]), 
     match tag {
         1 => creation(alloc, bytes),
         2 => edit(alloc, bytes),
+        3 => deletion(alloc, bytes),
+        4 => revival(alloc, bytes),
         _ => Err(Unread::Malformed),
     }
 }
@@ -125,6 +127,33 @@ fn edit(alloc: Global, bytes: &[u8]) -> Result<(Taken, &[u8]), Unread>
     let (number, rest) = number_within(0, rest)?;
     let (delta, rest) = delta(alloc, rest)?;
     Ok((Taken::edit(document, revision, source, number, delta), rest))
+}
+
+#[tactic(auto, unfolding(crate::specs::steps::BatchReading::deletion_at))]
+fn deletion(alloc: Global, bytes: &[u8]) -> Result<(Taken, &[u8]), Unread>
+    ensures { Gives (λ x. (x.0, x.1.now)) result (deletion_at bytes.now) }
+{
+    let (document, rest) = number32(bytes)?;
+    let (revision, rest) = number_within(FIRST_REVISION + 1, rest)?;
+    let (source, rest) = source_name(alloc, rest)?;
+    let (number, rest) = number_within(0, rest)?;
+    let taken = Taken::deletion(alloc, document, revision, source, number);
+    Ok((taken, rest))
+}
+
+#[tactic(auto, unfolding(crate::specs::steps::BatchReading::revival_at))]
+fn revival(alloc: Global, bytes: &[u8]) -> Result<(Taken, &[u8]), Unread>
+    ensures { Gives (λ x. (x.0, x.1.now)) result (revival_at bytes.now) }
+{
+    let (document, rest) = number32(bytes)?;
+    let (revision, rest) = number_within(FIRST_REVISION + 2, rest)?;
+    let (source, rest) = source_name(alloc, rest)?;
+    let (number, rest) = number_within(0, rest)?;
+    let (delta, rest) = delta(alloc, rest)?;
+    Ok((
+        Taken::revival(document, revision, source, number, delta),
+        rest,
+    ))
 }
 
 #[tactic(auto, unfolding(crate::specs::steps::Reading::name_at))]

@@ -1,7 +1,7 @@
 //! Writing: each part of the spelling has one function.
 ghost use Rattle.std.specs.Prelude.{◌≡◌, ◌-◌, ◌≤◌, ◌<◌, ◌^◌, ◌++◌, length, min, option_map, All, OnOk, IfOk};
 ghost use Rattle.std.specs.Int.{w16, w32, w64};
-ghost use Rattle.revision.specs.Command.{IsTaken};
+ghost use Rattle.revision.specs.Command.{IsTaken, IsDeltaOf};
 ghost use Rattle.journal.specs.Spelling as spelling;
 ghost use Rattle.journal.specs.BatchSpelling as batches;
 
@@ -9,9 +9,10 @@ mod operations;
 mod pairs;
 mod values;
 
+use delta::Delta;
 pub use operations::write_delta;
 pub(super) use pairs::put_text16;
-use revision::{Name, Taken};
+use revision::{Name, Step, Taken};
 use std::alloc::{AllocError, Global};
 
 /// How many bytes a batch takes in the journal, 2^64 - 1 where it would be more. It takes no memory.
@@ -58,14 +59,40 @@ fn put_entry(out: &mut Vec<u8>, taken: &Taken) -> Result<(), AllocError>
     ensures spelled { OnOk result (out.new.items ≡ out.old.items ++ batches.entry taken.now) }
     ensures taken { OnOk result (IsTaken taken.now) }
 {
-    out.push(if taken.name().is_some() { 1 } else { 2 })?;
+    out.push(tag(taken.name(), taken.step()))?;
     put_number32(out, taken.document_number())?;
     put_number64(out, taken.revision())?;
     put_name(out, taken.source())?;
     put_number64(out, taken.number())?;
     put_created_name(out, taken.name())?;
-    write_delta(out, taken.delta())?;
+    put_step_delta(out, taken.step(), taken.delta())?;
     Ok(())
+}
+
+fn tag(name: Option<&Name>, step: Step) -> u8
+    ensures { result ≡ batches.entry_tag (option_map (λ n. n.now) name.entry) step }
+{
+    match name {
+        Some(_) => 1,
+        None => match step {
+            Step::Edits => 2,
+            Step::Deletes => 3,
+            Step::Revives => 4,
+        },
+    }
+}
+
+// the delta, which a deletion doesn't have
+#[tactic(auto, unfolding(crate::specs::BatchSpelling::step_delta))]
+fn put_step_delta(out: &mut Vec<u8>, step: Step, delta: &Delta) -> Result<(), AllocError>
+    requires { IsDeltaOf step delta.now }
+    ensures { OnOk result (out.new.items ≡ out.old.items ++ batches.step_delta step delta.now) }
+{
+    match step {
+        Step::Edits => write_delta(out, delta),
+        Step::Deletes => Ok(()),
+        Step::Revives => write_delta(out, delta),
+    }
 }
 
 #[tactic(auto, unfolding(crate::specs::BatchSpelling::created_name))]

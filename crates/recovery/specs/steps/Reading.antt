@@ -2,7 +2,7 @@
 use Rattle.std.specs.Prelude.{◌≡◌, ◌⊎◌, ℕ, ◌&&◌, nat_lt, Bool, true, false, Option, List, Vec, [], ◌∷◌, ◌++◌, length, map, get_or, All}
 use Rattle.std.specs.List.{flat_map}
 use Rattle.std.specs.declared.alloc.Global.{Global}
-use Rattle.revision.specs.Command.{Taken}
+use Rattle.revision.specs.Command.{Taken, edits}
 use Rattle.revision.specs.State.{State, all_grow, fold}
 use Rattle.journal.specs.BatchSpelling.{IsBatch, batch}
 use Rattle.history.specs.Entries.{of_document}
@@ -53,6 +53,15 @@ lists_of vectors = map (λ v. v.items) vectors
 abbrev pub are_below : ℕ → List Taken → Bool
 are_below docs [] = true
 are_below docs (first ∷ others) = nat_lt first.document docs && are_below docs others
+
+-- all of these edit, and all in these vectors do
+abbrev pub all_edit : List Taken → Bool
+all_edit [] = true
+all_edit (first ∷ others) = edits first.step && all_edit others
+
+abbrev pub all_lists_edit : List (Vec Taken Global) → Bool
+all_lists_edit [] = true
+all_lists_edit (first ∷ others) = all_edit first.items && all_lists_edit others
 
 -- the entries by their documents: at each number stand those of its document, in order
 abbrev pub AreByDocument : List Taken → List (List Taken) → Type 0

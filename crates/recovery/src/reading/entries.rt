@@ -1,21 +1,22 @@
 //! The entries of the slots, gathered by their documents, and marked by their segments.
-ghost use Rattle.std.specs.Prelude.{◌≡◌, ◌⊎◌, ◌≤◌, ◌<◌, ℕ, List, Option, [], ◌∷◌, ◌++◌, length, map, set, get_or, false, true, OnOk, IfOk, IfErr, IsOkUnless};
-ghost use Rattle.revision.specs.Command.{Taken as TakenValue};
+ghost use Rattle.std.specs.Prelude.{◌≡◌, ◌↔◌, ◌⊎◌, ◌≤◌, ◌<◌, ℕ, List, Option, [], ◌∷◌, ◌++◌, length, map, set, get_or, false, true, IsTrue, OnOk, IfOk, IfErr, IsOkUnless};
+ghost use Rattle.revision.specs.Command.{Taken as TakenValue, edits as spec_edits};
 ghost use Rattle.journal.specs.Scan.{items_of};
 ghost use Rattle.segments.specs.Slot.{Segment};
 ghost use Rattle.segments.specs.Numbers.{NumbersDiffer};
 ghost use Rattle.segments.specs.Table.{numbers_of};
 ghost use Rattle.segments.specs.Order.{segments_of};
 ghost use Rattle.segments.specs.Recovered.{segment_in};
-ghost use Rattle.recovery.specs.Found.{SpellBatches, commands_of};
+ghost use Rattle.recovery.specs.Found.{SpellBatches, AreEntriesIn, commands_of};
 ghost use Rattle.recovery.specs.Marks.{IsNoted, marks_of};
 ghost use Rattle.recovery.specs.Marked.{AreMarked, AreBodiesMarked};
-ghost use Rattle.recovery.specs.steps.Reading.{lists_of, are_below, AreByDocument, SpellGroups, commands_in, AreAdded};
+ghost use Rattle.recovery.specs.steps.Reading.{lists_of, are_below, all_edit as spec_all_edit, all_lists_edit, AreByDocument, SpellGroups, commands_in, AreAdded};
 
 use crate::marks::Marks;
 use journal::decode_batch;
+use milestone::Format;
 use refusal::Refusal;
-use revision::Taken;
+use revision::{Step, Taken};
 use segments::RecoveredSegment;
 use std::alloc::Global;
 
@@ -56,6 +57,49 @@ pub(super) fn gather(
         )?;
     }
     Ok(Gathered { lists, marks })
+}
+
+/// Whether a format has all these entries: the first one has neither deletions nor creations of deleted documents.
+pub(super) fn are_entries_in(format: Format, lists: &[Vec<Taken>]) -> bool
+    ensures { (entries : List TakenValue) → AreByDocument entries (lists_of lists.now)
+        → (IsTrue result ↔ AreEntriesIn format entries) }
+{
+    match format {
+        Format::One => lists_edit(lists),
+        Format::Two => true,
+    }
+}
+
+fn lists_edit(lists: &[Vec<Taken>]) -> bool
+    ensures { result ≡ all_lists_edit lists.now }
+{
+    for list in lists {
+        if !all_edit(list) {
+            return false;
+        }
+    }
+    true
+}
+
+fn all_edit(entries: &[Taken]) -> bool
+    ensures { result ≡ spec_all_edit entries.now }
+{
+    for taken in entries {
+        if !edits(taken.step()) {
+            return false;
+        }
+    }
+    true
+}
+
+fn edits(step: Step) -> bool
+    ensures { result ≡ spec_edits step }
+{
+    match step {
+        Step::Edits => true,
+        Step::Deletes => false,
+        Step::Revives => false,
+    }
 }
 
 // So many lists without a command.

@@ -82,9 +82,10 @@ fn enter(
         name,
         revision,
         document,
+        live,
         sources,
     } = milestone.into_parts();
-    match state.adopt(alloc, name, document, revision, sources) {
+    match state.adopt(alloc, name, document, live, revision, sources) {
         Ok(()) => Ok(behind(revision, entries)),
         Err(Refusal::Stranger) => Err(Refusal::Damaged),
         Err(refusal) => Err(refusal),

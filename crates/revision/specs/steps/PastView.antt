@@ -12,4 +12,5 @@ parts_of p = record {
   deltas = p.deltas.items;
   count = p.count;
   kept = p.kept.items;
+  live = p.live;
 }

@@ -262,6 +262,77 @@ const STRANGERS: [Said; 3] = [
     },
 ];
 
+/// A document is deleted and created again: what others ask of it then, and whose numbers are retries.
+const DELETED: [Said; 4] = [
+    Said {
+        source: "ann",
+        lines: r#"{"do":"create","doc":"d","n":1,"ops":[{"insert":"z"}]}
+{"base":1,"do":"edit","doc":"d","n":2,"ops":[{"retain":1},{"insert":"x"}]}
+{"do":"delete","doc":"d","n":3}
+{"do":"fetch","doc":"d"}
+{"do":"fetch","doc":"d","rev":9}
+{"do":"since","doc":"d","rev":3}
+{"do":"subscribe","doc":"d","rev":3}
+{"do":"delete","doc":"e","n":1}
+{"do":"delete","doc":"d","n":4,"ops":[]}
+"#,
+        replies: r#"{"doc":"d","n":1,"ok":"taken","rev":1}
+{"doc":"d","n":2,"ok":"taken","rev":2}
+{"doc":"d","n":3,"ok":"taken","rev":3}
+{"code":40,"error":"Deleted"}
+{"code":40,"error":"Deleted"}
+{"code":40,"error":"Deleted"}
+{"code":40,"error":"Deleted"}
+{"code":6,"error":"NoDocument"}
+{"code":2,"error":"BadMessage"}
+"#,
+        dump: "d 3 3 deleted\n",
+    },
+    Said {
+        source: "bob",
+        lines: r#"{"base":2,"do":"edit","doc":"d","n":1,"ops":[{"insert":"y"}]}
+{"do":"undo","doc":"d","n":1}
+{"do":"delete","doc":"d","n":1}
+"#,
+        replies: r#"{"code":40,"error":"Deleted"}
+{"code":40,"error":"Deleted"}
+{"code":40,"error":"Deleted"}
+"#,
+        dump: "d 3 3 deleted\n",
+    },
+    Said {
+        source: "ann",
+        lines: r#"{"do":"create","doc":"d","n":4,"ops":[{"insert":"n"}]}
+{"do":"delete","doc":"d","n":3}
+{"do":"create","doc":"d","n":1,"ops":[]}
+{"do":"undo","doc":"d","n":5}
+{"do":"create","doc":"d","n":5,"ops":[]}
+{"do":"fetch","doc":"d","rev":2}
+"#,
+        replies: r#"{"doc":"d","n":4,"ok":"taken","rev":4}
+{"doc":"d","n":3,"ok":"again","rev":3}
+{"doc":"d","n":1,"ok":"again","rev":1}
+{"code":13,"error":"TooOld"}
+{"code":7,"error":"Exists"}
+{"code":13,"error":"TooOld"}
+"#,
+        dump: r#"d 4 4 {"ops":[{"insert":"n"}]}
+"#,
+    },
+    Said {
+        source: "bob",
+        lines: r#"{"base":2,"do":"edit","doc":"d","n":1,"ops":[{"insert":"y"}]}
+{"base":4,"do":"edit","doc":"d","n":1,"ops":[{"insert":"y"}]}
+{"do":"delete","doc":"d","n":2}
+"#,
+        replies: r#"{"code":13,"error":"TooOld"}
+{"doc":"d","n":1,"ok":"taken","rev":5}
+{"doc":"d","n":2,"ok":"taken","rev":6}
+"#,
+        dump: "d 6 6 deleted\n",
+    },
+];
+
 /// An entry of 238 bytes is too wide; one of 237 fills the second slot, and the next one finds the journal full.
 pub const FULL_LINES: &str = r#"{"do":"create","doc":"d","n":1,"ops":[{"insert":"z"}]}
 {"base":1,"do":"edit","doc":"d","n":2,"ops":[{"attributes":{"n000000001":null,"n000000002":null,"n000000003":null,"n000000004":null,"n000000005":null,"n000000006":null,"n000000007":null,"n000000008":null,"n000000009":null,"n000000010":null,"n000000011":null,"n000000012":null,"n000000013":null,"n000000014":null,"n00000000150":null},"retain":1}]}
@@ -405,6 +476,12 @@ fn two_revisions_are_kept(rt: HostRuntime) {
 fn a_source_undoes_its_own(rt: HostRuntime) {
     let path = path(&rt, "undone").expect(&rt, "a path");
     talk(&rt, path.as_str(), "4096", "4", &UNDONE);
+}
+
+#[test]
+fn a_document_is_deleted_and_created_again(rt: HostRuntime) {
+    let path = path(&rt, "deleted").expect(&rt, "a path");
+    talk(&rt, path.as_str(), "4096", "4", &DELETED);
 }
 
 #[test]

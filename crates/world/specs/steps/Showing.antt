@@ -1,22 +1,22 @@
 -- What a state shows as commands are taken, by what it shows alone.
-use Rattle.std.specs.Prelude.{ℕ, zero, suc, ◌+◌, List, [], ◌∷◌, Option, Some, None, slice_get}
+use Rattle.std.specs.Prelude.{ℕ, zero, suc, ◌+◌, true, List, [], ◌∷◌, Option, Some, None, slice_get}
 use Rattle.attributes.specs.Map.{empty}
-use Rattle.delta.specs.Gaps.{counted, apply}
 use Rattle.revision.specs.Command.{Taken}
+use Rattle.revision.specs.Past.{content_after}
 use Rattle.revision.specs.Sources.{with_taken}
 use Rattle.world.specs.Shown.{Shown}
 
 -- a document after one command more
 abbrev pub next_shown : Taken → Shown → Shown
 next_shown taken found = record found {
-  units = apply found.units (counted taken.delta);
+  content = content_after found.content taken.step taken.delta;
   revision = found.revision + 1;
   sources = with_taken taken.source taken.number (found.revision + 1) found.sources;
 }
 
 -- a document that nothing was taken of yet
 abbrev pub blank : List ℕ → Shown
-blank name = record { name = name; units = []; revision = 0; sources = empty }
+blank name = record { name = name; content = record { units = []; live = true }; revision = 0; sources = empty }
 
 -- the document of a command's number after it, which a command that has a name makes where there is none
 abbrev pub shown_by_name : Option Shown → Taken → Option (List ℕ) → Option Shown

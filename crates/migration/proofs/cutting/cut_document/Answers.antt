@@ -1,6 +1,7 @@
-use Rattle.std.proofs.Common.{◌≡◌, inl, inr, true, Err, map, sym, ◌∙◌, ap, subst}
+use Rattle.std.proofs.Common.{◌≡◌, inl, inr, true, Err, map, sym, ◌∙◌, ap, subst, arith}
 use Rattle.std.proofs.lemmas.Result.{err_from_is_err_and}
 use Rattle.revision.specs.Sources.{Sources, cut}
+use Rattle.revision.specs.Past.{Content, is_content, newest, content_at}
 use Rattle.revision.specs.Pending.{record_of}
 use Rattle.revision.specs.State.{are_sources}
 use Rattle.history.specs.Cell.{Cell}
@@ -24,3 +25,13 @@ returns-in_err-content-2-clause-only c =
       | inl much ↦ absurd (light_enough c.requires.0 (record_of c.args.document.now).past c.new-cut.result.content.units c.requires.1 c.requires.2 units (heavy (ap (λ e. Err e) much)))
       | inr none ↦ p.2 ∙ none
     ])
+
+-- it is there, as it is in the document
+pub new-cut-requires-clause-content : goal.new-cut-requires-clause-content
+new-cut-requires-clause-content c =
+    let past = (record_of c.args.document.now).past in
+    let at = c.requires.1.each (newest past) (omega arith) (omega arith) in
+    let units : c.in_ok-content.content ≡ (content_at past (newest past)).units = c.in_ok-content.ensures.same ∙ c.document.ensures in
+    let same : ◌≡◌ {A = Content} (record { units = c.in_ok-content.content; live = c.is_live.result }) (content_at past (newest past)) =
+    λ i. record { units = units i; live = c.is_live.ensures i } in
+    subst (λ (k : Content). is_content k ≡ true) (sym same) at.content

@@ -10,7 +10,7 @@ use Rattle.segments.specs.Recovered.{segment_in}
 use Rattle.segments.specs.Ring.{Fits}
 use Rattle.recovery.specs.Layout.{HoldsCellsIn, HoldsSlots}
 use Rattle.recovery.specs.Cells.{FitEachIn}
-use Rattle.recovery.specs.Found.{limits_in}
+use Rattle.recovery.specs.Found.{AreEntriesIn, limits_in}
 use Rattle.recovery.specs.steps.Reading.{lists_of, are_below, AreByDocument, SpellGroups, commands_in}
 use Rattle.recovery.proofs.Layouts.{slots_of}
 use Rattle.recovery.proofs.Parts.{all_in, spell-all, commands-all, in-groups, not-slots, groups-same, gathered}
@@ -41,6 +41,25 @@ returns-in_err-lists-clause-damaged g c =
     let there = in-groups c.args.format content shape c.args.pick read.table found names (slots_of content shape ring read.table c.in_ok-ring.ensures.place fits) holds in
     both_ways (are_below shape.docs (commands_in there.groups))
     (c.in_err-lists.ensures.damaged (sym p.2 ∙ is) there.groups (subst (λ (s : List Segment). SpellGroups s there.groups) (sym segments) there.spell)) there.below)
+
+pub returns-then-not-are_entries_in-clause-damaged : goal.returns-then-not-are_entries_in-clause-damaged
+returns-then-not-are_entries_in-clause-damaged g c =
+    let content = g.D.Disk.seen c.args.disk.now in
+    let shape = c.in_ok-shape.shape in
+    let ring = c.in_ok-ring.field-0.ring in
+    let lists = lists_of c.in_ok-lists.field-0.lists.items in
+    let before : g.D.Disk.seen c.read_shape.new.disk ≡ content = ap (λ (h : History). h.now.seen) c.read_shape.ensures.only_read.history in
+    λ is honest found holds.
+    let names = c.in_ok-shape.ensures.named (c.read_slots.ensures.only_read.honest honest) in
+    let read = c.in_ok-ring.ensures.found honest in
+    let fits : Fits content ring read.table = subst (λ (l : List ℕ). Fits l ring read.table) before read.fits in
+    let segments : map segment_in c.deref.result.now ≡ segments_of read.table = ap (map segment_in) c.deref.ensures.value ∙ read.segments in
+    let there = in-groups c.args.format content shape c.args.pick read.table found names (slots_of content shape ring read.table c.in_ok-ring.ensures.place fits) holds in
+    let own = gathered (map segment_in c.deref.result.now) lists c.in_ok-lists.ensures.found in
+    let commands = groups-same read.table own.groups there.groups (subst (λ (s : List Segment). SpellGroups s own.groups) segments own.spell) there.spell in
+    both_ways c.are_entries_in.result c.if-not-are_entries_in.true
+    ((c.are_entries_in.ensures (commands_in there.groups)
+    (subst (AreByDocument (commands_in there.groups)) (sym (ap lists_of c.as_slice.ensures.value)) (subst (λ (e : List Taken). AreByDocument e lists) commands own.by))).1 there.entries)
 
 pub returns-in_err-state-clause-damaged : goal.returns-in_err-state-clause-damaged
 returns-in_err-state-clause-damaged g c =
@@ -90,6 +109,8 @@ returns-clause-read g c honest =
           in_slots = slots_of content shape ring read.table c.in_ok-ring.ensures.place fits;
         };
         spell = spell-all read.table own.groups (subst (λ (s : List Segment). SpellGroups s own.groups) segments own.spell);
+        entries = subst (AreEntriesIn c.args.format) (sym (commands-all own.groups))
+            ((c.are_entries_in.ensures (commands_in own.groups) (subst (AreByDocument (commands_in own.groups)) (sym (ap lists_of c.as_slice.ensures.value)) own.by)).0 c.if-not-are_entries_in.false);
       };
       fits = fits;
       place = c.in_ok-ring.ensures.place;

@@ -2,7 +2,7 @@ use Rattle.std.proofs.Common.{◌<◌, length, map, ap, ◌∙◌, arith}
 use Rattle.revision.specs.steps.ChangedAt.{changed_at}
 use Rattle.revision.specs.Pending.{with_prepared}
 use Rattle.revision.specs.steps.Preparing.{with_next}
-use Rattle.revision.specs.State.{change_of}
+use Rattle.revision.specs.State.{next_of}
 use Rattle.revision.proofs.ChangedAt.{set-changed}
 use Rattle.revision.proofs.OneMore.{continued-within, same_length}
 use Rattle.revision.proofs.documents.change.Goals as goal
@@ -13,6 +13,6 @@ returns-clause-ok c =
     let keep = c.args.limits.keep in
     let within = continued-within c.args.limits (map (with_prepared keep) documents) c.args.taken.document c.args.taken c.requires.continues in
     let inside : c.document_number-number.result < length documents = omega (arith, within, same_length keep documents, c.document_number-number.ensures) in
-    set-changed (with_next (change_of c.args.taken)) documents c.document_number-number.result c.index_mut.result.now _
+    set-changed (with_next (next_of c.args.taken)) documents c.document_number-number.result c.index_mut.result.now _
     inside c.index_mut.ensures.value c.in_ok-prepare_next.ensures.ok
-    ∙ ap (λ i. changed_at (with_next (change_of c.args.taken)) i documents) c.document_number-number.ensures
+    ∙ ap (λ i. changed_at (with_next (next_of c.args.taken)) i documents) c.document_number-number.ensures

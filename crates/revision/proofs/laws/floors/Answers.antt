@@ -1,4 +1,4 @@
-use Rattle.revision.proofs.Changing.{from_itself, from_twice, from_newest, from_longer, change_makes}
+use Rattle.revision.proofs.Changing.{from_itself, from_twice, from_newest, from_longer, step_makes}
 use Rattle.revision.proofs.laws.floors.Goals as goal
 
 pub returns-clause-itself : goal.returns-clause-itself
@@ -13,5 +13,5 @@ returns-clause-newest c = from_newest
 pub returns-clause-longer : goal.returns-clause-longer
 returns-clause-longer c = from_longer
 
-pub returns-clause-change : goal.returns-clause-change
-returns-clause-change c = change_makes
+pub returns-clause-step : goal.returns-clause-step
+returns-clause-step c = step_makes

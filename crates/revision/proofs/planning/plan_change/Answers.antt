@@ -1,5 +1,6 @@
 use Rattle.std.proofs.Common.{◌≡◌, ◌==◌, inr, false, sym, ap, ◌∙◌}
 use Rattle.std.proofs.lemmas.Bool.{ne_eqb}
+use Rattle.revision.specs.Command.{Edits}
 use Rattle.revision.specs.Acceptance.{Takes, Refuses, next_revision}
 use Rattle.revision.specs.Pending.{record_of}
 use Rattle.revision.specs.Planned.{takes_command}
@@ -9,43 +10,43 @@ use Rattle.revision.proofs.planning.plan_change.Goals as goal
 
 pub returns-in-Err-clause-due : goal.returns-in-Err-clause-due
 returns-in-Err-clause-due c =
-    let asked = next_revision c.args.number (record_of c.args.found.now) c.args.command.now c.args.delta in
+    let asked = next_revision c.args.number (record_of c.args.found.now) c.args.command.now Edits c.args.delta in
     let fresh : (revision_of (record_of c.args.found.now) == last_of_all) ≡ false = ne_eqb _ _ c.requires.unspent in
     inr (change_answers c.args.state.now c.args.command.now c.args.delta c.limits-limits.result c.document.result.now c.sources.result.now c.limits-limits.ensures.limits
     c.args.number (record_of c.args.found.now) c.document.ensures c.sources.ensures (Refuses c.in-Err.refusal) fresh
     (c.in-Err.ensures.err asked
-    (asked_next c.args.number (record_of c.args.found.now) c.args.command.now c.args.delta c.source-source.result.now c.edit_width-width.result c.source-source.ensures.source c.edit_width-width.ensures.width)))
+    (asked_next c.args.number (record_of c.args.found.now) c.args.command.now c.document.result.now c.args.delta c.source-source.result.now c.edit_width-width.result c.source-source.ensures.source c.edit_width-width.ensures.width)))
 
 pub returns-clause-due : goal.returns-clause-due
 returns-clause-due c =
-    let asked = next_revision c.args.number (record_of c.args.found.now) c.args.command.now c.args.delta in
+    let asked = next_revision c.args.number (record_of c.args.found.now) c.args.command.now Edits c.args.delta in
     let fresh : (revision_of (record_of c.args.found.now) == last_of_all) ≡ false = ne_eqb _ _ c.requires.unspent in
     let same : asked ≡ c.edit.result =
-    ap (next_revision c.args.number (record_of c.args.found.now) c.args.command.now) (sym c.in_ok-delta.ensures.same)
-    ∙ same_next c.args.number (record_of c.args.found.now) c.args.command.now c.in_ok-delta.delta c.revision-revision.result c.number.result c.in_ok-source.source c.edit.result c.edit.ensures
+    ap (next_revision c.args.number (record_of c.args.found.now) c.args.command.now Edits) (sym c.in_ok-delta.ensures.same)
+    ∙ same_next c.args.number (record_of c.args.found.now) c.args.command.now Edits c.in_ok-delta.delta c.revision-revision.result c.number.result c.in_ok-source.source c.edit.result c.edit.ensures
     c.revision-revision.ensures.revision (c.in_ok-source.ensures.ok ∙ c.source-source.ensures.source) c.number.ensures.number in
     change_answers c.args.state.now c.args.command.now c.args.delta c.limits-limits.result c.document.result.now c.sources.result.now c.limits-limits.ensures.limits
     c.args.number (record_of c.args.found.now) c.document.ensures c.sources.ensures (Takes asked) fresh
     (c.in_default.ensures.ok asked
-    (asked_next c.args.number (record_of c.args.found.now) c.args.command.now c.args.delta c.source-source.result.now c.edit_width-width.result c.source-source.ensures.source c.edit_width-width.ensures.width))
+    (asked_next c.args.number (record_of c.args.found.now) c.args.command.now c.document.result.now c.args.delta c.source-source.result.now c.edit_width-width.result c.source-source.ensures.source c.edit_width-width.ensures.width))
     ∙ ap Takes same
 
 pub returns-in_err-source-clause-memory : goal.returns-in_err-source-clause-memory
 returns-in_err-source-clause-memory c =
-    let asked = next_revision c.args.number (record_of c.args.found.now) c.args.command.now c.args.delta in
+    let asked = next_revision c.args.number (record_of c.args.found.now) c.args.command.now Edits c.args.delta in
     let fresh : (revision_of (record_of c.args.found.now) == last_of_all) ≡ false = ne_eqb _ _ c.requires.unspent in
     λ _.
     ap takes_command (change_answers c.args.state.now c.args.command.now c.args.delta c.limits-limits.result c.document.result.now c.sources.result.now c.limits-limits.ensures.limits
     c.args.number (record_of c.args.found.now) c.document.ensures c.sources.ensures (Takes asked) fresh
     (c.in_default.ensures.ok asked
-    (asked_next c.args.number (record_of c.args.found.now) c.args.command.now c.args.delta c.source-source.result.now c.edit_width-width.result c.source-source.ensures.source c.edit_width-width.ensures.width)))
+    (asked_next c.args.number (record_of c.args.found.now) c.args.command.now c.document.result.now c.args.delta c.source-source.result.now c.edit_width-width.result c.source-source.ensures.source c.edit_width-width.ensures.width)))
 
 pub returns-in_err-delta-clause-memory : goal.returns-in_err-delta-clause-memory
 returns-in_err-delta-clause-memory c =
-    let asked = next_revision c.args.number (record_of c.args.found.now) c.args.command.now c.args.delta in
+    let asked = next_revision c.args.number (record_of c.args.found.now) c.args.command.now Edits c.args.delta in
     let fresh : (revision_of (record_of c.args.found.now) == last_of_all) ≡ false = ne_eqb _ _ c.requires.unspent in
     λ _.
     ap takes_command (change_answers c.args.state.now c.args.command.now c.args.delta c.limits-limits.result c.document.result.now c.sources.result.now c.limits-limits.ensures.limits
     c.args.number (record_of c.args.found.now) c.document.ensures c.sources.ensures (Takes asked) fresh
     (c.in_default.ensures.ok asked
-    (asked_next c.args.number (record_of c.args.found.now) c.args.command.now c.args.delta c.source-source.result.now c.edit_width-width.result c.source-source.ensures.source c.edit_width-width.ensures.width)))
+    (asked_next c.args.number (record_of c.args.found.now) c.args.command.now c.document.result.now c.args.delta c.source-source.result.now c.edit_width-width.result c.source-source.ensures.source c.edit_width-width.ensures.width)))

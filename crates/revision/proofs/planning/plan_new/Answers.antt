@@ -23,7 +23,7 @@ returns-in-Err-clause-due c =
     inr (new_answers state c.args.command.now c.args.delta.now c.limits-limits.result c.empty-document.result c.new-sources.result c.limits-limits.ensures.limits
     c.empty-document.ensures c.new-sources.ensures (Refuses c.in-Err.refusal) first room
     (c.in-Err.ensures.err asked
-    (asked_new state c.args.command.now c.args.delta.now c.name.result.now c.source-2.result.now c.creation_width-width.result c.name.ensures c.source-2.ensures.source
+    (asked_new state c.args.command.now c.empty-document.result c.args.delta.now c.name.result.now c.source-2.result.now c.creation_width-width.result c.name.ensures c.source-2.ensures.source
     (omega (arith, c.creation_width-width.ensures.width, ap length c.source.ensures.source, ap length c.source-2.ensures.source)))))
 
 pub returns-clause-due : goal.returns-clause-due
@@ -42,7 +42,7 @@ returns-clause-due c =
     new_answers state c.args.command.now c.args.delta.now c.limits-limits.result c.empty-document.result c.new-sources.result c.limits-limits.ensures.limits
     c.empty-document.ensures c.new-sources.ensures (Takes asked) first room
     (c.in_default.ensures.ok asked
-    (asked_new state c.args.command.now c.args.delta.now c.name.result.now c.source-2.result.now c.creation_width-width.result c.name.ensures c.source-2.ensures.source
+    (asked_new state c.args.command.now c.empty-document.result c.args.delta.now c.name.result.now c.source-2.result.now c.creation_width-width.result c.name.ensures c.source-2.ensures.source
     (omega (arith, c.creation_width-width.ensures.width, ap length c.source.ensures.source, ap length c.source-2.ensures.source))))
     ∙ ap Takes same
 
@@ -60,7 +60,7 @@ is_taken_now c =
     ap takes_command (new_answers state c.args.command.now c.args.delta.now c.limits-limits.result c.empty-document.result c.new-sources.result c.limits-limits.ensures.limits
     c.empty-document.ensures c.new-sources.ensures (Takes asked) first room
     (c.in_default.ensures.ok asked
-    (asked_new state c.args.command.now c.args.delta.now c.name.result.now c.source-2.result.now c.creation_width-width.result c.name.ensures c.source-2.ensures.source
+    (asked_new state c.args.command.now c.empty-document.result c.args.delta.now c.name.result.now c.source-2.result.now c.creation_width-width.result c.name.ensures c.source-2.ensures.source
     (omega (arith, c.creation_width-width.ensures.width, ap length c.source.ensures.source, ap length c.source-2.ensures.source)))))
 
 pub returns-in_err-name-clause-memory : goal.returns-in_err-name-clause-memory

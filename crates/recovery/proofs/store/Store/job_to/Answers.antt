@@ -7,7 +7,7 @@ use Rattle.revision.specs.State.{DocumentRecord}
 use Rattle.refusal.specs.declared.Refusal.{Refusal}
 use Rattle.recovery.specs.Cells.{highest_known}
 use Rattle.recovery.specs.Jobs.{no_job_of, no_job_for}
-use Rattle.recovery.proofs.HandedOut.{document_there, held_here, none≢some, same_some, on_ok, memory_alone, no_reason, lengths_here, sources_here, job_given, job_keeps}
+use Rattle.recovery.proofs.HandedOut.{document_there, held_here, none≢some, same_some, on_ok, memory_alone, no_reason, lengths_here, sources_here, content_here, job_given, job_keeps}
 use Rattle.recovery.proofs.Unwritten.{made_of}
 use Rattle.recovery.proofs.store.Store.job_to.Goals as goal
 
@@ -18,6 +18,15 @@ job_of-requires-clause-sources g c =
     let there : slice_get c.documents.result.now c.args.document ≡ Some found = slice_get_read c.documents.result.now (length c.documents.result.now) c.args.document found refl c.in-Some.ensures.lookup.3.0 c.in-Some.ensures.lookup.1 in
     let none : no_job_of (record_of found) c.highest_of.result c.args.revision ≡ None = sym c.why_none.ensures.is ∙ c.in_default-why_none.is in
     sources_here store.state c.limits.ensures.state c.args.document c.args.revision c.highest_of.result (record_of found)
+    (document_there c.documents.result.now store.state.documents c.args.document found c.documents.ensures.documents there) none
+
+pub job_of-requires-clause-content : goal.job_of-requires-clause-content
+job_of-requires-clause-content g c =
+    let store = c.args.self.now in
+    let found = c.in-Some.found.now in
+    let there : slice_get c.documents.result.now c.args.document ≡ Some found = slice_get_read c.documents.result.now (length c.documents.result.now) c.args.document found refl c.in-Some.ensures.lookup.3.0 c.in-Some.ensures.lookup.1 in
+    let none : no_job_of (record_of found) c.highest_of.result c.args.revision ≡ None = sym c.why_none.ensures.is ∙ c.in_default-why_none.is in
+    content_here store.state c.limits.ensures.state c.args.document c.args.revision c.highest_of.result (record_of found)
     (document_there c.documents.result.now store.state.documents c.args.document found c.documents.ensures.documents there) none
 
 pub job_of-requires-clause-lengths : goal.job_of-requires-clause-lengths

@@ -7,7 +7,7 @@ use Rattle.revision.specs.Documents.{PreparedState}
 use Rattle.revision.specs.steps.DocumentsView.{names_of}
 use Rattle.revision.specs.steps.Index.{number_of}
 use Rattle.revision.specs.Pending.{PendingDocument, record_of, with_prepared}
-use Rattle.revision.specs.Past.{Change, with_changes}
+use Rattle.revision.specs.Past.{Next, with_steps}
 use Rattle.revision.specs.State.{DocumentRecord, find}
 use Rattle.revision.proofs.Indexed.{index-more, none_twice-more, take_init, names_length, none_from_test, number-found}
 use Rattle.revision.proofs.Untouched.{rest-one}
@@ -71,6 +71,6 @@ returns-clause-ok c =
     (ap (λ ds. map record_of (take c.self.inside.count ds)) (made c) ∙ ap (map record_of) (take_init c.self.inside.count documents _ c.self.invariant.held))
     (ap (map (with_prepared c.self.inside.limits.keep)) (made c)
     ∙ map-append (with_prepared c.self.inside.limits.keep) documents (new ∷ [])
-    ∙ ap (λ (next : List Change). map (with_prepared c.self.inside.limits.keep) documents ++ record { name = new.name; past = with_changes c.self.inside.limits.keep new.past.past next } ∷ [])
+    ∙ ap (λ (next : List Next). map (with_prepared c.self.inside.limits.keep) documents ++ record { name = new.name; past = with_steps c.self.inside.limits.keep new.past.past next } ∷ [])
     c.requires.still)
     ∙ ap (λ (p : PreparedState). record { before = p.before; after = record { limits = p.after.limits; documents = p.after.documents ++ record_of new ∷ [] } }) c.self.view_is

@@ -6,7 +6,7 @@ use Rattle.revision.specs.steps.DocumentsView.{names_of}
 use Rattle.revision.specs.steps.Index.{number_of}
 use Rattle.revision.specs.Pending.{PendingDocument, record_of, with_prepared}
 use Rattle.revision.specs.steps.Preparing.{with_next}
-use Rattle.revision.specs.State.{DocumentRecord, change_of, record_by_name, set_document, grown}
+use Rattle.revision.specs.State.{DocumentRecord, next_of, record_by_name, set_document, grown}
 use Rattle.revision.proofs.ChangedAt.{map-changed_at, length-changed_at, among-last}
 use Rattle.revision.proofs.Untouched.{rest-touch, rest-changed}
 use Rattle.revision.proofs.OneMore.{changed_by, record_of-changed}
@@ -36,7 +36,7 @@ invariant_of-self-in_err-change c =
 
 pub invariant_of-self-2 : goal.invariant_of-self-2
 invariant_of-self-2 c =
-    let f = with_next (change_of c.args.taken) in
+    let f = with_next (next_of c.args.taken) in
     let made = c.in_ok-change.ensures.ok in
     let i = c.args.taken.document in
     let documents = c.self.inside.documents.items in
@@ -57,7 +57,7 @@ invariant_of-self-2 c =
 
 pub returns-clause-ok : goal.returns-clause-ok
 returns-clause-ok c =
-    let f = with_next (change_of c.args.taken) in
+    let f = with_next (next_of c.args.taken) in
     let made = c.in_ok-change.ensures.ok in
     let i = c.args.taken.document in
     let documents = c.self.inside.documents.items in

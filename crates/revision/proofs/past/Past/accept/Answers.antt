@@ -1,50 +1,56 @@
-use Rattle.std.proofs.Common.{[], ◌≡◌, ℕ, ◌+◌, ◌-◌, max, length, sym, ap, subst, ◌∙◌, arith}
-use Rattle.revision.specs.Past.{Parts, Prepared, AreParts, seen, with_changes}
+use Rattle.std.proofs.Common.{[], ◌≡◌, ℕ, ◌+◌, ◌-◌, ◌<◌, ◌^◌, max, Bool, List, length, drop, sym, ap, ap₂, subst, ◌∙◌, arith}
+use Rattle.revision.specs.declared.taker.Taker.{Taker}
+use Rattle.revision.specs.Past.{Parts, Prepared, AreParts, seen, with_steps}
 use Rattle.revision.specs.steps.PastView.{parts_of}
+use Rattle.revision.specs.steps.Turning.{steps_up_to_turn, turned_floor, live_after_takers}
 use Rattle.revision.proofs.Parts.{accept_is, accept_are, nothing_prepared}
+use Rattle.revision.proofs.FromBase.{slice-from}
+use Rattle.revision.proofs.Turning.{turns-within}
+use Rattle.std.proofs.lemmas.List.{length-drop}
 use Rattle.revision.proofs.past.Past.accept.Goals as goal
 
 pub returns-then-self-len : goal.returns-then-self-len
 returns-then-self-len c =
     let parts : Parts = parts_of c.self.inside in
     sym c.self.view_is
-    ∙ (nothing_prepared parts c.self.invariant c.args.keep (omega (arith, c.if-self-len.true, c.len-2.ensures))
-    ∙ ap (λ (p : Prepared). record { past = with_changes c.args.keep p.past p.next; next = [] }) c.self.view_is)
+    ∙ (nothing_prepared parts c.self.invariant c.args.keep (omega (arith, c.if-self-len.true, c.len.ensures))
+    ∙ ap (λ (p : Prepared). record { past = with_steps c.args.keep p.past p.next; next = [] }) c.self.view_is)
 
-pub returns-then-least-self : goal.returns-then-least-self
-returns-then-least-self c =
+pub returns : goal.returns
+returns c =
     let parts : Parts = parts_of c.self.inside in
+    let added = slice-from parts.count c.as_slice.result.now ∙ ap (λ (l : List Taker). drop parts.count l) c.as_slice.ensures.value in
+    let turns : c.up_to_turn-turns.result ≡ steps_up_to_turn (drop parts.count parts.takers) = c.up_to_turn-turns.ensures ∙ ap steps_up_to_turn added in
+    let live : c.live_after-live.result ≡ live_after_takers parts.live (drop parts.count parts.takers) = c.live_after-live.ensures ∙ ap (live_after_takers parts.live) added in
     let all : c.len-self-inside.result ≡ length parts.deltas = omega (arith, c.len-self-inside.ensures) in
-    let floor_is : c.saturating_sub-least.result ≡ max parts.floor (parts.start + length parts.deltas - c.args.keep) =
-    omega (arith, c.saturating_sub-least.ensures, c.from.ensures, c.len.ensures, c.if-least-self.true) in
-    ap (λ (n : ℕ). seen (record parts { count = n; floor = c.saturating_sub-least.result })) all
-    ∙ (accept_is parts c.self.invariant c.args.keep c.saturating_sub-least.result (omega (arith, c.if-self-len.false, c.len-2.ensures, c.self.invariant.count)) floor_is
-    ∙ ap (λ (p : Prepared). record { past = with_changes c.args.keep p.past p.next; next = [] }) c.self.view_is)
-
-pub returns-else-least-self : goal.returns-else-least-self
-returns-else-least-self c =
-    let parts : Parts = parts_of c.self.inside in
-    let all : c.len-self-inside.result ≡ length parts.deltas = omega (arith, c.len-self-inside.ensures) in
-    let floor_is : parts.floor ≡ max parts.floor (parts.start + length parts.deltas - c.args.keep) =
-    omega (arith, c.saturating_sub-least.ensures, c.from.ensures, c.len.ensures, c.if-least-self.false) in
-    ap (λ (n : ℕ). seen (record parts { count = n })) all
-    ∙ (accept_is parts c.self.invariant c.args.keep parts.floor (omega (arith, c.if-self-len.false, c.len-2.ensures, c.self.invariant.count)) floor_is
-    ∙ ap (λ (p : Prepared). record { past = with_changes c.args.keep p.past p.next; next = [] }) c.self.view_is)
+    let turned : c.turned_floor.result ≡ turned_floor (parts.start + parts.count) parts.floor (steps_up_to_turn (drop parts.count parts.takers)) =
+    c.turned_floor.ensures ∙ ap (turned_floor (parts.start + parts.count) parts.floor) turns in
+    let floor_is : c.max-self-inside.result
+    ≡ max (turned_floor (parts.start + parts.count) parts.floor (steps_up_to_turn (drop parts.count parts.takers))) (parts.start + length parts.deltas - c.args.keep) =
+    omega (arith, c.max-self-inside.ensures, turned, c.saturating_sub-least.ensures, c.from.ensures, c.len-2.ensures) in
+    ap₂ (λ (n : ℕ) (l : Bool). seen (record parts { count = n; floor = c.max-self-inside.result; live = l })) all live
+    ∙ (accept_is parts c.self.invariant c.args.keep c.max-self-inside.result c.requires.some (omega (arith, c.if-self-len.false, c.len.ensures, c.self.invariant.count)) floor_is
+    ∙ ap (λ (p : Prepared). record { past = with_steps c.args.keep p.past p.next; next = [] }) c.self.view_is)
 
 pub invariant_of-self : goal.invariant_of-self
 invariant_of-self c =
     let parts : Parts = parts_of c.self.inside in
+    let added = slice-from parts.count c.as_slice.result.now ∙ ap (λ (l : List Taker). drop parts.count l) c.as_slice.ensures.value in
+    let turns : c.up_to_turn-turns.result ≡ steps_up_to_turn (drop parts.count parts.takers) = c.up_to_turn-turns.ensures ∙ ap steps_up_to_turn added in
+    let live : c.live_after-live.result ≡ live_after_takers parts.live (drop parts.count parts.takers) = c.live_after-live.ensures ∙ ap (live_after_takers parts.live) added in
     let all : c.len-self-inside.result ≡ length parts.deltas = omega (arith, c.len-self-inside.ensures) in
-    let floor_is : c.saturating_sub-least.result ≡ max parts.floor (parts.start + length parts.deltas - c.args.keep) =
-    omega (arith, c.saturating_sub-least.ensures, c.from.ensures, c.len.ensures, c.if-least-self.true) in
-    subst (λ (n : ℕ). AreParts (record parts { count = n; floor = c.saturating_sub-least.result })) (sym all)
-    (accept_are parts c.self.invariant c.args.keep c.saturating_sub-least.result c.requires.some c.requires.bound floor_is)
+    let turned : c.turned_floor.result ≡ turned_floor (parts.start + parts.count) parts.floor (steps_up_to_turn (drop parts.count parts.takers)) =
+    c.turned_floor.ensures ∙ ap (turned_floor (parts.start + parts.count) parts.floor) turns in
+    let floor_is : c.max-self-inside.result
+    ≡ max (turned_floor (parts.start + parts.count) parts.floor (steps_up_to_turn (drop parts.count parts.takers))) (parts.start + length parts.deltas - c.args.keep) =
+    omega (arith, c.max-self-inside.ensures, turned, c.saturating_sub-least.ensures, c.from.ensures, c.len-2.ensures) in
+    subst (λ (n : ℕ). AreParts (record parts { count = n; floor = c.max-self-inside.result; live = c.live_after-live.result })) (sym all)
+    (subst (λ (l : Bool). AreParts (record parts { count = length parts.deltas; floor = c.max-self-inside.result; live = l })) (sym live)
+    (accept_are parts c.self.invariant c.args.keep c.max-self-inside.result c.requires.some c.requires.bound floor_is))
 
-pub invariant_of-self-else-least-self : goal.invariant_of-self-else-least-self
-invariant_of-self-else-least-self c =
+pub turned_floor-requires : goal.turned_floor-requires
+turned_floor-requires c =
     let parts : Parts = parts_of c.self.inside in
-    let all : c.len-self-inside.result ≡ length parts.deltas = omega (arith, c.len-self-inside.ensures) in
-    let floor_is : parts.floor ≡ max parts.floor (parts.start + length parts.deltas - c.args.keep) =
-    omega (arith, c.saturating_sub-least.ensures, c.from.ensures, c.len.ensures, c.if-least-self.false) in
-    subst (λ (n : ℕ). AreParts (record parts { count = n })) (sym all)
-    (accept_are parts c.self.invariant c.args.keep parts.floor c.requires.some c.requires.bound floor_is)
+    let added = slice-from parts.count c.as_slice.result.now ∙ ap (λ (l : List Taker). drop parts.count l) c.as_slice.ensures.value in
+    let turns : c.up_to_turn-turns.result ≡ steps_up_to_turn (drop parts.count parts.takers) = c.up_to_turn-turns.ensures ∙ ap steps_up_to_turn added in
+    omega (arith, turns, turns-within (drop parts.count parts.takers), length-drop parts.count parts.takers, c.self.invariant.same, c.self.invariant.count, c.self.invariant.revision)

@@ -11,3 +11,13 @@ pub plan_undo-requires : goal.plan_undo-requires
 plan_undo-requires c = record {
   past = found_past c.args.self.now c.name.result.now c.in-Some-found-2.number (record_of c.in-Some-found-2.found.now) c.limits.ensures.state (sym c.in-Some-found-2.ensures);
 }
+
+pub plan_existing-requires : goal.plan_existing-requires
+plan_existing-requires c = record {
+  past = found_past c.args.self.now c.name.result.now c.in-Some.number (record_of c.in-Some.found.now) c.limits.ensures.state (sym c.in-Some.ensures);
+}
+
+pub plan_delete-requires : goal.plan_delete-requires
+plan_delete-requires c = record {
+  past = found_past c.args.self.now c.name.result.now c.in-Some-found-3.number (record_of c.in-Some-found-3.found.now) c.limits.ensures.state (sym c.in-Some-found-3.ensures);
+}
