@@ -31,7 +31,7 @@ from scripts import SCRIPTS
 SLOWEST = 1.0  # seconds of a processor
 PATIENCE = 20  # seconds, after which a run hangs
 LARGEST = 1 << 16  # bytes of a store that images are drawn from
-DOCUMENT = re.compile(rb'([A-Za-z0-9._-]{1,64}) ([0-9]+) ([0-9]+) (\{"ops":\[.*\]\})\n')
+DOCUMENT = re.compile(rb'([A-Za-z0-9._-]{1,64}) ([0-9]+) ([0-9]+) (\{"ops":\[.*\]\}|deleted)\n')
 EDGES = [0, 1, 2, 3, 4, 9, 0x7F, 0x80, 0xFF, 0xA5, 0xFFFF]
 EDGES += [(1 << 31) - 1, 1 << 31, (1 << 32) - 1, (1 << 48) + 1, (1 << 53) - 1, 1 << 53, (1 << 64) - 1]
 FILLS = [b"\x00", b"\xa5", b"\xff", b"\x3c", b"\x01"]
@@ -130,13 +130,13 @@ def wanted_of(content, pick):
 
 
 def documents_of(output):
-    """The documents of an output, which is lines of them, or None."""
+    """The documents of an output, which is lines of them, or None. One that is deleted has no operations."""
     documents = []
     for line in output.splitlines(True):
         found = DOCUMENT.fullmatch(line)
         if not found:
             return None
-        ops = json.loads(found[4])["ops"]
+        ops = None if found[4] == b"deleted" else json.loads(found[4])["ops"]
         documents.append((found[1].decode(), int(found[2]), int(found[3]), json.dumps(ops, sort_keys=True)))
     return documents
 

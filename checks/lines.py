@@ -248,7 +248,8 @@ class Lines:
     def message(self):
         doc = self.pick(DOCS) if not self.chance(12) else self.pick(("d4", "no", "d0" * 20))
         usual = "create" if doc in self.deleted else "edit"
-        do = "delete" if self.chance(100) else self.pick(("create", usual, "edit", "edit", "edit", "undo", "fetch", "fetch", "since", "subscribe", "unsubscribe", "hello"))
+        kinds = ("create", usual, "edit", "edit", "edit", "undo", "fetch", "fetch", "since", "subscribe", "unsubscribe", "hello")
+        do = "delete" if self.chance(100) else self.pick(kinds)
         rev = self.number_near(self.rev[doc])
         members = [("do", f'"{do}"')]
         if do == "hello":

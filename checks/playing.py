@@ -70,12 +70,13 @@ def migrate_store(refusal, script, there):
         agree(dumped(refusal.store, pick) == script.ends, f"by the {pick} pick it holds {dumped(refusal.store, pick)}")
 
 
+OLD = [script for script in SCRIPTS if not script.has_deletions]  # the first format has no deletions
 FILES = [
     ("format of a small store", functools.partial(format_store, options=S, there=False)),
     ("format of a file that is there", functools.partial(format_store, options=S, there=True)),
     ("format of the default shape", functools.partial(format_store, options=[], there=False)),
     *((f"dump of {script.name}", functools.partial(dump_store, script=script)) for script in SCRIPTS),
-    *((f"migration of {script.name}", functools.partial(migrate_store, script=script, there=False)) for script in SCRIPTS),
+    *((f"migration of {script.name}", functools.partial(migrate_store, script=script, there=False)) for script in OLD),
     ("migration to a file that is there", functools.partial(migrate_store, script=SCRIPTS[0], there=True)),
 ]
 SESSIONS = [

@@ -7,6 +7,7 @@ OLD_LETTERS, LETTERS = b"QDSTORE1", b"QDSTORE2"
 WINDOW = 16  # how many numbers a window has at most
 RANGES = [(2, 1_024), (256, 16_777_216), (1, 65_536), (256, 16_777_216), (1, 4_096), (1, 65_536)]  # slots, slot, docs, cell, sources, keep
 OPEN = 0xA5
+CREATION, EDIT, DELETION, REVIVAL = 1, 2, 3, 4  # kinds of entries; the last creates a deleted document again
 MOST = (1 << 53) - 1
 LONGEST = 1 << 48
 NAME_BYTES = frozenset(b"ABCDEFGHIJKLMNOPQRSTUVWXYZabcdefghijklmnopqrstuvwxyz0123456789._-")
@@ -178,7 +179,7 @@ class Document:
     """A document as it is read: from a cell, or from its creation on."""
 
     def __init__(self, name):
-        self.name, self.revision, self.floor, self.units, self.sources = name, 0, 0, [], {}
+        self.name, self.revision, self.floor, self.is_live, self.units, self.sources = name, 0, 0, True, [], {}
 
     def keep_limits(self, shape):
         must(len(self.sources) <= shape["sources"] and weight(self.units, self.sources) <= shape["cell"] - 128)
@@ -187,10 +188,15 @@ class Document:
         must(entry["revision"] == self.revision + 1)
         last, revisions = self.sources.get(entry["source"], (0, []))
         must(entry["number"] == last + 1)
-        self.units = applied(self.units, entry["delta"])
+        must(self.is_live != (entry["tag"] == REVIVAL))
+        if entry["tag"] == DELETION:
+            self.units = []
+        else:
+            self.units = applied(self.units, entry["delta"])  # nothing stands in a document that is deleted
+        self.is_live = entry["tag"] != DELETION
         self.sources[entry["source"]] = entry["number"], (revisions + [entry["revision"]])[-WINDOW:]
         self.revision = entry["revision"]
-        self.floor = max(self.floor, self.revision - shape["keep"])
+        self.floor = self.revision if entry["tag"] in (DELETION, REVIVAL) else max(self.floor, self.revision - shape["keep"])
         self.keep_limits(shape)
 
 
@@ -201,9 +207,12 @@ def cell(content, number):
     document = Document(read.name(64))
     document.revision = document.floor = read.u(8)
     must(1 <= document.revision <= MOST)
-    must(read.u(1) == 1)
+    mark = read.u(1)
+    must(mark in (0, 1))
+    document.is_live = mark == 1
     operations = delta(read)
     must(all(operation[0] == "insert" for operation in operations))
+    must(document.is_live or not operations)
     document.units = [unit for operation in operations for unit in units(operation)]
     names = []
     for _ in range(read.u(4)):
@@ -223,14 +232,14 @@ def batch(content):
     must(count)
     for _ in range(count):
         tag = read.u(1)
-        must(tag in (1, 2))
-        entry = {"document": read.u(4), "revision": read.u(8), "source": read.name(32), "number": read.u(8)}
-        entry["name"] = read.name(64) if tag == 1 else None
-        entry["delta"] = delta(read)
-        if tag == 1:
+        must(tag in (CREATION, EDIT, DELETION, REVIVAL))
+        entry = {"tag": tag, "document": read.u(4), "revision": read.u(8), "source": read.name(32), "number": read.u(8)}
+        entry["name"] = read.name(64) if tag == CREATION else None
+        entry["delta"] = None if tag == DELETION else delta(read)
+        if tag == CREATION:
             must(entry["revision"] == entry["number"] == 1)
         else:
-            must(2 <= entry["revision"] <= MOST and 1 <= entry["number"] <= MOST)
+            must((3 if tag == REVIVAL else 2) <= entry["revision"] <= MOST and 1 <= entry["number"] <= MOST)
         entries.append(entry)
     read.end()
     return entries
@@ -249,7 +258,8 @@ def records(area):
 
 
 def found(content, newer):
-    """What stands for a content by a pick: for each document its name, revision, floor and operations. Else the refusal's number."""
+    """What stands for a content by a pick: for each document its name, revision, floor and operations, None where it is deleted. Else the
+    refusal's number."""
     if len(content) < 64 or content[0] != OPEN:
         return NOT_FORMATTED
     if content[1:9] == OLD_LETTERS:
@@ -274,6 +284,7 @@ def found(content, newer):
                 cells.sort(key=lambda it: it.revision)  # of two of one revision the first cell is the older one
                 picked[number] = cells[-1 if newer else 0]
                 picked[number].keep_limits(shape)
+                must(picked[number].is_live or picked[number].revision >= 2)
 
         from_cells = {number: it.revision for number, it in picked.items()}  # entries up to these are skipped
         segments = {}
@@ -296,4 +307,5 @@ def found(content, newer):
         must(len({document.name for document in picked.values()}) == len(picked))
     except Damage:
         return DAMAGED
-    return [(it.name, it.revision, it.floor, operations_of(it.units)) for _, it in sorted(picked.items())]
+    shown = [picked[number] for number in sorted(picked)]
+    return [(it.name, it.revision, it.floor, operations_of(it.units) if it.is_live else None) for it in shown]

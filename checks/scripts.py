@@ -22,6 +22,10 @@ class Script:
         self.wanted = None  # the undisturbed play: what came of each message, and the documents after each command
         self.left = None  # the path of the store that the undisturbed play leaves
 
+    @property
+    def has_deletions(self):
+        return any(message["do"] == "delete" for _, messages in self.sessions for message in messages)
+
 
 def create(doc, *ops):
     return {"do": "create", "doc": doc, "n": 1, "ops": list(ops)}

@@ -140,6 +140,16 @@ test("what is refused for good is taken back, and told", async (t) => {
   for (const { contents } of [document, shown]) assert.deepEqual(contents.ops, newest());
 });
 
+test("a deletion ends a document that is open, and says so", async (t) => {
+  const { creator, open } = await prepared(t);
+  const document = await open();
+  const trouble = new Promise((resolve) => document.addEventListener("trouble", ({ error }) => resolve(error)));
+  await creator.delete("d");
+  document.apply([{ insert: "typed" }]);
+  assert.equal((await trouble).code, 40);
+  await assert.rejects(document.flush());
+});
+
 test("what is too long for a line, or for the journal, is sent in parts", async (t) => {
   const isWide = (message) => message.do === "edit" && JSON.stringify(message).length > 3_000;
   const { open, newest } = await prepared(t, { refuse: (message) => (isWide(message) ? { code: 17, error: "TooWide" } : undefined) });

@@ -72,6 +72,21 @@ test("over pipes, and a source that finds its number anew", needsRichd, async (t
   assert.deepEqual(store.dump(), [{ doc: "d", rev: 61, ops: [{ insert: "x".repeat(60) + "ab" }] }]);
 });
 
+test("a document is deleted and created again", needsRichd, async (t) => {
+  const address = await new Store(t).serve();
+  const [ann, bob] = [await connected(t, address, { source: "ann" }), await connected(t, address, { source: "bob" })];
+  await ann.create("d", [{ insert: "a" }]);
+  const document = await bob.open("d");
+  const trouble = new Promise((resolve) => document.addEventListener("trouble", ({ error }) => resolve(error)));
+  assert.deepEqual(await ann.delete("d"), { rev: 2 });
+  assert.equal((await trouble).name, "Deleted");
+  for (const call of [ann.fetch("d"), ann.undo("d"), bob.delete("d")]) await assert.rejects(call, { name: "Deleted", code: 40 });
+  const again = await bob.open("d", { create: [{ insert: "n" }] });
+  assert.deepEqual([again.revision, again.contents.ops], [3, [{ insert: "n" }]]);
+  await assert.rejects(ann.edit("d", [{ insert: "late" }], 1), { name: "TooOld" });
+  await assert.rejects(ann.create("d", [{ insert: "a" }]), { name: "Exists" });
+});
+
 test("many calls at once, on many documents", needsRichd, async (t) => {
   const store = new Store(t);
   const client = await connected(t, await store.serve(), { source: "ann" });

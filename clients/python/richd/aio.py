@@ -127,7 +127,8 @@ class Client(Owner):
         return Following(self, doc, rev)
 
     async def open(self, doc: str, create: Optional[Delta] = None) -> Document:
-        """A document to type into. Where it isn't there or is deleted, and `create` has inserts, it is made of them; another client may do so too."""
+        """A document to type into. Where it isn't there or is deleted, and `create` has inserts, it is made of them; another client may do
+        so too."""
         return Document(self, doc, await self._answer(lambda done: fetch_or_create(self._core, doc, create, done)))
 
     async def close(self) -> None:

@@ -112,7 +112,8 @@ class Client(Owner):
         return Following(self, doc, rev)
 
     def open(self, doc: str, create: Optional[Delta] = None) -> Document:
-        """A document to type into. Where it isn't there or is deleted, and `create` has inserts, it is made of them; another client may do so too."""
+        """A document to type into. Where it isn't there or is deleted, and `create` has inserts, it is made of them; another client may do
+        so too."""
         return Document(self, doc, self._wait(self.ahead._begin(lambda core, done: fetch_or_create(core, doc, create, done))))
 
     def close(self) -> None:

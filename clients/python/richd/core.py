@@ -64,13 +64,14 @@ class Request:
 
 
 class Command(Request):
-    """A create, an edit, an undo or a delete. It gets its number when it is sent first. One that `waits` is not answered StoreFailed: it is on
-    its way until the server tells whether it was taken."""
+    """A create, an edit, an undo or a delete. It gets its number when it is sent first. One that `waits` is not answered StoreFailed: it
+    is on its way until the server tells whether it was taken."""
 
     def __init__(self, message: Message, done: Done, waits: bool):
         super().__init__(message, done)
         self.waits = waits
-        self.is_behind = False  # since it was sent, one before it wasn't taken: then it is answered Gap, NoDocument or Exists, and is sent again
+        # Since it was sent, one before it wasn't taken: then it is answered Gap, NoDocument or Exists, and is sent again.
+        self.is_behind = False
 
 
 class Commands:

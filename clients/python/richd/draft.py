@@ -183,8 +183,9 @@ def _is_refusal(error: Optional[Exception], code: int) -> bool:
 
 
 def fetch_or_create(core: Core, doc: str, ops: Optional[Delta], done: Done) -> None:
-    """Asks for a document, which is made of these inserts where it isn't there or is deleted, and there are some. Another client may make it at the
-    same time: then the server says so before it shows the document, which a crash may yet take back. So both are tried in turn."""
+    """Asks for a document, which is made of these inserts where it isn't there or is deleted, and there are some. Another client may make
+    it at the same time: then the server says so before it shows the document, which a crash may yet take back. So both are tried in
+    turn."""
     pauses = Pauses()
     was_tried = False
 

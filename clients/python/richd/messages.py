@@ -35,8 +35,8 @@ class Unexpected(Exception):
 
 
 class Taken(NamedTuple):
-    """A create, an edit, an undo or a delete was taken, made revision `rev`, and is on the disk. `again` says that it had been taken before it
-    was sent the last time, as after a cut that took the reply along."""
+    """A create, an edit, an undo or a delete was taken, made revision `rev`, and is on the disk. `again` says that it had been taken
+    before it was sent the last time, as after a cut that took the reply along."""
 
     rev: int
     again: bool = False

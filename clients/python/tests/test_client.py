@@ -79,6 +79,25 @@ class Calls(Served):
         self.assertEqual(ann.since("d", 1), richd.Since(3, changed))
         self.assertEqual(ann.numbers(), {"d": 4})
 
+    def test_a_document_is_deleted_and_created_again(self):
+        ann, bob = self.connect("ann"), self.connect("bob")
+        ann.create("d", [{"insert": "a"}])
+        document = bob.open("d")
+        self.assertEqual(ann.delete("d"), richd.Taken(2))
+        for call in (ann.fetch, ann.undo, bob.delete):
+            with self.assertRaises(richd.Refused) as caught:
+                call("d")
+            self.assertEqual(caught.exception.name, "Deleted")
+        with self.assertRaises(richd.Refused) as caught:
+            document.apply([{"insert": "b"}])
+            document.flush()
+        self.assertEqual(caught.exception.name, "Deleted")
+        self.assertEqual(bob.open("d", create=[{"insert": "n"}]).text, "n")
+        self.assertEqual(ann.fetch("d"), richd.Contents(3, [{"insert": "n"}]))
+        with self.assertRaises(richd.Refused) as caught:
+            ann.edit("d", [{"insert": "late"}], base=1)
+        self.assertEqual(caught.exception.name, "TooOld")
+
     def test_a_refusal(self):
         with self.assertRaises(richd.Refused) as caught:
             self.connect().fetch("nothing")

@@ -526,6 +526,18 @@ class Drafts(CoreTest):
             self.draft.raise_fault()
         self.draft.raise_fault()
 
+    def test_a_deletion_ends_it(self):
+        self.draft.apply([{"insert": "a"}])
+        self.sends_edit(1, 1, {"insert": "a"})
+        self.comes({"doc": "d", "ended": 13}, self.refusal(40, "Deleted"))
+        self.sends({"do": "fetch", "doc": "d"})
+        self.comes(self.refusal(40, "Deleted"))
+        with self.assertRaises(Refused) as told:
+            self.draft.raise_fault()
+        self.assertEqual(told.exception.code, 40)
+        with self.assertRaises(Refused):
+            self.draft.apply([{"insert": "b"}])
+
     def test_where_the_store_failed_it_waits_for_the_server(self):
         self.draft.apply([{"insert": "a"}])
         self.core.to_send()

@@ -11,13 +11,14 @@ from tests.standin import StandIn
 SECONDS = 60  # that anything may take
 MINE, THEIRS = [{"insert": "mine"}], [{"insert": "theirs"}]
 NO_DOCUMENT, EXISTS = {"code": 6, "error": "NoDocument"}, {"code": 7, "error": "Exists"}
+DELETED = {"code": 40, "error": "Deleted"}
 
 
 class Documents:
     """Documents of a server. One that another client has just made is there, but is shown only after so many fetches."""
 
-    def __init__(self, hidden=0, made=None):
-        self.hidden, self.ops = hidden, made
+    def __init__(self, hidden=0, made=None, missing=NO_DOCUMENT):
+        self.hidden, self.ops, self.missing = hidden, made, missing
         self.lock = threading.Lock()
 
     def __call__(self, message):
@@ -34,7 +35,7 @@ class Documents:
         if message["do"] == "fetch":
             if self.ops is None or self.hidden > 0:
                 self.hidden -= 1
-                return NO_DOCUMENT
+                return self.missing
             return {"doc": doc, "ok": "doc", "ops": self.ops, "rev": 1}
         if message["do"] == "subscribe":
             return {"doc": doc, "ok": "subscribed", "rev": message["rev"]}
@@ -73,6 +74,14 @@ class Opening(unittest.TestCase):
     def test_it_is_made_where_it_isnt_there(self):
         for contents, asked in self.opened(Documents, MINE):
             self.assertEqual((contents, asked), (MINE, ["fetch", "create", "fetch"]))
+
+    def test_it_is_made_where_it_is_deleted(self):
+        for contents, asked in self.opened(lambda: Documents(missing=DELETED), MINE):
+            self.assertEqual((contents, asked), (MINE, ["fetch", "create", "fetch"]))
+
+    def test_one_that_another_has_just_made_again_is_waited_for(self):
+        for contents, asked in self.opened(lambda: Documents(hidden=3, made=THEIRS, missing=DELETED), MINE):
+            self.assertEqual((contents, asked), (THEIRS, ["fetch", *["create", "fetch"] * 3]))
 
     def test_one_that_is_there_isnt_made(self):
         for contents, asked in self.opened(lambda: Documents(made=THEIRS), MINE):

@@ -15,7 +15,8 @@ pub const PICKS: [Pick; 2] = [Pick::Newer, Pick::Older];
 /// What differs, and by which pick.
 pub type Differs = (Pick, &'static str);
 
-// A document as its name, its revision and its operations, or that it is deleted, and the window of the source "a": its last number, and the revisions.
+// A document as its name, its revision and its operations, or that it is deleted, and the window of the source "a": its last number, and the
+// revisions.
 fn line_of(alloc: Global, record: &DocState) -> Result<String, Refusal> {
     let name = record.name().as_str();
     let revision = record.revision();

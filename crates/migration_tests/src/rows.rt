@@ -66,6 +66,32 @@ const DELETION: [u8; 34] = [
     0,
 ];
 
+/// The same of the document e, whose cell is at a later revision, so that the entry would be skipped.
+const SKIPPED_DELETION: [u8; 34] = [
+    0xa5, 28, 0, 0, 0, 1, 0, 0, 0, // one entry
+    3, 1, 0, 0, 0, 3, 0, 0, 0, 0, 0, 0, 0, // a deletion, document 1, revision 3
+    1, 0, b'b', 2, 0, 0, 0, 0, 0, 0, 0, // source b, its number 2
+    0,
+];
+
+/// And its creation again.
+const SKIPPED_REVIVAL: [u8; 38] = [
+    0xa5, 32, 0, 0, 0, 1, 0, 0, 0, // one entry
+    4, 1, 0, 0, 0, 4, 0, 0, 0, 0, 0, 0, 0, // a creation again, document 1, revision 4
+    1, 0, b'b', 2, 0, 0, 0, 0, 0, 0, 0, // source b, its number 2
+    0, 0, 0, 0, // no operation
+    0,
+];
+
+/// An edit in its place is skipped.
+const SKIPPED_EDIT: [u8; 38] = [
+    0xa5, 32, 0, 0, 0, 1, 0, 0, 0, // one entry
+    2, 1, 0, 0, 0, 4, 0, 0, 0, 0, 0, 0, 0, // a change, document 1, revision 4
+    1, 0, b'b', 2, 0, 0, 0, 0, 0, 0, 0, // source b, its number 2
+    0, 0, 0, 0, // no operation
+    0,
+];
+
 // A device of these bytes is refused, and stays; the new one has seen no call.
 fn is_refused(rt: &(impl Abort + AllocGlobal), bytes: &[u8], wanted: Refusal) {
     let mut old = device_of(rt, bytes);
@@ -128,12 +154,25 @@ fn other_devices_are_refused(rt: HostRuntime) {
         &with_bytes_at(&rt, &bytes, 576 + 49, &[5]),
         Refusal::Damaged,
     );
-    // A deletion in the third record, which the first format doesn't have.
-    let deletion = with_bytes_at(&rt, &bytes, 1_088 + 119, &DELETION);
-    is_refused(&rt, &deletion, Refusal::Damaged);
     let longer = with_bytes_at(&rt, &bytes, 576, &[0xa5, 54]);
     is_refused(&rt, &longer, Refusal::Damaged);
     assert_eq!(&rt; CELL.len(), 57);
+}
+
+// The first format has no deletion and no creation again, also where it would be skipped. They stand in the third record.
+#[test]
+fn an_old_device_has_no_deletions(rt: HostRuntime) {
+    let bytes = old_bytes(&rt);
+    let deleted = with_bytes_at(&rt, &bytes, 1_088 + 119, &DELETION);
+    is_refused(&rt, &deleted, Refusal::Damaged);
+    let deleted = with_bytes_at(&rt, &bytes, 1_088 + 119, &SKIPPED_DELETION);
+    is_refused(&rt, &deleted, Refusal::Damaged);
+    let revived = with_bytes_at(&rt, &bytes, 1_088 + 119, &SKIPPED_REVIVAL);
+    is_refused(&rt, &revived, Refusal::Damaged);
+    let edited = with_bytes_at(&rt, &bytes, 1_088 + 119, &SKIPPED_EDIT);
+    let mut old = device_of(&rt, &edited);
+    let mut new = device_of(&rt, &[0; LEN]);
+    assert_eq!(&rt; migrate(rt.alloc(), &mut old, &mut new), Ok(()));
 }
 
 // Bytes of a device that isn't formatted.

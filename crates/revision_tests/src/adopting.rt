@@ -1,6 +1,6 @@
 //! Documents that are adopted at a revision, without their past.
 use crate::asking::Answer::{Again, Not, Now};
-use crate::asking::{Row, What, after, doc, roomy};
+use crate::asking::{Row, What, after, doc, empty, roomy};
 use crate::steps::{Step, delta_of};
 use document::Document;
 use refusal::Refusal;
@@ -89,4 +89,50 @@ fn a_deleted_document_is_adopted_empty(rt: HostRuntime) {
     let empty = adopt_deleted(&rt, &mut state, &[], 4, Window::of_one(2, 3));
     assert_eq!(rt; empty, Ok(()));
     after(&rt, state, ASKED_OF_DELETED);
+}
+
+/// The last revision that a document comes to.
+const LAST: u64 = (1 << 53) - 1;
+
+/// What is asked of "d", adopted at that revision.
+const ASKED_AT_THE_LAST: &[Row] = &[
+    ("ann", "d", 3, What::Delete, Not(Refusal::RevisionsSpent)),
+    ("bob", "d", 1, What::Delete, Not(Refusal::RevisionsSpent)),
+    ("bob", "d", 2, What::Delete, Not(Refusal::Gap)),
+];
+
+/// And where it is deleted there.
+const ASKED_OF_DELETED_AT_THE_LAST: &[Row] = &[
+    ("ann", "d", 3, What::Delete, Not(Refusal::Deleted)),
+    (
+        "ann",
+        "d",
+        3,
+        What::Create(&[Step::Keep(1)]),
+        Not(Refusal::RevisionsSpent),
+    ),
+];
+
+#[test]
+fn no_revision_comes_after_the_last(rt: HostRuntime) {
+    let mut state = roomy(&rt, false);
+    assert_eq!(rt; adopt(&rt, &mut state, "d", LAST), Ok(()));
+    after(&rt, state, ASKED_AT_THE_LAST);
+    let mut state = roomy(&rt, false);
+    let empty = adopt_deleted(&rt, &mut state, &[], LAST, Window::of_one(2, 3));
+    assert_eq!(rt; empty, Ok(()));
+    after(&rt, state, ASKED_OF_DELETED_AT_THE_LAST);
+}
+
+/// The entry of a deletion has 26 bytes where its source's name has three.
+#[test]
+fn a_deletion_keeps_the_width(rt: HostRuntime) {
+    let deletion = ("ann", "d", 3, What::Delete, Not(Refusal::TooWide));
+    let mut state = empty(&rt, 20_000, 25);
+    assert_eq!(rt; adopt(&rt, &mut state, "d", 4), Ok(()));
+    after(&rt, state, &[deletion]);
+    let deletion = ("ann", "d", 3, What::Delete, Now(5));
+    let mut state = empty(&rt, 20_000, 26);
+    assert_eq!(rt; adopt(&rt, &mut state, "d", 4), Ok(()));
+    after(&rt, state, &[deletion]);
 }

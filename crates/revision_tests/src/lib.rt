@@ -30,6 +30,4 @@ mod names;
 #[cfg(test)]
 mod past;
 #[cfg(test)]
-mod plain;
-#[cfg(test)]
 mod steps;

@@ -1,4 +1,5 @@
 mod deltas;
+mod drawn;
 mod edits;
 mod files;
 mod going_on;

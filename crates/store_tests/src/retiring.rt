@@ -24,8 +24,8 @@ fn device(rt: &(impl Abort + AllocGlobal), first: &[u8], second: &[u8]) -> Vec<u
     with_bytes_at(rt, &bytes, 1_344, &SLOT_1)
 }
 
-// Retires the oldest segment.
-fn retire<D: Disk>(store: &mut Store<D>) -> Result<(), Refusal> {
+/// Retires the oldest segment.
+pub fn retire<D: Disk>(store: &mut Store<D>) -> Result<(), Refusal> {
     store.retire()
 }
 

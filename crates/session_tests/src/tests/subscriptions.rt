@@ -80,6 +80,55 @@ const ENDED: [Row; 6] = [
     (Step::News, &[]),
 ];
 
+/// A deletion ends a subscription, whether it is the next revision or a later one, and one that follows the document created again begins
+/// there.
+const DELETED: [Row; 14] = [
+    (
+        Step::Say(r#"{"do":"subscribe","doc":"d","rev":2}"#),
+        &[r#"{"doc":"d","ok":"subscribed","rev":2}"#],
+    ),
+    (
+        Step::Say(r#"{"do":"delete","doc":"d","n":3}"#),
+        &[r#"{"doc":"d","n":3,"ok":"taken","rev":3}"#],
+    ),
+    (Step::News, &[r#"{"doc":"d","ended":13}"#]),
+    (
+        Step::Say(r#"{"do":"subscribe","doc":"d","rev":3}"#),
+        &[r#"{"code":40,"error":"Deleted"}"#],
+    ),
+    (
+        Step::Say(r#"{"do":"create","doc":"d","n":4,"ops":[{"insert":"n"}]}"#),
+        &[r#"{"doc":"d","n":4,"ok":"taken","rev":4}"#],
+    ),
+    (Step::News, &[]),
+    (
+        Step::Say(r#"{"do":"subscribe","doc":"d","rev":3}"#),
+        &[r#"{"code":13,"error":"TooOld"}"#],
+    ),
+    (
+        Step::Say(r#"{"do":"subscribe","doc":"d","rev":4}"#),
+        &[r#"{"doc":"d","ok":"subscribed","rev":4}"#],
+    ),
+    (
+        Step::Say(r#"{"base":4,"do":"edit","doc":"d","n":5,"ops":[{"insert":"O"}]}"#),
+        &[r#"{"doc":"d","n":5,"ok":"taken","rev":5}"#],
+    ),
+    (
+        Step::Say(r#"{"do":"delete","doc":"d","n":6}"#),
+        &[r#"{"doc":"d","n":6,"ok":"taken","rev":6}"#],
+    ),
+    (
+        Step::Say(r#"{"do":"create","doc":"d","n":7,"ops":[]}"#),
+        &[r#"{"doc":"d","n":7,"ok":"taken","rev":7}"#],
+    ),
+    (Step::News, &[r#"{"doc":"d","ended":13}"#]),
+    (
+        Step::Say(r#"{"do":"unsubscribe","doc":"d"}"#),
+        &[r#"{"doc":"d","ok":"unsubscribed"}"#],
+    ),
+    (Step::News, &[]),
+];
+
 /// Names in ascending order, a new subscription in place of the old one, none after it was taken back, and the refusals.
 const SEVERAL: [Row; 12] = [
     (
@@ -181,6 +230,12 @@ fn each_revision_is_told_once(rt: HostRuntime) {
 fn what_is_not_held_ends_a_subscription(rt: HostRuntime) {
     are_followed(&rt, &ENDED, 65_536);
     are_followed(&rt, &ENDED, 1);
+}
+
+#[test]
+fn a_deletion_ends_a_subscription(rt: HostRuntime) {
+    are_followed(&rt, &DELETED, 65_536);
+    are_followed(&rt, &DELETED, 1);
 }
 
 #[test]
