@@ -12,7 +12,7 @@ use world::{Event, Outcome, Ticket, World};
 
 /// An event, with its command's number in place of the command.
 #[derive(Clone, Copy)]
-enum Step {
+pub(crate) enum Step {
     Submit(usize),
     Take(usize),
     Device(Outcome),
@@ -26,11 +26,11 @@ enum Step {
 }
 
 /// A reply with the length that has to be settled before it is given.
-type Said = (Reply, usize);
+pub(crate) type Said = (Reply, usize);
 
 /// What is seen of a world.
 #[derive(Clone, Copy)]
-enum Seen {
+pub(crate) enum Seen {
     Tickets(&'static [Said]),
     Acks(&'static [Said]),
     /// The two lengths of the order of which a crash leaves one.
@@ -40,15 +40,17 @@ enum Seen {
     Published(usize),
     /// The command of this number would be refused.
     Refused(usize, Refusal),
+    /// The first document is live or deleted, and from this revision on it is held.
+    First(bool, u64),
 }
 
-type Row = (&'static [Step], Seen);
+pub(crate) type Row = (&'static [Step], Seen);
 
-const TAKEN: Said = (Reply::Taken { rev: 1 }, 1);
+pub(crate) const TAKEN: Said = (Reply::Taken { rev: 1 }, 1);
 
 const AGAIN: Said = (Reply::Again { rev: 1 }, 1);
 
-const WRITTEN: Step = Device(Outcome::Done);
+pub(crate) const WRITTEN: Step = Device(Outcome::Done);
 
 // A retry waits for its edit. A crash may lose the edit: then it is taken anew.
 const WAITING: [Row; 4] = [
@@ -178,7 +180,7 @@ const SCHEDULES: [&[Row]; 6] = [
     &UNSHOWN,
 ];
 
-fn inserted(rt: &(impl Abort + AllocGlobal), plain: &str) -> Delta {
+pub(crate) fn inserted(rt: &(impl Abort + AllocGlobal), plain: &str) -> Delta {
     let mut builder = Builder::new(rt.alloc());
     let text = String::from_str(rt.alloc(), plain).expect(rt, "memory");
     assert!(rt; builder.push(Op::text(text, Attrs::new(rt.alloc()))).is_ok());
@@ -265,10 +267,19 @@ fn is_seen(
         Seen::Refused(number, why) => {
             refusal(rt, world, numbered(rt, commands, number)) == Some(why)
         }
+        Seen::First(live, floor) => match world.board().state().documents().first() {
+            Some(first) => first.is_live() == live && first.floor() == floor,
+            None => false,
+        },
     }
 }
 
-fn go_on(rt: &(impl Abort + AllocGlobal), world: &mut World, commands: &[Command], row: &Row) {
+pub(crate) fn go_on(
+    rt: &(impl Abort + AllocGlobal),
+    world: &mut World,
+    commands: &[Command],
+    row: &Row,
+) {
     for next in row.0 {
         follow(rt, world, commands, next);
     }
