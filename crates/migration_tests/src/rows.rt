@@ -66,6 +66,17 @@ const DELETION: [u8; 34] = [
     0,
 ];
 
+/// The record of an entry of this tag without an operation, of the document e at a revision that its cell covers, and the closed gate behind.
+fn covered(tag: u8) -> [u8; 38] {
+    [
+        0xa5, 32, 0, 0, 0, 1, 0, 0, 0, // one entry
+        tag, 1, 0, 0, 0, 3, 0, 0, 0, 0, 0, 0, 0, // document 1, revision 3
+        1, 0, b'b', 2, 0, 0, 0, 0, 0, 0, 0, // source b, its number 2
+        0, 0, 0, 0, // an empty delta
+        0,
+    ]
+}
+
 // A device of these bytes is refused, and stays; the new one has seen no call.
 fn is_refused(rt: &(impl Abort + AllocGlobal), bytes: &[u8], wanted: Refusal) {
     let mut old = device_of(rt, bytes);
@@ -134,6 +145,18 @@ fn other_devices_are_refused(rt: HostRuntime) {
     let longer = with_bytes_at(&rt, &bytes, 576, &[0xa5, 54]);
     is_refused(&rt, &longer, Refusal::Damaged);
     assert_eq!(&rt; CELL.len(), 57);
+}
+
+// An entry that a cell covers isn't read, but the format has to have it.
+#[test]
+fn creations_again_are_refused(rt: HostRuntime) {
+    let bytes = old_bytes(&rt);
+    let edited = with_bytes_at(&rt, &bytes, 1_088 + 119, &covered(2));
+    let mut old = device_of(&rt, &edited);
+    let mut new = device_of(&rt, &[0; LEN]);
+    assert_eq!(&rt; migrate(rt.alloc(), &mut old, &mut new), Ok(()));
+    let created = with_bytes_at(&rt, &bytes, 1_088 + 119, &covered(4));
+    is_refused(&rt, &created, Refusal::Damaged);
 }
 
 // Bytes of a device that isn't formatted.
