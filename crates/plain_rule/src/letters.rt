@@ -26,10 +26,19 @@ pub fn normal(alloc: Global, delta: &[Mark]) -> Result<Vec<Mark>, Refusal> {
         }
     }
     push_drops(&mut made, dropped)?;
-    while made.last() == Some(&Mark::Keep) {
-        drop(made.pop());
-    }
+    made.truncate(before_kept(&made));
     Ok(made)
+}
+
+// How many marks stand before what is kept at the end.
+fn before_kept(delta: &[Mark]) -> usize {
+    let mut count = 0_usize;
+    for (place, mark) in delta.iter().enumerate() {
+        if *mark != Mark::Keep {
+            count = place.saturating_add(1);
+        }
+    }
+    count
 }
 
 fn push_drops(made: &mut Vec<Mark>, count: usize) -> Result<(), Refusal> {

@@ -187,7 +187,12 @@ impl Doc {
     }
 
     // The answer to a command on a document that is there.
-    fn decide(&mut self, alloc: Global, command: &Command, limits: Limits) -> Result<Reply, Refusal> {
+    fn decide(
+        &mut self,
+        alloc: Global,
+        command: &Command,
+        limits: Limits,
+    ) -> Result<Reply, Refusal> {
         if let Some(revision) = self.again(command.source, command.number) {
             return Ok(Reply::Again(revision));
         }

@@ -47,7 +47,13 @@ fn command_of(
     let source = Name::source(rt.alloc(), command.source).expect(rt, "a source");
     match command.action {
         Action::Create => Command::create(doc, source, number, delta_of(rt, &command.delta)),
-        Action::Edit(base) => Command::edit(doc, source, number, base, delta_of(rt, &command.delta)),
+        Action::Edit(base) => Command::edit(
+            doc,
+            source,
+            number,
+            base,
+            delta_of(rt, &command.delta),
+        ),
         Action::Undo => Ok(Command::undo(doc, source, number)),
         Action::Delete => Ok(Command::delete(doc, source, number)),
     }
@@ -75,15 +81,12 @@ fn has_letters(rt: &(impl Abort + AllocGlobal), document: &Document, wanted: &[u
 }
 
 // A revision of a document reads the same, or is refused alike.
-fn is_read(
-    rt: &(impl Abort + AllocGlobal),
-    state: &State,
-    rule: &Rule,
-    doc: &str,
-    revision: u64,
-) {
+fn is_read(rt: &(impl Abort + AllocGlobal), state: &State, rule: &Rule, doc: &str, revision: u64) {
     let name = Name::doc(rt.alloc(), doc).expect(rt, "a name");
-    match (state.at(rt.alloc(), &name, revision), rule.read(doc, revision)) {
+    match (
+        state.at(rt.alloc(), &name, revision),
+        rule.read(doc, revision),
+    ) {
         (Ok(document), Ok(letters)) => has_letters(rt, &document, letters),
         (Err(found), Err(wanted)) => assert_eq!(rt; found, wanted),
         _ => panic!(rt; "{doc} at {revision}"),
@@ -96,7 +99,10 @@ fn has_documents(rt: &(impl Abort + AllocGlobal), state: &State, rule: &Rule) {
     for (place, found) in state.documents().iter().enumerate() {
         let name = rule.name(place);
         assert_eq!(rt; found.name().as_str(), name);
-        assert_eq!(rt; (found.revision(), found.floor()), (rule.revision(name), rule.floor(name)));
+        assert_eq!(rt;
+            (found.revision(), found.floor()),
+            (rule.revision(name), rule.floor(name))
+        );
     }
 }
 

@@ -30,8 +30,21 @@ fn format_for<
         + Abort,
 >(rt: &R, path: &str, slots: &str) {
     let words = [
-        "richd", "format", path, "--slots", slots, "--slot", "256", "--docs", "2", "--cell", "1028",
-        "--sources", "3", "--keep", "16",
+        "richd",
+        "format",
+        path,
+        "--slots",
+        slots,
+        "--slot",
+        "256",
+        "--docs",
+        "2",
+        "--cell",
+        "1028",
+        "--sources",
+        "3",
+        "--keep",
+        "16",
     ];
     runs(rt, &words, &mut io::empty(), (0, "", ""));
 }
@@ -58,13 +71,19 @@ fn line_of(rt: &(impl Abort + AllocGlobal), command: &Command) -> String {
     let ops = operations(rt, &command.delta);
     let line = match command.action {
         Action::Create => {
-            format!(in rt.alloc(); "{{\"do\":\"create\",\"doc\":\"{doc}\",\"n\":{n},\"ops\":[{ops}]}}\n")
+            format!(in rt.alloc();
+                "{{\"do\":\"create\",\"doc\":\"{doc}\",\"n\":{n},\"ops\":[{ops}]}}\n"
+            )
         }
         Action::Edit(base) => {
-            format!(in rt.alloc(); "{{\"base\":{base},\"do\":\"edit\",\"doc\":\"{doc}\",\"n\":{n},\"ops\":[{ops}]}}\n")
+            format!(in rt.alloc();
+                "{{\"base\":{base},\"do\":\"edit\",\"doc\":\"{doc}\",\"n\":{n},\"ops\":[{ops}]}}\n"
+            )
         }
         Action::Undo => format!(in rt.alloc(); "{{\"do\":\"undo\",\"doc\":\"{doc}\",\"n\":{n}}}\n"),
-        Action::Delete => format!(in rt.alloc(); "{{\"do\":\"delete\",\"doc\":\"{doc}\",\"n\":{n}}}\n"),
+        Action::Delete => format!(in rt.alloc();
+            "{{\"do\":\"delete\",\"doc\":\"{doc}\",\"n\":{n}}}\n"
+        ),
     };
     line.expect(rt, "memory")
 }
@@ -87,7 +106,9 @@ fn reply_of(
         Err(refusal) => return refused(rt, refusal),
     };
     let (doc, n) = (command.doc, command.number);
-    let line = format!(in rt.alloc(); "{{\"doc\":\"{doc}\",\"n\":{n},\"ok\":\"{word}\",\"rev\":{rev}}}\n");
+    let line = format!(in rt.alloc();
+        "{{\"doc\":\"{doc}\",\"n\":{n},\"ok\":\"{word}\",\"rev\":{rev}}}\n"
+    );
     line.expect(rt, "memory")
 }
 
@@ -110,7 +131,9 @@ fn fetched(rt: &(impl Abort + AllocGlobal), rule: &Rule, doc: &str, rev: u64) ->
     match rule.read(doc, rev) {
         Ok(letters) => {
             let content = content_of(rt, letters);
-            let line = format!(in rt.alloc(); "{{\"doc\":\"{doc}\",\"ok\":\"doc\",\"ops\":[{content}],\"rev\":{rev}}}\n");
+            let line = format!(in rt.alloc();
+                "{{\"doc\":\"{doc}\",\"ok\":\"doc\",\"ops\":[{content}],\"rev\":{rev}}}\n"
+            );
             line.expect(rt, "memory")
         }
         Err(refusal) => refused(rt, refusal),
