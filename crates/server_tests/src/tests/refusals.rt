@@ -1,12 +1,13 @@
 use refusal::Refusal;
 
-const PRINTED: [(Refusal, &str); 6] = [
+const PRINTED: [(Refusal, &str); 7] = [
     (Refusal::BadLine, "error 1 BadLine"),
     (Refusal::NoSeat, "error 24 NoSeat"),
     (Refusal::NotFormatted, "error 30 NotFormatted"),
     (Refusal::JournalFull, "error 37 JournalFull"),
     (Refusal::OldFormat, "error 38 OldFormat"),
     (Refusal::NotOld, "error 39 NotOld"),
+    (Refusal::Deleted, "error 40 Deleted"),
 ];
 
 #[test]
