@@ -71,10 +71,10 @@ impl Model for Command {
 }
 
 impl Command {
-    /// Asks that the document of this name be made, or be made again where it is deleted, by a delta on the empty document. The source's name has 1 to 32
-    /// characters, and its number for the command is 1 to 2^53 - 1. Refused with `BadOps` where the delta stands on more
-    /// than 2^44 UTF-16 code units, or its output has more; the names and the delta are then gone. It takes no memory.
-    /// Whether the command is taken, `State::plan` says.
+    /// Asks that the document of this name be made, or be made again where it is deleted, by a delta on the empty document. The source's
+    /// name has 1 to 32 characters, and its number for the command is 1 to 2^53 - 1. Refused with `BadOps` where the delta stands on more
+    /// than 2^44 UTF-16 code units, or its output has more; the names and the delta are then gone. It takes no memory. Whether the
+    /// command is taken, `State::plan` says.
     pub fn create(name: Name, source: Name, number: u64, delta: Delta) -> Result<Command, Refusal>
         requires source { is_source_name source ≡ true }
         requires first { 1 ≤ number }

@@ -117,8 +117,8 @@ impl DocState {
     }
 
     /// Prepares a change that follows what is prepared so far, as `place_for` tells; its source is looked for first at the place that
-    /// `place_for` gave. Its delta is moved into the past, and of a deletion one that deletes all. Refused for want of memory alone, and then nothing more is prepared. What is
-    /// read stays as it is.
+    /// `place_for` gave. Its delta is moved into the past, and of a deletion one that deletes all. Refused for want of memory alone, and
+    /// then nothing more is prepared. What is read stays as it is.
     pub(crate) fn prepare_next(
         &mut self,
         alloc: Global,

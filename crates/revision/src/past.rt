@@ -37,7 +37,7 @@ const APART: u64 = 256;
 /// documents are kept at every 256th revision or so, which share what they have in common, so that the way to a revision is short.
 ///
 /// A deletion is kept as the delta that deletes all. It raises the floor to its own revision, as a creation again does, so the revisions
-/// that are held are of one mark, live or deleted. What stood there before is let go of by the next change.
+/// that are held are of one mark, live or deleted. What stood there before is let go of by the next change, as far as memory goes.
 ///
 /// A change is first prepared, which leaves what is seen as it is, and may find no memory. What is prepared is then accepted,
 /// which needs none.
@@ -338,8 +338,8 @@ impl Past {
     /// Lets go of the revisions below the floor, once there are 512 of them, up to the last document that is kept from there, as far
     /// as memory goes; and of all of them where the document was deleted or created again. What is seen stays as it is.
     ///
-    /// With fewer a call costs nothing. Else it applies no delta: the document that is kept takes the place of the first one, and the
-    /// sources of the changes up to it are noted.
+    /// Where it was neither deleted nor created again, with fewer a call costs nothing, and else it applies no delta: the document that is
+    /// kept takes the place of the first one, and the sources of the changes up to it are noted.
     pub fn let_go(&mut self, alloc: Global)
         ensures { self.new ≡ self.old }
     {

@@ -50,13 +50,13 @@ impl State {
     /// with `Exists`, unless the document is deleted; where it isn't there, `Gap` for a number above 1, `TooManyDocuments` where there
     /// are `docs` documents. Of an edit, an undo or a deletion: `NoDocument`. Of these and of a creation of a deleted document: `Again`
     /// for a number of the source's window, `OldNumber` for one below it, `Gap` for one above the next. Then of an edit, an undo or a
-    /// deletion: `Deleted` where the document is. Of an edit, a deletion or a creation of a deleted document: `TooManySources` where the source isn't there and
-    /// `sources` others are. Of an edit: `Future` for a base above the newest revision, `TooOld` for one below the floor. Of an undo:
-    /// `NothingToUndo` where the source has no change, `TooOld` where its last one isn't held with the revision before it. Of all but a
-    /// new document's creation: `RevisionsSpent` where the newest revision is 2^53 - 1. Of all but a deletion: `PastEnd` where the
-    /// delta, an edit's and an undo's late past what was taken since its base, speaks of a unit that isn't there, `CutsPair` where it
-    /// parts a surrogate pair. Of all: `TooHeavy` and `TooWide` where the document's weight or the entry's bytes
-    /// would be above the limit; else it is taken. specs/Acceptance.antt states it as `answer`.
+    /// deletion: `Deleted` where the document is. Of an edit, a deletion or a creation of a deleted document: `TooManySources` where the
+    /// source isn't there and `sources` others are. Of an edit: `Future` for a base above the newest revision, `TooOld` for one below the
+    /// floor. Of an undo: `NothingToUndo` where the source has no change, `TooOld` where its last one isn't held with the revision before
+    /// it. Of all but a new document's creation: `RevisionsSpent` where the newest revision is 2^53 - 1. Of all but a deletion: `PastEnd`
+    /// where the delta, an edit's and an undo's late past what was taken since its base, speaks of a unit that isn't there, `CutsPair`
+    /// where it parts a surrogate pair. Of all: `TooHeavy` and `TooWide` where the document's weight or the entry's bytes would be above
+    /// the limit; else it is taken. specs/Acceptance.antt states it as `answer`.
     ///
     /// All that is told by names and numbers alone is told before memory is taken. So want of memory (`NoMemory`) comes only in
     /// place of the last five answers, and for a creation, whose delta is looked at as it stands, and a deletion only where it would be

@@ -89,8 +89,8 @@ fn a_deletion_is_stopped_at_its_gate(rt: HostRuntime) {
     is_stopped_at_the_gate(&rt, 0xa5, "d 3 deleted\n");
 }
 
-// A batch is stopped at each call of its commit, with each thing left: the body is written behind a closed gate, so the document is as before
-// unless the gate stands open.
+// A batch is stopped at each call of its commit, with each thing left: the body is written behind a closed gate, so the document is as
+// before unless the gate stands open.
 fn is_stopped_everywhere(
     rt: &(impl Abort + AllocGlobal),
     bytes: &[u8],
