@@ -114,7 +114,7 @@ stands-behind documents first more ticket stands = record {
 
 -- states that agree show the same
 one-shown : (a b : DocumentRecord) → DocumentsAgree a b → shown a ≡ shown b
-one-shown a b same = λ i. record { name = same.name i; units = (same.content i).units; revision = same.revision i; sources = same.sources i }
+one-shown a b same = λ i. record { name = same.name i; content = same.content i; revision = same.revision i; sources = same.sources i }
 
 all-shown : (xs ys : List DocumentRecord) → ((number : ℕ) → PlacesAgree (slice_get xs number) (slice_get ys number)) → map shown xs ≡ map shown ys
 all-shown [] [] same = refl

@@ -1,15 +1,15 @@
 -- How far the cells and the entries of a document reach: no further than the document itself.
-use Rattle.std.proofs.Common.{◌≡◌, ℕ, ◌+◌, ◌-◌, ◌≤◌, max, true, false, Option, Some, None, List, [], ◌∷◌, ◌++◌, length, map, set, refl, sym, ◌∙◌, ap, subst, inl, inr, arith}
+use Rattle.std.proofs.Common.{◌≡◌, ℕ, ◌+◌, ◌≤◌, true, false, Option, Some, None, List, [], ◌∷◌, ◌++◌, length, set, refl, sym, ◌∙◌, ap, subst, inl, inr, arith}
 use Rattle.std.specs.Prelude.{◌==◌, ◌&&◌, not, nat_le, slice_get}
 use Rattle.std.proofs.lemmas.Bool.{cases_eq, and_parts, eqb-true}
 use Rattle.std.proofs.lemmas.Bool.Decides.{nat_tests}
-use Rattle.std.proofs.lemmas.List.{length-drop, length-append, length-map}
 use Rattle.std.proofs.lemmas.List.Concat.{flat_map-append}
 use Rattle.disk.specs.declared.device.Disk.{Ghosts}
-use Rattle.revision.specs.Command.{Taken}
-use Rattle.revision.specs.Past.{Past, Change, newest, empty_past, from_floor, with_change}
+use Rattle.revision.specs.Command.{Taken, edits}
+use Rattle.revision.specs.Past.{suits, newest, empty_past, with_step}
 use Rattle.revision.specs.Sources.{window_of}
-use Rattle.revision.specs.State.{newest_revision, Limits, DocumentRecord, State, revision_of, sources_of, units_of, last_of_all, has_place, keeps, change_of, continues, continues_by_name, record_by_name, record_after, all_continue}
+use Rattle.revision.specs.State.{newest_revision, Limits, DocumentRecord, State, revision_of, sources_of, units_of, last_of_all, has_place, is_live, keeps, comes_next, change_of, continues, continues_by_name, record_by_name, record_after, all_continue}
+use Rattle.revision.proofs.CallerLemmas.{step_makes}
 use Rattle.history.specs.Entries.{of_document, greatest}
 use Rattle.history.specs.Cell.{Pair, cells_at, OfBoth}
 use Rattle.history.specs.Shown.{Order, base_at}
@@ -29,29 +29,31 @@ use Rattle.recovery.specs.steps.Freeing.{reached_in}
 use Rattle.recovery.proofs.Marked.{number_held}
 use Rattle.recovery.proofs.Retirement.{held_there, parted, oldest_here, known_highest}
 
--- a change more makes one revision more at most
-newest_with : (keep : ℕ) (past : Past) (change : Change) → newest (with_change keep past change) ≤ newest past + 1
-newest_with keep past change =
-    omega (arith, length-drop (max past.floor (newest past + 1 - keep) - past.floor) (past.changes ++ change ∷ []), length-append past.changes (change ∷ []))
-
+-- a command more makes one revision more at most
 reached_with : (keep : ℕ) (found : Option DocumentRecord) (taken : Taken) (name : Option (List ℕ)) → newest_revision (record_by_name keep found taken name) ≤ newest_revision found + 1
 reached_with keep None taken None = omega arith
-reached_with keep None taken (Some name) = newest_with keep empty_past (change_of taken)
-reached_with keep (Some found) taken name = newest_with keep found.past (change_of taken)
+reached_with keep None taken (Some name) =
+    let made : newest (with_step keep empty_past taken.step (change_of taken)) ≡ newest empty_past + 1 = (step_makes keep empty_past taken.step (change_of taken)).0 in
+    omega arith
+reached_with keep (Some found) taken name =
+    let made : newest (with_step keep found.past taken.step (change_of taken)) ≡ newest found.past + 1 = (step_makes keep found.past taken.step (change_of taken)).0 in
+    omega arith
 
 -- a command that continues a document is its next revision
 next_reached : (limits : Limits) (found : Option DocumentRecord) (taken : Taken) (name : Option (List ℕ)) → continues_by_name limits found taken name ≡ true
     → taken.revision ≡ newest_revision found + 1
 next_reached limits None taken None is = absurd cc
 next_reached limits None taken (Some name) is =
-    let last = and_parts ((taken.revision == 1) && (taken.number == 1)) _ is in
-    omega (arith, eqb-true _ _ (and_parts (taken.revision == 1) (taken.number == 1) last.0).0)
+    let last = and_parts (edits taken.step && (taken.revision == 1) && (taken.number == 1)) _ is in
+    let numbers = and_parts (edits taken.step && (taken.revision == 1)) (taken.number == 1) last.0 in
+    omega (arith, eqb-true _ _ (and_parts (edits taken.step) (taken.revision == 1) numbers.0).1)
 next_reached limits (Some found) taken None is =
-    let kept = and_parts ((taken.revision == revision_of found + 1) && not (revision_of found == last_of_all)
-    && (taken.number == (window_of taken.source (sources_of found)).number + 1) && nat_le taken.number last_of_all
-    && has_place limits taken.source (sources_of found)) (keeps limits (units_of found) (sources_of found) taken) is in
+    let kept = and_parts (suits (is_live found) taken.step && comes_next limits (revision_of found) (sources_of found) taken)
+    (keeps limits (units_of found) (sources_of found) taken) is in
+    let following = and_parts (suits (is_live found) taken.step) (comes_next limits (revision_of found) (sources_of found) taken) kept.0 in
     let place = and_parts ((taken.revision == revision_of found + 1) && not (revision_of found == last_of_all)
-    && (taken.number == (window_of taken.source (sources_of found)).number + 1) && nat_le taken.number last_of_all) _ kept.0 in
+    && (taken.number == (window_of taken.source (sources_of found)).number + 1) && nat_le taken.number last_of_all)
+    (has_place limits taken.source (sources_of found)) following.1 in
     let number = and_parts ((taken.revision == revision_of found + 1) && not (revision_of found == last_of_all)
     && (taken.number == (window_of taken.source (sources_of found)).number + 1)) _ place.0 in
     let next = and_parts ((taken.revision == revision_of found + 1) && not (revision_of found == last_of_all)) _ number.0 in

@@ -125,7 +125,7 @@ abbrev last_sixteen : List ℕ
 last_sixteen = 2 ∷ 3 ∷ 4 ∷ 5 ∷ 6 ∷ 7 ∷ 8 ∷ 9 ∷ 10 ∷ 11 ∷ 12 ∷ 13 ∷ 14 ∷ 15 ∷ 16 ∷ 17 ∷ []
 
 abbrev after_17 : State
-after_17 = adopted roomy (100 ∷ []) (record { units = [] }) 17 (insert empty (ann ∷ []) (record { number = 17; revisions = last_sixteen }))
+after_17 = adopted roomy (100 ∷ []) (record { units = []; live = true }) 17 (insert empty (ann ∷ []) (record { number = 17; revisions = last_sixteen }))
 
 -- the second number is the lowest of the window; after 18 numbers it is too old
 second_of_17 : reply_after after_17 [] (ask ann 2 (Edit 1 [])) ≡ AgainAt 2

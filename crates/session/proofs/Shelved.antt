@@ -1,6 +1,6 @@
 -- What the shelf keeps, as documents are found on it and put there.
 use Rattle.std.proofs.Common.{◌≡◌, ◌⊎◌, inl, inr, ℕ, Bool, true, false, cond, List, [], ◌∷◌, map, Option, Some, None, refl, sym, ap, subst, ◌∙◌}
-use Rattle.std.specs.Prelude.{not, All, Contains, IfSome, option_map, Result, Ok, Err, OnOk, OnErr, bytes_eq, nat_eq, nat_lt}
+use Rattle.std.specs.Prelude.{not, All, Contains, IfSome, IfOk, option_map, Result, Ok, Err, OnOk, OnErr, bytes_eq, nat_eq, nat_lt}
 use Rattle.std.specs.Map.{lookup}
 use Rattle.std.specs.Option.{ForSome}
 use Rattle.std.specs.String.{string_bytes}
@@ -144,3 +144,16 @@ read_weaker reads told (Some state) (Ok answer) now read is weaker =
 read_weaker reads told (Some state) (Err refusal) now read is weaker = read
 read_weaker reads told None (Ok answer) now read is weaker = read
 read_weaker reads told None (Err refusal) now read is weaker = read
+
+-- what is made of the state that is shown, which is this one
+pub read_made : {X : Type 0} (reads : State → X → Type 0) (made : X → Type 0) (shown : Option State) (result : Result X Refusal) (now : State)
+    → IsReadOf reads shown result → ForSome shown (λ state. state ≡ now) → ((answer : X) → reads now answer → made answer) → IfOk result made
+read_made reads made (Some state) (Ok answer) now read is gives = gives answer (subst (λ (s : State). reads s answer) (is state refl) read)
+read_made reads made (Some state) (Err refusal) now read is gives = tt
+read_made reads made None (Ok answer) now read is gives = absurd read
+read_made reads made None (Err refusal) now read is gives = tt
+
+-- what a look has made, if anything
+pub look_made : {X : Type 0} (P : X → Type 0) (made : Option X) → ForSome made P → IfSome made P
+look_made P None each = tt
+look_made P (Some one) each = each one refl

@@ -61,7 +61,7 @@ fn both_are_spelled_and_read(rt: HostRuntime) {
     is_opened_as(&rt, &revived, "d 4 n\n");
 }
 
-// A deletion has no delta, and a creation again is of revision 3 or above.
+// A deletion has no delta, a document that is deleted takes no edit, and there is no fifth kind of entry.
 #[test]
 fn others_are_damage(rt: HostRuntime) {
     let deleted = with_batch(&rt, &with_two(&rt), &DELETION);

@@ -94,8 +94,8 @@ impl<D, J: Site> Viewer<D, J> {
     }
 
     /// What stood in a document at a revision, by the state that `read` lends. Refused as `State::at` refuses it on that state, which is
-    /// `NoDocument`, `Future` where the revision is above the newest one, `TooOld` where it is below the floor, or out of memory; or
-    /// with `StoreFailed`, as `read` is.
+    /// `NoDocument`, `Deleted` where it is deleted now, `Future` where the revision is above the newest one, `TooOld` where it is below
+    /// the floor, or out of memory; or with `StoreFailed`, as `read` is.
     pub fn at(&mut self, alloc: Global, name: &Name, revision: u64) -> Result<Document, Refusal>
         ensures kept { IsPrefix self.old self.new }
         ensures answer { (result ≡ document_at (state.fold J.start (commands_of self.new)) name.now revision)

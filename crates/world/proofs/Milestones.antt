@@ -1,5 +1,5 @@
 -- What an opening gives is what the order makes of the start, each document from its milestone on.
-use Rattle.std.proofs.Common.{◌≡◌, ◌⊎◌, ℕ, zero, suc, ◌+◌, ◌-◌, ◌≤◌, ◌<◌, Bool, true, false, List, [], ◌∷◌, length, drop, get_or, Option, Some, None, refl, sym, ap, ap₂, ◌∙◌, subst, ⊎_elim, arith}
+use Rattle.std.proofs.Common.{◌≡◌, ℕ, zero, suc, ◌+◌, ◌-◌, ◌≤◌, ◌<◌, Bool, true, false, List, [], ◌∷◌, length, drop, get_or, Option, Some, None, refl, sym, ap, ap₂, ◌∙◌, subst, arith}
 use Rattle.std.specs.Prelude.{◌&&◌, nat_le, max, min, slice_get}
 use Rattle.std.proofs.lemmas.List.{at_drop_more}
 use Rattle.std.proofs.lemmas.Bool.{le-leb}
@@ -261,7 +261,16 @@ reached-step composed number made held m h in_made in_held m_is h_is =
     ∙ (at_drop_more (λ l. are_reached composed number (m ∷ drop (number + 1) made) l) held number h in_held
     ∙ ap (λ x. are_reached composed number (m ∷ drop (number + 1) made) (x ∷ drop (number + 1) held)) (sym h_is)))
 
-pub reached-end : (composed : List (ℕ × ℕ)) (number : ℕ) (made held : List DocumentRecord) → (made ≡ []) ⊎ (held ≡ []) → are_reached composed number made held ≡ true
-reached-end composed number [] held none = refl
-reached-end composed number (first ∷ others) [] none = refl
-reached-end composed number (first ∷ others) (one ∷ more) none = ⊎_elim (λ e. absurd (cc)) (λ e. absurd (cc)) none
+-- it ends with either of the lists
+pub reached-none : (composed : List (ℕ × ℕ)) (number : ℕ) (made : List DocumentRecord) → are_reached composed number made [] ≡ true
+reached-none composed number [] = refl
+reached-none composed number (first ∷ others) = refl
+
+pub reached-end : (composed : List (ℕ × ℕ)) (number from : ℕ) (made held : List DocumentRecord) → min (length made) (length held) ≤ from
+    → are_reached composed number (drop from made) (drop from held) ≡ true
+reached-end composed number zero [] held ended = refl
+reached-end composed number zero (first ∷ others) [] ended = refl
+reached-end composed number zero (first ∷ others) (one ∷ more) ended = absurd (omega (arith, ended))
+reached-end composed number (suc from) [] held ended = refl
+reached-end composed number (suc from) (first ∷ others) [] ended = reached-none composed number (drop from others)
+reached-end composed number (suc from) (first ∷ others) (one ∷ more) ended = reached-end composed number from others more (omega (arith, ended))

@@ -2,11 +2,11 @@
 use Rattle.std.specs.Prelude.{◌≡◌, ℕ, zero, suc, ◌+◌, true, false, List, [], ◌∷◌, ◌++◌, length, map, refl, codes}
 use Rattle.std.specs.Char.{encode_utf8}
 use Rattle.std.specs.Char.Utf16.{utf16_chars}
-use Rattle.refusal.specs.declared.Refusal.TheVariants.{TooOld}
+use Rattle.refusal.specs.declared.Refusal.TheVariants.{TooOld, Deleted}
 use Rattle.attributes.specs.Map.{empty, insert}
 use Rattle.attributes.specs.Attributes.{changed_by}
 use Rattle.delta.specs.Operation.{insert_text}
-use Rattle.revision.specs.Command.{Action, Create, Edit, Command}
+use Rattle.revision.specs.Command.{Action, Create, Edit, Delete, Command}
 use Rattle.revision.specs.State.{State}
 use Rattle.revision.specs.Acceptance.{Refuses, Reply, TakenAt, AgainAt, answer}
 use Rattle.world.specs.Board.{Ticket}
@@ -198,6 +198,48 @@ given_up_is_lost = refl
 given_up_is_taken_anew : tickets_after (Submit create ∷ Take 1 ∷ Device Stopped ∷ Open 0 [] ∷ Resend create ∷ []) ≡ (TakenAt 1, 1) ∷ []
 unfolding utf16_chars encode_utf8 insert
 given_up_is_taken_anew = refl
+
+-- Two revisions are settled, and the second is composed. The document is deleted then, and the batch given up: a crash may lose the
+-- deletion, which is taken anew then, or leave it, and then it is a retry.
+abbrev deleted_given_up : List Event
+deleted_given_up =
+    Submit create ∷ Submit (edit 2 1) ∷ Take 2 ∷ Device Done ∷ Publish ∷ Settle ∷ Compose 0 2 ∷ Submit (ask 3 Delete) ∷ Take 1 ∷ Device Stopped ∷ []
+
+deletion_is_lost : tickets_after (deleted_given_up ++ Crash 2 ∷ Open 2 (2 ∷ []) ∷ Resend (ask 3 Delete) ∷ []) ≡ (TakenAt 3, 3) ∷ []
+unfolding utf16_chars encode_utf8 insert changed_by
+deletion_is_lost = refl
+
+deletion_is_left : tickets_after (deleted_given_up ++ Crash 3 ∷ Open 3 (3 ∷ []) ∷ Resend (ask 3 Delete) ∷ []) ≡ (AgainAt 3, 3) ∷ []
+unfolding utf16_chars encode_utf8 insert changed_by
+deletion_is_left = refl
+
+-- no opening gives a floor below the deletion
+opens_at_no_floor_below : (after (deleted_given_up ++ Crash 3 ∷ Open 3 (2 ∷ []) ∷ [])).crashed ≡ true
+unfolding utf16_chars encode_utf8 insert changed_by
+opens_at_no_floor_below = refl
+
+edit_of_a_deleted_one : answer (after deleted_given_up).board.state (edit 4 2) ≡ Refuses Deleted
+unfolding utf16_chars encode_utf8 insert changed_by
+edit_of_a_deleted_one = refl
+
+-- Created again it is the next revision, from which on it is held: an edit of one below is too old, at once and after an opening.
+abbrev again : Command
+again = ask 4 (Create (insert_text (codes "n") empty ∷ []))
+
+abbrev created_again : List Event
+created_again = Submit create ∷ Submit (edit 2 1) ∷ Submit (ask 3 Delete) ∷ Submit again ∷ Take 4 ∷ Device Done ∷ Publish ∷ Settle ∷ []
+
+creation_again : tickets_after (created_again ++ Submit (edit 5 4) ∷ []) ≡ (TakenAt 1, 1) ∷ (TakenAt 2, 2) ∷ (TakenAt 3, 3) ∷ (TakenAt 4, 4) ∷ (TakenAt 5, 5) ∷ []
+unfolding utf16_chars encode_utf8 insert changed_by
+creation_again = refl
+
+older_is_too_old : answer (after created_again).board.state (edit 5 2) ≡ Refuses TooOld
+unfolding utf16_chars encode_utf8 insert changed_by
+older_is_too_old = refl
+
+older_is_too_old_after_a_crash : answer (after (created_again ++ Crash 4 ∷ Open 4 (4 ∷ []) ∷ [])).board.state (edit 5 2) ≡ Refuses TooOld
+unfolding utf16_chars encode_utf8 insert changed_by
+older_is_too_old_after_a_crash = refl
 
 -- Source b edits document d, and source a creates document e: each source has numbers of its own in each document, and all commands
 -- stand in one order. The first two are written in one batch. A retry of the first one waits for the third, which isn't.

@@ -8,11 +8,12 @@ use Rattle.world.specs.Board.{Ticket, submitted, ticket_of, can_take, taken_more
 use Rattle.world.specs.Event.{Outcome, Done, Failed, Stopped, Event, Submit, Take, Device, Publish, Settle, Ack, Compose, Crash, Open, Resend}
 use Rattle.world.specs.World.{entry_of, takens, World, last_sent, last_composed}
 
--- the same state, of which no past is dropped from now on
+-- the same state, of which from now on no past is dropped but by deletions and by creations of what is deleted
 abbrev pub keeping_all : State → State
 keeping_all state = record state { limits = record state.limits { keep = last_of_all } }
 
--- the state that the order makes of the start, with all its past since the start
+-- the state that the order makes of the start, with all the past that it may have: each document's since the start, or since the last
+-- deletion or creation again that came after it
 abbrev pub whole : State → List Taken → State
 whole start commands = record start { documents = (fold (keeping_all start) commands).documents }
 
@@ -22,8 +23,8 @@ with_floors [] floors = []
 with_floors (first ∷ others) [] = first ∷ others
 with_floors (first ∷ others) (floor ∷ floors) = record first { past = from_floor first.past floor } ∷ with_floors others floors
 
--- A floor that an opening may give to a document: from the start's up to the greatest of that, what was composed, and `keep` below
--- the revision. The record is one with all its past since the start, so its own floor is the start's.
+-- A floor that an opening may give to a document: from the least one that it may have up to the greatest of that, what was composed, and
+-- `keep` below the revision. The record is one with all the past that it may have, so its own floor is the least one.
 abbrev pub may_begin_at : ℕ → ℕ → DocumentRecord → ℕ → Bool
 may_begin_at keep composed found floor =
     nat_le found.past.floor floor && nat_le floor (max found.past.floor (max composed (revision_of found - keep))) && nat_le floor (revision_of found)

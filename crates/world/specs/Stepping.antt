@@ -64,7 +64,7 @@ abbrev pub floors_of : List DocumentRecord → List ℕ
 floors_of documents = map (λ (d : DocumentRecord). d.past.floor) documents
 
 -- What a store holds that is opened with so many commands, each document from a milestone at the revision that stands at its number, or
--- from none (0): its floor is the milestone's revision, or `keep` below its newest revision where that is higher.
+-- from none (0): its floor is the milestone's revision, or the one that it has without a milestone where that is higher.
 abbrev pub recovered : State → List Taken → List ℕ → State
 recovered start commands milestones = record (fold start commands) { documents = raised_each milestones (fold start commands).documents }
 

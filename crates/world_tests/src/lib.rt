@@ -1,4 +1,5 @@
-//! Tests of `world`, by its public calls alone: schedules of whole commands that a `World` runs (steps), and schedules that a
+//! Tests of `world`, by its public calls alone: schedules of whole commands that a `World` runs (steps, and deleting: of
+//! documents that are deleted and created again), and schedules that a
 //! `Follower` runs. What the rule of acceptance says of a command that is no retry is told to the latter: here it takes a source's
 //! next number, as the next revision.
 //!
@@ -7,6 +8,8 @@
 
 #[cfg(test)]
 pub mod callers;
+#[cfg(test)]
+mod deleting;
 #[cfg(test)]
 mod lists;
 #[cfg(test)]

@@ -10,9 +10,9 @@ use revision::{Command, Limits, Name, Reply};
 use std::process::Abort;
 use world::{Event, Outcome, Ticket, World};
 
-/// An event, with the place of its command, which of the first four is its number, in place of the command.
+/// An event, with its command's number in place of the command.
 #[derive(Clone, Copy)]
-enum Step {
+pub(crate) enum Step {
     Submit(usize),
     Take(usize),
     Device(Outcome),
@@ -26,11 +26,11 @@ enum Step {
 }
 
 /// A reply with the length that has to be settled before it is given.
-type Said = (Reply, usize);
+pub(crate) type Said = (Reply, usize);
 
 /// What is seen of a world.
 #[derive(Clone, Copy)]
-enum Seen {
+pub(crate) enum Seen {
     Tickets(&'static [Said]),
     Acks(&'static [Said]),
     /// The two lengths of the order of which a crash leaves one.
@@ -38,17 +38,19 @@ enum Seen {
     Ordered(usize),
     Settled(usize),
     Published(usize),
-    /// The command at this place would be refused.
+    /// The command of this number would be refused.
     Refused(usize, Refusal),
+    /// The first document is live or deleted, and from this revision on it is held.
+    First(bool, u64),
 }
 
-type Row = (&'static [Step], Seen);
+pub(crate) type Row = (&'static [Step], Seen);
 
-const TAKEN: Said = (Reply::Taken { rev: 1 }, 1);
+pub(crate) const TAKEN: Said = (Reply::Taken { rev: 1 }, 1);
 
 const AGAIN: Said = (Reply::Again { rev: 1 }, 1);
 
-const WRITTEN: Step = Device(Outcome::Done);
+pub(crate) const WRITTEN: Step = Device(Outcome::Done);
 
 // A retry waits for its edit. A crash may lose the edit: then it is taken anew.
 const WAITING: [Row; 4] = [
@@ -159,46 +161,6 @@ const OLDER_AGAIN: [Row; 1] = [(
     ]),
 )];
 
-// A deletion is the floor also where nothing was composed, or something older. The document is created again behind it.
-const DELETED: [Row; 6] = [
-    (
-        &[
-            Submit(1),
-            Submit(2),
-            Submit(5),
-            Take(3),
-            WRITTEN,
-            Publish,
-            Settle,
-            Ack(0),
-            Ack(1),
-            Ack(2),
-            Compose(0, 2),
-        ],
-        Seen::Acks(&THREE),
-    ),
-    (
-        &[Crash(3), Open(3, &[]), Resend(5)],
-        Seen::Tickets(&[(Reply::Again { rev: 3 }, 3)]),
-    ),
-    (&[], Seen::Refused(4, Refusal::Deleted)),
-    (
-        &[Crash(3), Open(3, &[2]), Submit(6)],
-        Seen::Tickets(&[(Reply::Taken { rev: 4 }, 4)]),
-    ),
-    (
-        &[
-            Take(1),
-            Device(Outcome::Stopped),
-            Crash(4),
-            Open(4, &[2]),
-            Resend(6),
-        ],
-        Seen::Tickets(&[(Reply::Again { rev: 4 }, 4)]),
-    ),
-    (&[], Seen::Refused(7, Refusal::TooOld)),
-];
-
 // Nothing is settled before it is shown.
 const UNSHOWN: [Row; 3] = [
     (
@@ -209,17 +171,16 @@ const UNSHOWN: [Row; 3] = [
     (&[], Seen::Published(0)),
 ];
 
-const SCHEDULES: [&[Row]; 7] = [
+const SCHEDULES: [&[Row]; 6] = [
     &WAITING,
     &STAYING,
     &TOO_OLD,
     &TAKEN_AGAIN,
     &OLDER_AGAIN,
-    &DELETED,
     &UNSHOWN,
 ];
 
-fn inserted(rt: &(impl Abort + AllocGlobal), plain: &str) -> Delta {
+pub(crate) fn inserted(rt: &(impl Abort + AllocGlobal), plain: &str) -> Delta {
     let mut builder = Builder::new(rt.alloc());
     let text = String::from_str(rt.alloc(), plain).expect(rt, "memory");
     assert!(rt; builder.push(Op::text(text, Attrs::new(rt.alloc()))).is_ok());
@@ -239,19 +200,7 @@ fn command(rt: &(impl Abort + AllocGlobal), number: u64) -> Command {
     made.expect(rt, "a command")
 }
 
-// The source's command of this number deletes the document, or creates it again.
-fn turning(rt: &(impl Abort + AllocGlobal), number: u64, deletes: bool) -> Command {
-    assert!(rt; 1 <= number && number < 1 << 53);
-    let name = Name::doc(rt.alloc(), "d").expect(rt, "a document");
-    let source = Name::source(rt.alloc(), "a").expect(rt, "a source");
-    if deletes {
-        return Command::delete(name, source, number);
-    }
-    let made = Command::create(name, source, number, inserted(rt, "n"));
-    made.expect(rt, "a command")
-}
-
-// The command at a place, counted from 1.
+// The command of a number.
 fn numbered<'a>(rt: &impl Abort, commands: &'a [Command], number: usize) -> &'a Command {
     let place = number.saturating_sub(1);
     commands.get(place).expect(rt, "a command")
@@ -318,10 +267,19 @@ fn is_seen(
         Seen::Refused(number, why) => {
             refusal(rt, world, numbered(rt, commands, number)) == Some(why)
         }
+        Seen::First(live, floor) => match world.board().state().documents().first() {
+            Some(first) => first.is_live() == live && first.floor() == floor,
+            None => false,
+        },
     }
 }
 
-fn go_on(rt: &(impl Abort + AllocGlobal), world: &mut World, commands: &[Command], row: &Row) {
+pub(crate) fn go_on(
+    rt: &(impl Abort + AllocGlobal),
+    world: &mut World,
+    commands: &[Command],
+    row: &Row,
+) {
     for next in row.0 {
         follow(rt, world, commands, next);
     }
@@ -336,9 +294,6 @@ fn each_step_makes_what_is_seen(rt: HostRuntime) {
         command(&rt, 2),
         command(&rt, 3),
         command(&rt, 4),
-        turning(&rt, 3, true),
-        turning(&rt, 4, false),
-        command(&rt, 5),
     ];
     for rows in &SCHEDULES {
         let mut world = World::new(rt.alloc(), Limits::new(2, 4, 1000, 237, 2));

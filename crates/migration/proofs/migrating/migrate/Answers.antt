@@ -1,6 +1,7 @@
-use Rattle.std.proofs.Common.{◌≡◌, ◌∙◌, inl, inr, length, sym, subst}
+use Rattle.std.proofs.Common.{◌≡◌, ◌⊎◌, ◌∙◌, inl, inr, length, sym, subst}
 use Rattle.std.proofs.lemmas.Result.{on_ok_weaker, err_from_is_err_and, IfErr-at_err}
-use Rattle.refusal.specs.declared.Refusal.TheVariants.{Damaged}
+use Rattle.refusal.specs.declared.Refusal.{Refusal}
+use Rattle.refusal.specs.declared.Refusal.TheVariants.{NotFormatted, NotOld, Damaged, NoMemory, Fault, AlreadyFormatted, BadShape}
 use Rattle.disk.specs.Crash.{history_of}
 use Rattle.recovery.specs.declared.shape.Shape.{Shape}
 use Rattle.recovery.specs.Formatting.{Fits, IsBegunStore, IsUnformattedOrBegun, LeavesFromSync}
@@ -30,6 +31,26 @@ returns-in_err-read-clause-damaged g c is honest =
     let p = err_from_is_err_and c.from_residual.result c.from_residual.ensures.1 in
     let both : p.0 ≡ Damaged = cc in
     c.in_err-read.ensures.damaged (sym p.2 ∙ both) honest
+
+-- what is told of the old device isn't told of the new one
+not_of_new : (told of_old : Refusal) → told ≡ of_old
+    → (of_old ≡ NotFormatted) ⊎ ((of_old ≡ NotOld) ⊎ ((of_old ≡ Damaged) ⊎ ((of_old ≡ NoMemory) ⊎ (of_old ≡ Fault))))
+    → (told ≡ AlreadyFormatted) ⊎ (told ≡ BadShape) → ⊥
+not_of_new told of_old same (inl not_formatted) (inl formatted) = cc
+not_of_new told of_old same (inl not_formatted) (inr shape) = cc
+not_of_new told of_old same (inr (inl not_old)) (inl formatted) = cc
+not_of_new told of_old same (inr (inl not_old)) (inr shape) = cc
+not_of_new told of_old same (inr (inr (inl damaged))) (inl formatted) = cc
+not_of_new told of_old same (inr (inr (inl damaged))) (inr shape) = cc
+not_of_new told of_old same (inr (inr (inr (inl memory)))) (inl formatted) = cc
+not_of_new told of_old same (inr (inr (inr (inl memory)))) (inr shape) = cc
+not_of_new told of_old same (inr (inr (inr (inr fault)))) (inl formatted) = cc
+not_of_new told of_old same (inr (inr (inr (inr fault)))) (inr shape) = cc
+
+pub returns-in_err-read-clause-old_first : goal.returns-in_err-read-clause-old_first
+returns-in_err-read-clause-old_first g c =
+    let p = err_from_is_err_and c.from_residual.result c.from_residual.ensures.1 in
+    rw p.1 (λ told honest. absurd (not_of_new p.0 c.in_err-read.field-0.0 p.2 c.in_err-read.ensures.only told))
 
 -- the new device is never told of as damaged
 pub returns-clause-damaged : goal.returns-clause-damaged

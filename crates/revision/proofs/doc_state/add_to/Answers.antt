@@ -1,5 +1,10 @@
-use Rattle.std.proofs.Common.{ap}
 use Rattle.revision.proofs.doc_state.add_to.Goals as goal
 
+pub prepare-requires-clause-suits : goal.prepare-requires-clause-suits
+prepare-requires-clause-suits c = rw c.let_go.ensures c.requires.suits
+
+pub prepare-requires-clause-leads : goal.prepare-requires-clause-leads
+prepare-requires-clause-leads c = rw c.let_go.ensures c.requires.leads
+
 pub prepare-requires-clause-accepted : goal.prepare-requires-clause-accepted
-prepare-requires-clause-accepted c = rw (c.let_go.ensures, ap (λ change. change.2) c.into_change-source.ensures.change) c.requires.accepted
+prepare-requires-clause-accepted c = rw c.let_go.ensures c.requires.accepted

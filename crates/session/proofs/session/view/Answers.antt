@@ -2,8 +2,8 @@ use Rattle.std.proofs.Common.{◌≡◌, IfOk, sym, subst}
 use Rattle.std.specs.String.{string_bytes}
 use Rattle.revision.specs.State.{State}
 use Rattle.session.specs.Reads.{read_line}
-use Rattle.session.specs.Shelf.{Fits}
-use Rattle.session.proofs.Shelved.{read_weaker}
+use Rattle.session.specs.Shelf.{Fits, IsGivenLook}
+use Rattle.session.proofs.Shelved.{read_weaker, read_made}
 use Rattle.session.proofs.Later.{fits_later}
 use Rattle.session.proofs.session.view.Goals as goal
 
@@ -21,3 +21,10 @@ returns-clause-told g c =
 
 pub returns-clause-fits : goal.returns-clause-fits
 returns-clause-fits g c = fits_later (g.D.Desk.reached c.args.desk.now) (g.D.Desk.reached c.view.new.self) c.args.shelf.now c.view.ensures.later c.requires.fits
+
+pub returns-clause-look : goal.returns-clause-look
+returns-clause-look g c =
+    let shown = c.view.ensures.shown in
+    let now = g.D.Desk.reached c.view.new.self in
+    read_made _ (λ told. IsGivenLook now told.look) shown.0 c.view.result now shown.2 shown.3
+    (λ answer gave. subst (λ (s : State). IsGivenLook s answer.look) gave.2 gave.1.1)

@@ -9,6 +9,7 @@ use Rattle.world.specs.Step.{may_leave, can_open, opened}
 use Rattle.world.specs.Stepping.{empty_store, AreStepped, world_of, recovered, floors_left, are_reached}
 use Rattle.world.proofs.Steps.{left_grow, left-taken, stepped-opened, open-steps, closed-steps}
 use Rattle.world.proofs.stepping.World.open.Goals as goal
+use Rattle.world.proofs.stepping.World.open.Goals.{After-are_reached}
 
 pub folded-requires : goal.folded-requires
 folded-requires c = record {
@@ -16,18 +17,18 @@ folded-requires c = record {
       ∙ left_grow c.self.inside.limits c.args.kept c.self.inside.board.order c.self.invariant.grow;
 }
 
-may : (c : goal.After-self-5-1) → may_leave (world_of c.self.inside) c.args.kept ≡ true
+may : (c : After-are_reached) → may_leave (world_of c.self.inside) c.args.kept ≡ true
 may c = ap (λ (w : World). may_leave w c.args.kept) c.self.view_is ∙ (sym c.may_leave.ensures ∙ c.if-not-may_leave.false)
 
-made_is : (c : goal.After-self-5-1) → c.in_ok-made.made ≡ fold (empty_store c.self.inside.limits) (takens (take c.args.kept c.self.inside.board.order))
+made_is : (c : After-are_reached) → c.in_ok-made.made ≡ fold (empty_store c.self.inside.limits) (takens (take c.args.kept c.self.inside.board.order))
 made_is c = c.in_ok-made.ensures.state
     ∙ ap (λ o. fold (empty_store c.self.inside.limits) (takens o)) (c.first.ensures ∙ ap (λ (w : World). take c.args.kept w.board.order) (sym c.self.view_is))
 
-state_is : (c : goal.After-self-5-1) → c.in_ok-state.state ≡ recovered (empty_store c.self.inside.limits) (takens (take c.args.kept c.self.inside.board.order)) c.args.milestones.now
+state_is : (c : After-are_reached) → c.in_ok-state.state ≡ recovered (empty_store c.self.inside.limits) (takens (take c.args.kept c.self.inside.board.order)) c.args.milestones.now
 state_is c = c.in_ok-state.ensures.same ∙ ap (λ (s : State). record s { documents = raised_each c.args.milestones.now s.documents }) (made_is c)
 
 -- what the test of the floors says
-reached : (c : goal.After-self-5-1) (answer : Bool) → c.are_reached.result ≡ answer
+reached : (c : After-are_reached) (answer : Bool) → c.are_reached.result ≡ answer
     → are_reached c.self.inside.composed.items 0 (fold (empty_store c.self.inside.limits) (takens (take c.args.kept c.self.inside.board.order))).documents c.in_ok-state.state.documents ≡ answer
 reached c answer is =
     ap (λ (s : State). are_reached c.self.inside.composed.items 0 s.documents c.in_ok-state.state.documents) (sym (made_is c))
@@ -36,7 +37,7 @@ reached c answer is =
 
 pub returns-then-not-are_reached-clause-ok : goal.returns-then-not-are_reached-clause-ok
 returns-then-not-are_reached-clause-ok c =
-    let all = (goal.at.returns-then-not-are_reached-clause-ok c).After-self-5-1 in
+    let all = (goal.at.returns-then-not-are_reached-clause-ok c).After-are_reached in
     sym c.self.view_is
     ∙ (closed-steps (world_of c.self.inside) c.self.inside.limits c.args.kept c.args.milestones.now c.in_ok-state.state c.self.invariant.start
     (omega (arith, c.docs.ensures.limits.keep)) (may all) (state_is all) (reached all false c.if-not-are_reached.true)
@@ -44,13 +45,15 @@ returns-then-not-are_reached-clause-ok c =
 
 pub invariant_of-self : goal.invariant_of-self
 invariant_of-self c =
+    let all = (goal.at.invariant_of-self c).After-are_reached in
     subst (λ b. AreStepped c.self.inside.limits b c.truncate.new.self.items c.args.kept c.args.kept c.args.kept) (sym c.reopen.ensures)
     (subst (λ o. AreStepped c.self.inside.limits (reopened c.self.inside.board c.in_ok-state.state c.args.kept) o c.args.kept c.args.kept c.args.kept) (sym c.truncate.ensures.items)
     (stepped-opened c.self.inside.limits c.self.inside.board c.self.inside.order.items c.self.inside.published c.self.inside.without c.self.inside.with_batch c.in_ok-state.state c.args.kept c.args.milestones.now
-    c.self.invariant (left-taken c.self.inside.limits (world_of c.self.inside) c.self.inside.order.items c.self.inside.published c.args.kept c.self.invariant (may c)) (state_is c)))
+    c.self.invariant (left-taken c.self.inside.limits (world_of c.self.inside) c.self.inside.order.items c.self.inside.published c.args.kept c.self.invariant (may all)) (state_is all)))
 
 pub returns-clause-ok : goal.returns-clause-ok
 returns-clause-ok c =
+    let all = (goal.at.returns-clause-ok c).After-are_reached in
     (λ i. record (world_of c.self.inside) {
       board = c.reopen.ensures i;
       published = takens (take c.args.kept (c.reopen.ensures i).order);
@@ -61,5 +64,5 @@ returns-clause-ok c =
       crashed = false;
     })
     ∙ (open-steps (world_of c.self.inside) c.self.inside.limits c.args.kept c.args.milestones.now c.in_ok-state.state c.self.invariant.start
-    (omega (arith, c.docs.ensures.limits.keep)) (may c) (state_is c) (reached c true c.if-not-are_reached.false)
+    (omega (arith, c.docs.ensures.limits.keep)) (may all) (state_is all) (reached all true c.if-not-are_reached.false)
     ∙ ap (λ (w : World). if can_open w c.args.kept (floors_left w c.args.kept c.args.milestones.now) then opened w c.args.kept (floors_left w c.args.kept c.args.milestones.now) else w) c.self.view_is)
