@@ -116,7 +116,7 @@ ROWS = [
     (
         "a deletion, and a creation again",
         DEEP,
-        b"".join([HELLO, CREATE, line(do="subscribe", doc="d", rev=1), line(do="delete", doc="d", n=2), FETCH, fetch(1), since(2)])
+        b"".join([HELLO, CREATE, line(do="delete", doc="d", n=2), FETCH, fetch(1), since(2), line(do="subscribe", doc="d", rev=2)])
         + b"".join([line(do="delete", doc="d", n=2), line(do="delete", doc="d", n=3), edit(3, 2, {"insert": "q"})])
         + b"".join([creation({"insert": "n"}, n=3), creation({"insert": "n"}), edit(4, 1, {"insert": "q"}), FETCH]),
         0,
