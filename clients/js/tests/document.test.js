@@ -146,8 +146,8 @@ test("a deletion ends a document that is open, and says so", async (t) => {
   const trouble = new Promise((resolve) => document.addEventListener("trouble", ({ error }) => resolve(error)));
   await creator.delete("d");
   document.apply([{ insert: "typed" }]);
+  await assert.rejects(document.flush(), { code: 40 });
   assert.equal((await trouble).code, 40);
-  await assert.rejects(document.flush());
 });
 
 test("what is too long for a line, or for the journal, is sent in parts", async (t) => {
