@@ -10,6 +10,7 @@ mod Indexed
 mod OneMore
 mod Noted
 mod Outcomes
+pub mod MadeDocuments
 mod Named
 mod Following
 mod Light

@@ -5,6 +5,7 @@ pub mod Command
 pub mod State
 pub mod Retries
 pub mod Floors
+pub mod Made
 pub mod Agree
 pub mod Acceptance
 pub mod Late

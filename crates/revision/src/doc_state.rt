@@ -1,5 +1,5 @@
 //! A document as a state holds it.
-ghost use Rattle.std.specs.Prelude.{◌≡◌, ◌&&◌, ◌+◌, ◌≤◌, ◌<◌, ◌^◌, ◌⊎◌, ◌∷◌, ◌++◌, ◌-◌, min, true, false, [], length, is_some, unwrap_or, IfOk, IfErr, OnOk, OnErr, IsErrOf, IsOkUnless};
+ghost use Rattle.std.specs.Prelude.{◌≡◌, ◌&&◌, ◌+◌, ◌≤◌, ◌<◌, ◌^◌, ◌⊎◌, ◌∷◌, ◌++◌, ◌-◌, min, true, false, [], length, is_some, unwrap_or, IfOk, IfErr, IfSome, OnOk, OnErr, IsErrOf, IsOkUnless};
 ghost use Rattle.delta.specs.Operation.{base_of, out_of};
 ghost use Rattle.delta.specs.Gaps.{counted, apply};
 ghost use Rattle.revision.specs.Floors.{raised};
@@ -117,17 +117,21 @@ impl DocState {
     }
 
     /// Prepares a change that follows what is prepared so far, as `place_for` tells; its source is looked for first at the place that
-    /// `place_for` gave. Its delta is moved into the past, and of a deletion one that deletes all. Refused for want of memory alone, and
-    /// then nothing more is prepared. What is read stays as it is.
+    /// `place_for` gave. Its delta is moved into the past, and of a deletion one that deletes all. Where the document that it leaves is
+    /// given, it is taken over, and none is made. Refused for want of memory alone, and then nothing more is prepared. What is read stays as
+    /// it is.
     pub(crate) fn prepare_next(
         &mut self,
         alloc: Global,
         limits: Limits,
         taken: Taken,
         near: usize,
+        made: Option<&Document>,
     ) -> Result<(), Refusal>
         requires limits { IsLimits limits }
         requires follows { follows limits (with_prepared limits.keep self.old) taken ≡ true }
+        requires made { IfSome made (λ document. document.now
+            ≡ units_after (prepared_units self.old.past) taken.step taken.delta) }
         ensures ok { OnOk result (self.new
             ≡ record self.old { past = record self.old.past { next = self.old.past.next ++ next_of taken ∷ [] } }) }
         ensures only { IsOkUnless result Refusal.NoMemory }
@@ -136,6 +140,9 @@ impl DocState {
         // nothing stands in a document that is deleted
         let _ = self.past.is_prepared_live();
         let change = change_on(alloc, self.ahead(), taken)?;
+        if let Some(made) = made {
+            return self.take_over(alloc, change, near, made);
+        }
         match self.next.as_mut() {
             // no document is made anew for a second change
             Some(next) => note_on(alloc, &mut self.past, &mut self.sources, next, change, near)?,
@@ -147,6 +154,42 @@ impl DocState {
             }
         }
         Ok(())
+    }
+
+    // Prepares a change that follows what is prepared, by the document that it leaves.
+    fn take_over(
+        &mut self,
+        alloc: Global,
+        change: Change,
+        near: usize,
+        made: &Document,
+    ) -> Result<(), Refusal>
+        requires named { is_source_name change.source ≡ true }
+        requires suits { spec_suits (prepared_content self.old.past).live change.step ≡ true }
+        requires leads { apply (prepared_units self.old.past) (counted change.delta)
+            ≡ units_after (prepared_units self.old.past) change.step change.delta }
+        requires accepted { IsAccepted (prepared_units self.old.past) (counted change.delta) }
+        requires short { length (apply (prepared_units self.old.past) (counted change.delta)) ≤ 2 ^ 29 }
+        requires revision { change.revision ≡ prepared_revision self.old.past + 1 }
+        requires last { change.revision < 2 ^ 53 }
+        requires made { made.now ≡ units_after (prepared_units self.old.past) change.step change.delta }
+        ensures ok { OnOk result (self.new
+            ≡ record self.old { past = record self.old.past { next = self.old.past.next ++ next_by change.source change.number change.step change.delta ∷ [] } }) }
+        ensures only { IsOkUnless result Refusal.NoMemory }
+        ensures unchanged { OnErr result (self.new ≡ self.old) }
+    {
+        let after = made.copy(alloc)?;
+        if self.next.is_none() {
+            self.past.keep(alloc, &self.document);
+        }
+        note(alloc, &mut self.past, &mut self.sources, change, near)?;
+        self.next = Some(after);
+        Ok(())
+    }
+
+    /// A place where a source is looked for first, among those after what is prepared.
+    pub(crate) fn near(&self, source: &Name) -> usize {
+        self.sources.prepared().look_up(source).place
     }
 
     // what stands in it after what is prepared
@@ -196,6 +239,13 @@ impl DocState {
         self.past.forget();
         self.sources.forget();
         self.next = None;
+    }
+
+    /// Lets go of what lies below its floor, as `Past::let_go` does.
+    pub(crate) fn let_go(&mut self, alloc: Global)
+        ensures { self.new ≡ self.old }
+    {
+        self.past.let_go(alloc);
     }
 
     /// The same document, held from a revision on, of which nothing is prepared. Refused for want of memory alone.

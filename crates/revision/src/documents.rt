@@ -1,20 +1,22 @@
 //! Documents with what is prepared to follow.
-ghost use Rattle.std.specs.Prelude.{◌≡◌, ◌↔◌, ◌⊎◌, ◌≤◌, ◌<◌, ◌∷◌, ◌++◌, [], true, false, None, Some, ℕ, List, length, map, take, slice_get, bytes_eq, ◌==◌, ◌&&◌, nat_lt, is_none, is_some, cond, option_map, IfOk, IfErr, OnOk, OnErr, IsErrOf, IsOkUnless};
+ghost use Rattle.std.specs.Prelude.{◌≡◌, ◌↔◌, ◌⊎◌, ◌≤◌, ◌<◌, ◌∷◌, ◌++◌, [], true, false, None, Some, ℕ, List, length, map, take, slice_get, bytes_eq, ◌==◌, ◌&&◌, nat_lt, is_none, is_some, cond, option_map, IfOk, IfErr, IfSome, OnOk, OnErr, IsErrOf, IsOkUnless};
 ghost use Rattle.std.specs.BTreeMap.{get_by_text};
 ghost use Rattle.revision.specs.steps.ChangedAt.{changed_at, changed_at_all};
 ghost use Rattle.revision.specs.Documents.{unprepared};
 ghost use Rattle.revision.specs.steps.DocumentsView.{names_of};
 ghost use Rattle.revision.specs.steps.Index.{IsIndex, NoneTwice};
 ghost use Rattle.revision.specs.Invariants.{IsLimits};
+ghost use Rattle.revision.specs.Made.{AreMade, IsMade, text_of};
 ghost use Rattle.revision.specs.Pending.{record_of, with_prepared};
 ghost use Rattle.revision.specs.steps.Preparing.{accepted, forgotten, with_next, begun};
-ghost use Rattle.revision.specs.State.{begins as spec_begins, has_room, next_of, continues_by_name, grows, grown, all_grow, first_grows, fold, find};
+ghost use Rattle.revision.specs.State.{begins as spec_begins, has_room, next_of, continues_by_name, record_by_name, grows, grown, all_grow, first_grows, fold, find};
 
 use crate::doc_state::{DocState, begins};
 use crate::limits::Limits;
 use crate::name::Name;
 use crate::names::Names;
 use crate::taken::Taken;
+use document::Document;
 use refusal::Refusal;
 use std::alloc::Global;
 use std::marker::Model;
@@ -101,10 +103,57 @@ impl Documents {
         let Some(near) = self.place_for(alloc, taken) else {
             return Err(Refusal::Stranger);
         };
-        if let Err(refusal) = self.prepare_next(alloc, taken, near) {
+        if let Err(refusal) = self.prepare_next(alloc, taken, near, None) {
             return Err(refusal);
         }
         Ok(())
+    }
+
+    /// Prepares a command that continues what was prepared: it isn't looked at again. Where the document that it leaves is given, it is
+    /// taken over. Refused as out of memory alone, and then all is unchanged.
+    pub(crate) fn add(
+        &mut self,
+        alloc: Global,
+        taken: &Taken,
+        made: Option<&Document>,
+    ) -> Result<(), Refusal>
+        requires continues { grows self.old.after taken.now ≡ true }
+        requires made { IfSome made (λ document. IsMade self.old.after taken.now document.now) }
+        ensures ok { OnOk result (self.new ≡ record self.old { after = grown self.old.after taken.now }) }
+        ensures only { IsOkUnless result Refusal.NoMemory }
+        ensures unchanged { OnErr result (self.new ≡ self.old) }
+    {
+        let near = self.near(taken);
+        self.prepare_next(alloc, taken, near, made)
+    }
+
+    // a place where a command's source is looked for first
+    fn near(&self, taken: &Taken) -> usize {
+        match self.documents.get(taken.document_number() as usize) {
+            Some(document) => document.near(taken.source()),
+            None => 0,
+        }
+    }
+
+    // prepares a command, by the document that it leaves where that is given
+    fn prepare_one(
+        &mut self,
+        alloc: Global,
+        taken: &Taken,
+        made: Option<&Document>,
+    ) -> Result<(), Refusal>
+        requires made { IfSome made (λ document. IsMade self.old.after taken.now document.now) }
+        ensures ok { OnOk result (self.new ≡ record self.old { after = grown self.old.after taken.now }) }
+        ensures grow { OnOk result (grows self.old.after taken.now ≡ true) }
+        ensures stranger { IsErrOf result Refusal.Stranger → grows self.old.after taken.now ≡ false }
+        ensures memory { IsErrOf result Refusal.NoMemory → grows self.old.after taken.now ≡ true }
+        ensures only { IfErr result (λ e. (e ≡ Refusal.Stranger) ⊎ (e ≡ Refusal.NoMemory)) }
+        ensures unchanged { OnErr result (self.new ≡ self.old) }
+    {
+        match made {
+            Some(document) => self.add(alloc, taken, Some(document)),
+            None => self.prepare(alloc, taken),
+        }
     }
 
     /// Prepares a command that was taken, as `prepare` does; its delta is moved, where it changes a document that is there.
@@ -159,15 +208,22 @@ impl Documents {
     }
 
     // prepares a command that continues what was prepared
-    fn prepare_next(&mut self, alloc: Global, taken: &Taken, near: usize) -> Result<(), Refusal>
+    fn prepare_next(
+        &mut self,
+        alloc: Global,
+        taken: &Taken,
+        near: usize,
+        made: Option<&Document>,
+    ) -> Result<(), Refusal>
         requires continues { grows self.old.after taken.now ≡ true }
+        requires made { IfSome made (λ document. IsMade self.old.after taken.now document.now) }
         ensures ok { OnOk result (self.new ≡ record self.old { after = grown self.old.after taken.now }) }
         ensures only { IsOkUnless result Refusal.NoMemory }
         ensures unchanged { OnErr result (self.new ≡ self.old) }
     {
         match taken.name() {
             Some(name) => self.create(alloc, taken, name),
-            None => self.change_next(alloc, taken.copy(alloc)?, near),
+            None => self.change_next(alloc, taken.copy(alloc)?, near, made),
         }
     }
 
@@ -185,20 +241,27 @@ impl Documents {
     {
         match taken.name() {
             Some(name) => self.create(alloc, &taken, name),
-            None => self.change_next(alloc, taken, near),
+            None => self.change_next(alloc, taken, near, None),
         }
     }
 
     // prepares a change of a document that is there, which continues what was prepared
-    fn change_next(&mut self, alloc: Global, taken: Taken, near: usize) -> Result<(), Refusal>
+    fn change_next(
+        &mut self,
+        alloc: Global,
+        taken: Taken,
+        near: usize,
+        made: Option<&Document>,
+    ) -> Result<(), Refusal>
         requires name { taken.name ≡ None }
         requires continues { grows self.old.after taken ≡ true }
+        requires made { IfSome made (λ document. IsMade self.old.after taken document.now) }
         ensures ok { OnOk result (self.new ≡ record self.old { after = grown self.old.after taken }) }
         ensures only { IsOkUnless result Refusal.NoMemory }
         ensures unchanged { OnErr result (self.new ≡ self.old) }
     {
         self.touched.push(taken.document_number())?;
-        change(alloc, &mut self.documents, self.limits, taken, near)?;
+        change(alloc, &mut self.documents, self.limits, taken, near, made)?;
         Ok(())
     }
 
@@ -276,8 +339,14 @@ impl Documents {
     }
 
     /// Prepares commands in order. What it is refused with, and when, `prepare` says of each; then the first of them may be
-    /// prepared, but what is held stays as it is.
-    pub(crate) fn prepare_all(&mut self, alloc: Global, batch: &[Taken]) -> Result<(), Refusal>
+    /// prepared, but what is held stays as it is. Where the document that a command leaves is given, it is taken over.
+    pub(crate) fn prepare_all(
+        &mut self,
+        alloc: Global,
+        batch: &[Taken],
+        made: &[Document],
+    ) -> Result<(), Refusal>
+        requires made { AreMade self.old.after batch.now made.now }
         ensures before { self.new.before ≡ self.old.before }
         ensures ok { OnOk result (self.new.after ≡ fold self.old.after batch.now) }
         ensures grow { OnOk result (all_grow self.old.after batch.now ≡ true) }
@@ -285,8 +354,8 @@ impl Documents {
         ensures memory { IsErrOf result Refusal.NoMemory → first_grows self.old.after batch.now ≡ true }
         ensures only { IfErr result (λ e. (e ≡ Refusal.Stranger) ⊎ (e ≡ Refusal.NoMemory)) }
     {
-        for taken in batch {
-            self.prepare(alloc, taken)?;
+        for i in 0..batch.len() {
+            self.prepare_one(alloc, &batch[i], made.get(i))?;
         }
         Ok(())
     }
@@ -319,6 +388,14 @@ impl Documents {
         self.count = self.documents.len();
     }
 
+    /// Lets go of what lies below a document's floor, where there is one of this number: of the text of one that was deleted or created
+    /// again at once, else some hundred revisions at a time. It does so as far as memory goes; what is seen stays unchanged.
+    pub(crate) fn let_go(&mut self, alloc: Global, number: u32)
+        ensures { self.new ≡ self.old }
+    {
+        let_go_of(alloc, &mut self.documents, number as usize);
+    }
+
     /// Forgets what was prepared. It takes no memory, isn't refused, and goes through what was touched alone.
     pub(crate) fn forget(&mut self)
         ensures { self.new ≡ unprepared self.old.before }
@@ -348,17 +425,21 @@ fn change(
     limits: Limits,
     taken: Taken,
     near: usize,
+    made: Option<&Document>,
 ) -> Result<(), Refusal>
     requires limits { IsLimits limits }
     requires continues { continues_by_name limits
         (slice_get (map (with_prepared limits.keep) documents.old.items) taken.document) taken None ≡ true }
+    requires made { IfSome made (λ document. document.now
+        ≡ text_of (record_by_name limits.keep
+        (slice_get (map (with_prepared limits.keep) documents.old.items) taken.document) taken None)) }
     ensures ok { OnOk result (documents.new.items
         ≡ changed_at (with_next (next_of taken)) taken.document documents.old.items) }
     ensures only { IsOkUnless result Refusal.NoMemory }
     ensures unchanged { OnErr result (documents.new.items ≡ documents.old.items) }
 {
     let number = taken.document_number() as usize;
-    documents[number].prepare_next(alloc, limits, taken, near)?;
+    documents[number].prepare_next(alloc, limits, taken, near, made)?;
     Ok(())
 }
 
@@ -370,7 +451,7 @@ fn begin(alloc: Global, limits: Limits, taken: &Taken, name: &Name) -> Result<Do
     ensures only { IsOkUnless result Refusal.NoMemory }
 {
     let mut document = DocState::empty(alloc, name.copy(alloc)?);
-    document.prepare_next(alloc, limits, taken.copy(alloc)?, 0)?;
+    document.prepare_next(alloc, limits, taken.copy(alloc)?, 0, None)?;
     Ok(document)
 }
 
@@ -411,6 +492,14 @@ fn accept_one(documents: &mut Vec<DocState>, number: usize, limits: Limits)
 {
     if number < documents.len() {
         documents[number].accept(limits);
+    }
+}
+
+fn let_go_of(alloc: Global, documents: &mut Vec<DocState>, number: usize)
+    ensures { documents.new.items ≡ documents.old.items }
+{
+    if number < documents.len() {
+        documents[number].let_go(alloc);
     }
 }
 

@@ -1,9 +1,11 @@
 //! What was taken is added to the state.
-ghost use Rattle.std.specs.Prelude.{◌≡◌, ◌↔◌, ◌⊎◌, true, false, IfOk, IfErr, OnOk, OnErr, IsErrOf};
+ghost use Rattle.std.specs.Prelude.{◌≡◌, ◌↔◌, ◌⊎◌, true, false, IfOk, IfErr, OnOk, OnErr, IsErrOf, IsOkUnless};
+ghost use Rattle.revision.specs.Made.{AreMade};
 ghost use Rattle.revision.specs.State.{grows, grown, fold, all_grow, first_grows};
 
 use crate::state::{PreparedState, State, Unprepared};
 use crate::taken::Taken;
+use document::Document;
 use refusal::Refusal;
 use std::alloc::Global;
 
@@ -12,8 +14,16 @@ impl State {
     /// those before it make, unless memory runs out before that one is looked at (`NoMemory`). The first command is looked at
     /// before any memory is taken, so for it alone the order is sure: where it doesn't continue the state, the refusal is
     /// `Stranger`. The state then comes back as it was.
+    ///
+    /// Of the first commands the documents may be given as they leave them: these are then taken over, and neither made nor weighed.
     #[tactic(auto, using(crate::proofs::Keeping::all_keep))]
-    pub fn prepare(self, alloc: Global, batch: &[Taken]) -> Result<PreparedState, Unprepared>
+    pub fn prepare(
+        self,
+        alloc: Global,
+        batch: &[Taken],
+        made: &[Document],
+    ) -> Result<PreparedState, Unprepared>
+        requires made { AreMade self batch.now made.now }
         ensures before { IfOk result (λ prepared. prepared.before ≡ self) }
         ensures after { IfOk result (λ prepared. prepared.after ≡ fold self batch.now) }
         ensures grow { OnOk result (all_grow self batch.now ≡ true) }
@@ -26,7 +36,7 @@ impl State {
             ⊎ (unprepared.refusal ≡ Refusal.NoMemory)) }
     {
         let mut documents = self.documents;
-        match documents.prepare_all(alloc, batch) {
+        match documents.prepare_all(alloc, batch, made) {
             Ok(()) => Ok(PreparedState { documents }),
             Err(refusal) => {
                 documents.forget();
@@ -49,14 +59,44 @@ impl State {
     {
         self.documents.prepare(alloc, taken)?;
         self.documents.accept();
+        self.documents.let_go(alloc, taken.document_number());
         Ok(())
+    }
+
+    /// Adds a command that continues the state: it isn't looked at again. Refused as out of memory alone, and then the state is unchanged.
+    pub fn add(&mut self, alloc: Global, taken: &Taken) -> Result<(), Refusal>
+        requires grow { grows self.old taken.now ≡ true }
+        ensures ok { OnOk result (self.new ≡ grown self.old taken.now) }
+        ensures only { IsOkUnless result Refusal.NoMemory }
+        ensures unchanged { OnErr result (self.new ≡ self.old) }
+    {
+        self.documents.add(alloc, taken, None)?;
+        self.documents.accept();
+        self.documents.let_go(alloc, taken.document_number());
+        Ok(())
+    }
+
+    /// Lets go of what documents that these commands changed hold from below their floors, as far as memory goes: of a deleted document
+    /// that is its text. The state stays unchanged.
+    pub fn let_go(&mut self, alloc: Global, batch: &[Taken])
+        ensures { self.new ≡ self.old }
+    {
+        for taken in batch {
+            self.documents.let_go(alloc, taken.document_number());
+        }
     }
 
     /// Adds commands in order, all of them or none. Refused with `Stranger` where one of them doesn't continue what
     /// those before it have made, unless memory runs out before that one is looked at (`NoMemory`), which for the first
-    /// command can't be. A refusal leaves the state unchanged.
+    /// command can't be. A refusal leaves the state unchanged. The documents that the first commands leave may be given, as to `prepare`.
     #[tactic(auto, using(crate::proofs::Keeping::all_keep))]
-    pub fn absorb_all(&mut self, alloc: Global, batch: &[Taken]) -> Result<(), Refusal>
+    pub fn absorb_all(
+        &mut self,
+        alloc: Global,
+        batch: &[Taken],
+        made: &[Document],
+    ) -> Result<(), Refusal>
+        requires made { AreMade self.old batch.now made.now }
         ensures ok { OnOk result (self.new ≡ fold self.old batch.now) }
         ensures grow { OnOk result (all_grow self.old batch.now ≡ true) }
         ensures stranger { IsErrOf result Refusal.Stranger → all_grow self.old batch.now ≡ false }
@@ -64,7 +104,7 @@ impl State {
         ensures only { IfErr result (λ e. (e ≡ Refusal.Stranger) ⊎ (e ≡ Refusal.NoMemory)) }
         ensures unchanged { OnErr result (self.new ≡ self.old) }
     {
-        let prepared = self.documents.prepare_all(alloc, batch);
+        let prepared = self.documents.prepare_all(alloc, batch, made);
         match prepared {
             Ok(()) => self.documents.accept(),
             Err(_) => self.documents.forget(),

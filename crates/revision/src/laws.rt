@@ -4,6 +4,7 @@ ghost use Rattle.std.specs.Str.{is_utf8};
 ghost use Rattle.utf16.specs.Units.{units_of};
 ghost use Rattle.revision.specs.Spellable.{IsText};
 ghost use Rattle.revision.specs.Acceptance.{TakenGrows};
+ghost use Rattle.revision.specs.Made.{MadeMore, MadeBefore, MadeFirst, MadeRest, MadeFew};
 ghost use Rattle.revision.specs.Parting.{PartsTold};
 ghost use Rattle.revision.specs.Replay.{PartsStand};
 ghost use Rattle.revision.specs.Agree.{AgreeSame, AgreeTurned, AgreeThrough, AgreeingContinue, AgreeingGrow, AgreeingAnswer, AgreeingAnswerHeld};
@@ -98,4 +99,13 @@ pub fn floors()
     ensures newest { FromNewest }
     ensures longer { FromLonger }
     ensures step { StepMakes }
+{}
+
+/// Documents stand beside commands still, as commands are added and taken off in front.
+pub fn made_documents()
+    ensures more { MadeMore }
+    ensures before { MadeBefore }
+    ensures first { MadeFirst }
+    ensures rest { MadeRest }
+    ensures few { MadeFew }
 {}

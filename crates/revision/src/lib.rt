@@ -34,6 +34,7 @@
 #![tactic(auto)]
 
 mod adopting;
+mod batch;
 mod command;
 mod copying;
 mod doc_state;
@@ -57,6 +58,7 @@ mod taker;
 mod widths;
 mod window;
 
+pub use batch::Batch;
 pub use command::{Action, Command};
 pub use doc_state::DocState;
 pub use limits::Limits;
