@@ -95,8 +95,13 @@ module _ (start : State) (order : List Entry) (ticket : Ticket) (new : Board Ent
 
       as_many : length old + 1 ≡ length (untaken new) → length old ≡ length (takens (drop new.taken order))
       as_many many =
-          omega (arith, many, ap (λ (o : List Entry). length (takens (drop new.taken o))) last.longer, ap length (longer start order put new.taken last.within),
-          length-append (takens (drop new.taken order)) (put.taken ∷ []))
+          omega (
+            arith,
+            many,
+            ap (λ (o : List Entry). length (takens (drop new.taken o))) last.longer,
+            ap length (longer start order put new.taken last.within),
+            length-append (takens (drop new.taken order)) (put.taken ∷ []),
+          )
 
   -- It was there before: the order stays.
   pub keeps_again : (revision : ℕ) → WasBefore start order ticket new revision → (kept : List (List Element))
@@ -137,8 +142,8 @@ module _ (start : State) (board : Board Entry) (documents : List (List Element))
   before_rest count =
       sym (fold-append start (takens (take board.taken board.order)) (take count (untaken board)))
       ∙ ap (fold start) (ap (λ (l : List Taken). takens (take board.taken board.order) ++ l) (sym (takens-take count (drop board.taken board.order)))
-          ∙ sym (takens-append (take board.taken board.order) (take count (drop board.taken board.order)))
-          ∙ ap takens (sym (take-add board.taken count board.order)))
+      ∙ sym (takens-append (take board.taken board.order) (take count (drop board.taken board.order)))
+      ∙ ap takens (sym (take-add board.taken count board.order)))
 
   rest_of : (count : ℕ) → drop count (untaken board) ≡ takens (drop (board.taken + count) board.order)
   rest_of count = sym (takens-drop count (drop board.taken board.order)) ∙ ap takens (drop-drop count board.taken board.order)

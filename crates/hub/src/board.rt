@@ -383,7 +383,7 @@ fn keep_made<J: Site>(
 fn keep_last(alloc: Global, made: &mut Vec<Document>, board: &Inner, last: &Entry)
     ensures { (made.new.items ≡ made.old.items)
         ⊎ ((length made.old.items + 1 ≡ length (untaken board.now))
-            × (made.new.items ≡ made.old.items ++ text_at board.now.state last.now.taken.document ∷ [])) }
+        × (made.new.items ≡ made.old.items ++ text_at board.now.state last.now.taken.document ∷ [])) }
 {
     if made.len() + 1 != board.untaken().len() {
         return;
