@@ -60,15 +60,28 @@ module _ (start : State) (order : List Entry) (entry : Entry) (n : ℕ) (within 
       (made_more (fold start (takens (take n order))) (takens (drop n order)) documents entry.taken document are many
       (subst (λ (s : State). IsMade s entry.taken document) (sym (whole start order n)) is))
 
+  as_many : (old : List (List Element)) → length old + 1 ≡ length (takens (drop n (order ++ entry ∷ []))) → length old ≡ length (takens (drop n order))
+  as_many old many = omega (arith, many, ap length longer, length-append (takens (drop n order)) (entry.taken ∷ []))
+
+  -- a command more, with its document where there is one for each before it, or without
+  command_kept : (old kept : List (List Element)) (document : List Element) → AreMadeThere start order n (takens (drop n order)) old
+      → IsMade (fold start (takens order)) entry.taken document
+      → (kept ≡ old) ⊎ ((length old + 1 ≡ length (takens (drop n (order ++ entry ∷ [])))) × (kept ≡ old ++ document ∷ []))
+      → AreMadeThere start (order ++ entry ∷ []) n (takens (drop n (order ++ entry ∷ []))) kept
+  command_kept old kept document are is (inl same) =
+      subst (λ (d : List (List Element)). AreMadeThere start (order ++ entry ∷ []) n (takens (drop n (order ++ entry ∷ []))) d) (sym same) (command_more old are)
+  command_kept old kept document are is (inr (many, more)) =
+      subst (λ (d : List (List Element)). AreMadeThere start (order ++ entry ∷ []) n (takens (drop n (order ++ entry ∷ []))) d) (sym more)
+      (document_more old document are (as_many old many) is)
+
 module _ (start : State) (order : List Entry) (ticket : Ticket) (new : Board Entry) (was : WasSubmitted start order ticket new) where
   -- what the command that was taken leaves
-  last_made : (revision : ℕ) (last : TakenLast start order ticket new revision) (entry : Entry) (document : List Element)
-      → entry ≡ entry_of ticket.command last.taken → document ≡ text_at new.state entry.taken.document → IsMade (fold start (takens order)) last.taken document
-  last_made revision last entry document is left = record {
+  last_made : (revision : ℕ) (last : TakenLast start order ticket new revision) (entry : Entry) → entry ≡ entry_of ticket.command last.taken
+      → IsMade (fold start (takens order)) last.taken (text_at new.state entry.taken.document)
+  last_made revision last entry is = record {
     continues = taken_grows (fold start (takens order)) ticket.command last.taken was.numbered.0 was.numbered.1 last.answered;
-    left = left
-        ∙ ap (λ (e : Entry). text_at new.state e.taken.document) is
-        ∙ ap (λ (s : State). text_at s last.taken.document) last.state;
+    left =
+        ap (λ (e : Entry). text_at new.state e.taken.document) is ∙ ap (λ (s : State). text_at s last.taken.document) last.state;
   }
 
   -- The command was taken: its document is put behind the others, where there are as many as commands before it, or the others stay.
@@ -77,31 +90,12 @@ module _ (start : State) (order : List Entry) (ticket : Ticket) (new : Board Ent
       → (kept ≡ old) ⊎ ((length old + 1 ≡ length (untaken new)) × (kept ≡ old ++ text_at new.state entry.taken.document ∷ []))
       → AreMadeThere start new.order new.taken (untaken new) kept
   keeps_taken revision last entry old kept is are may =
-      subst (λ (o : List Entry). AreMadeThere start o new.taken (takens (drop new.taken o)) kept) (sym last.longer) (elim may [
-        | inl same ↦ subst (AreMadeThere start behind new.taken (takens (drop new.taken behind))) (sym same)
-            (command_more start order put new.taken last.within old are)
-        | inr more ↦ subst (AreMadeThere start behind new.taken (takens (drop new.taken behind))) (sym more.1)
-            (document_more start order put new.taken last.within old document are (as_many more.0) (last_made revision last entry document is refl))
-      ])
-    where
-      put : Entry
-      put = entry_of ticket.command last.taken
-
-      behind : List Entry
-      behind = order ++ put ∷ []
-
-      document : List Element
-      document = text_at new.state entry.taken.document
-
-      as_many : length old + 1 ≡ length (untaken new) → length old ≡ length (takens (drop new.taken order))
-      as_many many =
-          omega (
-            arith,
-            many,
-            ap (λ (o : List Entry). length (takens (drop new.taken o))) last.longer,
-            ap length (longer start order put new.taken last.within),
-            length-append (takens (drop new.taken order)) (put.taken ∷ []),
-          )
+      subst (λ (o : List Entry). AreMadeThere start o new.taken (takens (drop new.taken o)) kept) (sym last.longer)
+      (command_kept start order (entry_of ticket.command last.taken) new.taken last.within old kept (text_at new.state entry.taken.document) are
+      (last_made revision last entry is)
+      (subst
+      (λ (o : List Entry). (kept ≡ old) ⊎ ((length old + 1 ≡ length (takens (drop new.taken o))) × (kept ≡ old ++ text_at new.state entry.taken.document ∷ [])))
+      last.longer may))
 
   -- It was there before: the order stays.
   pub keeps_again : (revision : ℕ) → WasBefore start order ticket new revision → (kept : List (List Element))
