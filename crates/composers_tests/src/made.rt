@@ -7,7 +7,7 @@ use delta::{Builder, Delta, Op};
 use disk::MemDisk;
 use milestone::Job;
 use recovery::{Pick, Shape, Store, format_device};
-use revision::{Command, Name, Plan, Taken};
+use revision::{Batch, Command, Name, Plan, Taken};
 use std::process::Abort;
 
 /// A device of 16,448 bytes, whose documents keep 64 revisions.
@@ -42,21 +42,25 @@ fn command(rt: &(impl Abort + AllocGlobal), number: u64) -> Command {
 }
 
 // Commits a batch. No clause is kept of what comes of it, so callers are checked faster.
-fn is_committed(
-    rt: &(impl Abort + AllocGlobal),
-    store: &mut Store<MemDisk>,
-    batch: &[Taken],
-) -> bool
+fn is_committed(rt: &(impl Abort + AllocGlobal), store: &mut Store<MemDisk>, batch: &Batch) -> bool
     requires some { 1 ≤ length batch.now }
     requires short { length batch.now < 2 ^ 32 }
     requires fits { FitsSlot (state_of store.old) batch.now }
 {
-    store.commit(rt.alloc(), batch).is_ok()
+    store.commit(rt.alloc(), batch, &[]).is_ok()
+}
+
+fn batch_of(rt: &(impl Abort + AllocGlobal), commands: Vec<Taken>) -> Batch {
+    match Batch::of(rt.alloc(), commands) {
+        Ok(batch) => batch,
+        Err(refusal) => panic!(rt; "{refusal}"),
+    }
 }
 
 fn committed(rt: &(impl Abort + AllocGlobal), store: &mut Store<MemDisk>, taken: Taken) {
-    let batch = [taken];
-    assert!(rt; store.fits(&batch));
+    let commands = vec![in rt.alloc(); taken].expect(rt, "memory");
+    let batch = batch_of(rt, commands);
+    assert!(rt; batch.as_slice().len() == 1 && store.fits(batch.as_slice()));
     assert!(rt; is_committed(rt, store, &batch));
 }
 

@@ -6,7 +6,7 @@ use crate::composing::{ROOMY, TURNS, started};
 use crate::rows::SHAPE;
 use crate::seats::submitted;
 use disk::{Disk, MemDisk};
-use fixtures::{command, commit, new_store, open_store, wide_command, write};
+use fixtures::{command, commit_taken, new_store, open_store, wide_command, write};
 use flusher::{Flusher, OpenGate};
 use hub::{Hub, Seat, Writer};
 use published::{Opened, Site};
@@ -77,7 +77,7 @@ fn command_to(rt: &(impl Abort + AllocGlobal), document: u32, number: u64) -> Co
 
 fn is_written(rt: &(impl Abort + AllocGlobal), store: &mut Store<MemDisk>, next: &Command) {
     match store.state().plan(rt.alloc(), next) {
-        Ok(Plan::Taken(taken)) => assert!(rt; commit(rt.alloc(), store, &[taken]).is_ok()),
+        Ok(Plan::Taken(taken)) => assert!(rt; commit_taken(rt.alloc(), store, taken).is_ok()),
         _ => panic!(rt; "{}", next.number()),
     }
 }

@@ -1,7 +1,7 @@
 //! Steps that a store alone takes.
 use crate::scripts::{Step, command_of};
 use disk::FaultDisk;
-use fixtures::commit;
+use fixtures::commit_taken;
 use milestone::compose_job;
 use recovery::Store;
 use refusal::Refusal;
@@ -17,7 +17,7 @@ pub fn write(
     match store.state().plan(alloc, command)? {
         Plan::Taken(taken) => {
             let rev = taken.revision();
-            commit(alloc, store, &[taken])?;
+            commit_taken(alloc, store, taken)?;
             Ok(Reply::Taken { rev })
         }
         Plan::Again { rev } => Ok(Reply::Again { rev }),

@@ -1,8 +1,7 @@
 -- What a step of a run leaves that was refused.
-use Rattle.std.proofs.Common.{◌≡◌, ◌⊎◌, inl, inr, ℕ, ◌+◌, ◌≤◌, ◌<◌, false, List, [], ◌∷◌, ◌++◌, Vec, length, take, get_or, refl, ap, sym, subst, arith, ◌∙◌}
+use Rattle.std.proofs.Common.{◌≡◌, ◌⊎◌, inl, inr, ℕ, ◌+◌, ◌≤◌, ◌<◌, false, List, [], ◌∷◌, ◌++◌, length, take, get_or, refl, ap, sym, subst, arith, ◌∙◌}
 use Rattle.std.proofs.lemmas.List.{take_more}
 use Rattle.std.specs.Prelude.{Result, Ok, Err, OnErr, IfErr, IsErrOf}
-use Rattle.std.specs.declared.alloc.Global.{Global}
 use Rattle.disk.specs.declared.device.Disk.{Ghosts}
 use Rattle.disk.specs.Crash.{LeavesOnly}
 use Rattle.disk.proofs.CallerLemmas.{leaves_map}
@@ -19,16 +18,16 @@ use Rattle.recovery.specs.declared.run.StoreStep.{StoreStep}
 use Rattle.recovery.specs.Begun.{IsLeftBy, IsLeftByMemory, jobs_behind, jobs_after}
 
 module _ {D : Type 0} {disk : Ghosts D} (old new : Store D disk) where
-  pub left_commit : {A : Type 0} (batch : Vec Taken Global) (commands : List Taken) → commands ≡ batch.items → (refusal : Refusal) → state_of new ≡ state_of old → known_marks new ≡ known_marks old
+  pub left_commit : {A : Type 0} (batch : List Taken) (refusal : Refusal) → state_of new ≡ state_of old → known_marks new ≡ known_marks old
       → kept_jobs new ≡ kept_jobs old → length (disk.past (device_of new)) ≤ length (disk.past (device_of old)) + 8
-      → (has_failed old ≡ false → IsOpen old → LeavesOnly disk (IsWithOrWithout (state_of old) commands) (device_of old) (device_of new))
+      → (has_failed old ≡ false → IsOpen old → LeavesOnly disk (IsWithOrWithout (state_of old) batch) (device_of old) (device_of new))
       → (IsErrOf {T = A} {E = Refusal} (Err refusal) NoMemory → IsUnchanged old new) → IsLeftBy (Commit batch) refusal old new
-  left_commit batch commands same refusal state marks jobs calls any_moment given_up = record {
+  left_commit batch refusal state marks jobs calls any_moment given_up = record {
     state = state;
     marks = marks;
     jobs = jobs;
     calls = calls;
-    any_moment = λ unfailed is_open. subst (λ (l : List Taken). LeavesOnly disk (IsWithOrWithout (state_of old) l) (device_of old) (device_of new)) same (any_moment unfailed is_open);
+    any_moment = any_moment;
     memory = λ is. given_up (ap (λ (r : Refusal). Err r) is);
   }
 

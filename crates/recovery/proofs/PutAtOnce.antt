@@ -124,15 +124,6 @@ module _ {D : Type 0} {disk : Ghosts D} where
       (has_not_failed old new answer fails (had_not_failed answer before), state, λ is_open. record { may = may is_open; retired = done is_open })
   given_up old new (Err refusal) before fails state may done = tt
 
-  -- a commit that was Ok
-  pub committed_by : (old new : Store D disk) (commands items : List Taken) → commands ≡ items → has_failed new ≡ false → all_grow (state_of old) commands ≡ true
-      → state_of new ≡ fold (state_of old) commands → ((is_open : IsOpen old) → IsCommittedNow commands old is_open new) → has_room old commands ≡ true
-      → (has_failed new ≡ false) × (all_grow (state_of old) items ≡ true) × (state_of new ≡ fold (state_of old) items)
-      × ((is_open : IsOpen old) → IsCommittedNow items old is_open new) × (has_room old items ≡ true)
-  committed_by old new commands items same works grow state committed room =
-      subst (λ (l : List Taken). (has_failed new ≡ false) × (all_grow (state_of old) l ≡ true) × (state_of new ≡ fold (state_of old) l)
-      × ((is_open : IsOpen old) → IsCommittedNow l old is_open new) × (has_room old l ≡ true)) same (works, grow, state, committed, room)
-
   -- one step more was taken
   pushed : (first : List StoreStep) (step : StoreStep) (old mid new : Store D disk) → AreTaken first old mid → IsTaken step mid new → AreTaken (first ++ step ∷ []) old new
   pushed [] step old mid new same taken = (new, subst (λ (s : Store D disk). IsTaken step s new) same taken, refl)

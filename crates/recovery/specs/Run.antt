@@ -21,7 +21,7 @@ use Rattle.recovery.specs.Open.{FitsSlot, IsOpen, IsCommittedNow, IsPutNow, IsRe
 
 -- the batch of a step, empty where it commits none
 abbrev pub batch_of : StoreStep → List Taken
-batch_of (Commit batch) = batch.items
+batch_of (Commit batch) = batch
 batch_of (Milestone document revision) = []
 batch_of Retire = []
 
@@ -50,7 +50,7 @@ pub record CanCommit (state : State) (batch : List Taken) : Type 0 where
 
 -- the batch of a step can be committed, if it has one
 abbrev pub CanTake : State → StoreStep → Type 0
-CanTake state (Commit batch) = CanCommit state batch.items
+CanTake state (Commit batch) = CanCommit state batch
 CanTake state (Milestone document revision) = Unit {0}
 CanTake state Retire = Unit {0}
 
@@ -86,8 +86,8 @@ module _ {D : Type 0} {disk : Ghosts D} where
   -- A step was taken, by a store that goes on: its batch was committed, or its milestone may be put and was, or the oldest segment retired.
   abbrev pub IsTaken : StoreStep → Store D disk → Store D disk → Type 0
   IsTaken (Commit batch) old new =
-      (has_failed new ≡ false) × (all_grow (state_of old) batch.items ≡ true) × (state_of new ≡ fold (state_of old) batch.items)
-      × ((is_open : IsOpen old) → IsCommittedNow batch.items old is_open new) × (has_room old batch.items ≡ true)
+      (has_failed new ≡ false) × (all_grow (state_of old) batch ≡ true) × (state_of new ≡ fold (state_of old) batch)
+      × ((is_open : IsOpen old) → IsCommittedNow batch old is_open new) × (has_room old batch ≡ true)
   IsTaken (Milestone document revision) old new =
       (has_failed new ≡ false) × (state_of new ≡ state_of old) × MayPut document revision old
       × ((is_open : IsOpen old) → IsPutAt document revision old is_open new)
@@ -110,7 +110,7 @@ module _ {D : Type 0} {disk : Ghosts D} where
   -- Why a store refuses a step, where neither its device failed nor memory ran out.
   abbrev pub IsWhy : StoreStep → Refusal → Store D disk → Type 0
   IsWhy (Commit batch) refusal store =
-      ((refusal ≡ JournalFull) × (has_room store batch.items ≡ false)) ⊎ ((refusal ≡ Stranger) × (all_grow (state_of store) batch.items ≡ false))
+      ((refusal ≡ JournalFull) × (has_room store batch ≡ false)) ⊎ ((refusal ≡ Stranger) × (all_grow (state_of store) batch ≡ false))
   IsWhy (Milestone document revision) refusal store =
       (is_open : IsOpen store) → no_job_for (slice_get (state_of store).documents document) (highest (cells_at is_open.cells document)) revision ≡ Some refusal
   IsWhy Retire refusal store = (refusal ≡ StillNeeded) × ((is_open : IsOpen store) → ¬ MayRetire is_open.table is_open.cells)

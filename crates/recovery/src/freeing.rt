@@ -1,5 +1,6 @@
 //! Making room in a journal that is full.
 ghost use Rattle.std.specs.Prelude.{◌≡◌, ◌≢◌, ◌⊎◌, ◌<◌, ◌≤◌, ◌+◌, ◌*◌, ◌^◌, ℕ, true, false, length, get_or, OnOk, OnErr, IfOk, IfErr, IsErrOf};
+ghost use Rattle.revision.specs.Made.{AreMade};
 ghost use Rattle.revision.specs.State.{all_grow};
 ghost use Rattle.segments.specs.Numbers.{IsOldest};
 ghost use Rattle.segments.specs.Ring.{known_numbers};
@@ -17,8 +18,9 @@ use crate::marks::Mark;
 use crate::receipt::Receipt;
 use crate::store::Store;
 use disk::Disk;
+use document::Document;
 use refusal::Refusal;
-use revision::Taken;
+use revision::Batch;
 use std::alloc::Global;
 
 impl<D: Disk> Store<D> {
@@ -58,10 +60,16 @@ impl<D: Disk> Store<D> {
     /// Commits a batch as `commit` does; where it finds no room for it, it frees the oldest segment first, as `free_oldest` does. So
     /// in an open store neither `JournalFull` nor `StillNeeded` comes before the segments' numbers are used up, of which 2^64 - 1 is
     /// the last one. Whatever was freed for it, no refusal changes the documents.
-    pub fn commit_freeing(&mut self, alloc: Global, batch: &[Taken]) -> Result<Receipt<D>, Refusal>
+    pub fn commit_freeing(
+        &mut self,
+        alloc: Global,
+        batch: &Batch,
+        made: &[Document],
+    ) -> Result<Receipt<D>, Refusal>
         requires some { 1 ≤ length batch.now }
         requires short { length batch.now < 2 ^ 32 }
         requires fits { FitsSlot (state_of self.old) batch.now }
+        requires made { AreMade (state_of self.old) batch.now made.now }
 
         // What an Ok hands out names just this batch.
         ensures receipt { IfOk result (λ receipt. receipt ≡ batch.now) }
@@ -85,12 +93,12 @@ impl<D: Disk> Store<D> {
         ensures goes { Goes (IsWithOrWithout (state_of self.old) batch.now) self.old self.new }
     {
         if self.has_room(batch) {
-            return self.commit(alloc, batch);
+            return self.commit(alloc, batch, made);
         }
         if let Err(refusal) = self.free_oldest(alloc) {
             return Err(refusal);
         }
-        self.commit(alloc, batch)
+        self.commit(alloc, batch, made)
     }
 
     // Puts the milestones of each document that has an entry in the oldest segment. `StillNeeded` comes where a document can't be given

@@ -16,7 +16,7 @@
 //! use disk::Disk;
 //! use recovery::{Receipt, Store};
 //! use refusal::Refusal;
-//! use revision::Taken;
+//! use revision::{Batch, Taken};
 //! use std::alloc::Global;
 //!
 //! /// Commits one command. A crash at any moment leaves the state without it or with it, and at Ok the store goes on.
@@ -30,7 +30,9 @@
 //!         → LeavesOnly ⟦<D as Disk>⟧ (IsWithOrWithout (state_of store.old) (taken ∷ [])) (device_of store.old) (device_of store.new) }
 //!     ensures done { OnOk result (IsOpen store.old → IsOpen store.new) }
 //! {
-//!     store.commit(alloc, &[taken])
+//!     let commands = vec![in alloc; taken]?;
+//!     let batch = Batch::of(alloc, commands)?;
+//!     store.commit(alloc, &batch, &[])
 //! }
 //! ```
 #![tactic(auto)]

@@ -67,6 +67,7 @@ impl<D: Disk> Store<D> {
         match self.cells[document as usize].replace_older(alloc, &mut self.device, milestone) {
             Ok(()) => {
                 self.jobs.forget(document);
+                self.state.let_go_of(alloc, document);
                 Ok(())
             }
             Err(refusal) => {

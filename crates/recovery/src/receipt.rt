@@ -2,15 +2,14 @@
 ghost use Rattle.std.specs.Prelude.{◌≡◌, IfOk, IsOkUnless};
 
 use refusal::Refusal;
-use revision::Taken;
-use std::alloc::Global;
+use revision::Batch;
 use std::marker::{Model, PhantomData};
 
-/// A batch that a store has committed: `Store::commit` alone makes one, and `copy` another one of the same batch. Its value in
-/// contracts is the batch.
+/// A batch that a store has committed: `Store::commit` alone makes one, and `copy` another one of the same batch. It shares the batch with
+/// whoever gave it. Its value in contracts is the batch.
 #[derive(Drop)]
 pub struct Receipt<D> {
-    batch: Vec<Taken>,
+    batch: Batch,
     store: PhantomData<D>,
 }
 
@@ -20,45 +19,33 @@ impl<D> Model for Receipt<D> {
 
     ghost Value = { List Taken };
 
-    ghost view = { λ r. r.batch.items };
+    ghost view = { λ r. r.batch };
 }
 
 impl<D> Receipt<D> {
     // A receipt for this batch, which is still to be committed: the store hands it out once it is.
-    pub(crate) fn of(alloc: Global, batch: &[Taken]) -> Result<Receipt<D>, Refusal>
+    pub(crate) fn of(batch: &Batch) -> Result<Receipt<D>, Refusal>
         ensures batch { IfOk result (λ receipt. receipt ≡ batch.now) }
         ensures only { IsOkUnless result Refusal.NoMemory }
     {
         Ok(Receipt {
-            batch: copies(alloc, batch)?,
+            batch: batch.share()?,
             store: PhantomData,
         })
     }
 
-    /// The commands of the batch, in order.
-    pub fn batch(&self) -> &[Taken]
+    /// The batch.
+    pub fn batch(&self) -> &Batch
         ensures { result.now ≡ self.now }
     {
-        self.batch.as_slice()
+        &self.batch
     }
 
-    /// Another receipt of the same batch. Refused as out of memory alone.
-    pub fn copy(&self, alloc: Global) -> Result<Receipt<D>, Refusal>
+    /// Another receipt of the same batch, which both share. Refused with `NoMemory`, where it can have no more owners.
+    pub fn copy(&self) -> Result<Receipt<D>, Refusal>
         ensures same { IfOk result (λ receipt. receipt ≡ self.now) }
         ensures only { IsOkUnless result Refusal.NoMemory }
     {
-        Receipt::of(alloc, self.batch())
+        Receipt::of(&self.batch)
     }
-}
-
-// Equal commands in the same order. Refused as out of memory alone.
-fn copies(alloc: Global, batch: &[Taken]) -> Result<Vec<Taken>, Refusal>
-    ensures same { IfOk result (λ copies. copies.items ≡ batch.now) }
-    ensures only { IsOkUnless result Refusal.NoMemory }
-{
-    let mut copies = Vec::with_capacity(alloc, batch.len())?;
-    for taken in batch {
-        copies.push(taken.copy(alloc)?)?;
-    }
-    Ok(copies)
 }

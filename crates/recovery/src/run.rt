@@ -12,14 +12,14 @@ ghost use Rattle.recovery.specs.Run.{CanTake, IsOfStep, IsTaken, AreTaken, IsWhy
 use crate::store::Store;
 use disk::Disk;
 use refusal::Refusal;
-use revision::Taken;
+use revision::Batch;
 use std::alloc::Global;
 
 /// A step of a run.
 #[derive(Drop)]
 pub enum StoreStep {
     /// Commit this batch.
-    Commit(Vec<Taken>),
+    Commit(Batch),
     /// Put a milestone of the document of this number, in order of creation, at this revision.
     Milestone(u32, u64),
     /// Retire the oldest segment.
@@ -129,7 +129,7 @@ impl<D: Disk> Store<D> {
     {
         match step {
             StoreStep::Commit(batch) => {
-                if let Err(refusal) = self.commit(alloc, batch) {
+                if let Err(refusal) = self.commit(alloc, batch, &[]) {
                     return Err(refusal);
                 }
                 Ok(())

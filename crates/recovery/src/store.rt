@@ -4,6 +4,8 @@ ghost use Rattle.disk.specs.Calls.{HasOnlyWritten, CountsFaultsAs};
 ghost use Rattle.disk.specs.Counted.{calls_of, syncs_of};
 ghost use Rattle.disk.specs.Crash.{LeavesOnly};
 ghost use Rattle.journal.specs.BatchSpelling.{IsBatch, batch as spelled, batch_width};
+ghost use Rattle.revision.specs.Made.{AreMade};
+ghost use Rattle.revision.specs.State.{fold, all_grow, first_grows};
 ghost use Rattle.segments.specs.Slot.{Segment};
 ghost use Rattle.segments.specs.Ring.{Fits, SamePlaces, IsLeftByAppend, end_of, size_of, fits_newest};
 ghost use Rattle.recovery.specs.steps.Appending.{IsDone};
@@ -22,11 +24,12 @@ use crate::reading::read_store;
 use crate::receipt::Receipt;
 use crate::shape::Shape;
 use disk::Disk;
+use document::Document;
 use history::Pick;
 use journal::{Record, batch_len};
 use milestone::Cells;
 use refusal::Refusal;
-use revision::{State, Taken};
+use revision::{Batch, PreparedState, State, Taken, Unprepared};
 use segments::Ring;
 use std::alloc::Global;
 use std::mem::replace;
@@ -67,7 +70,6 @@ impl<D: Disk> Store<D> {
     ghost use Rattle.recovery.specs.Found.{Found, FoundAs};
     ghost use Rattle.revision.specs.Agree.{Agree};
     ghost use Rattle.recovery.specs.Knows.{Knows};
-    ghost use Rattle.revision.specs.State.{fold, all_grow, first_grows};
     ghost use Rattle.recovery.specs.Open.{FitsSlot, IsOpen, IsUnchanged, IsCommittedNow, IsWithOrWithout, device_of, state_of, has_failed, has_room, kept_jobs, known_cells, known_marks, fits_newest_segment};
 
     /// Opens a formatted device, by the newer or the older cell of each document: syncs it, then reads, and writes nothing.
@@ -182,10 +184,19 @@ impl<D: Disk> Store<D> {
     /// later one unless memory runs out before. `NoMemory` comes before any call of the device, and leaves all unchanged. After `Fault`
     /// the store has failed: every later call answers `Fault`, until the device is opened again. The documents change only once
     /// the batch is on the disk, and no refusal changes them.
-    pub fn commit(&mut self, alloc: Global, batch: &[Taken]) -> Result<Receipt<D>, Refusal>
+    ///
+    /// The documents that the first of the commands leave may be given: the store takes these over, and makes the others. The receipt
+    /// shares the batch.
+    pub fn commit(
+        &mut self,
+        alloc: Global,
+        batch: &Batch,
+        made: &[Document],
+    ) -> Result<Receipt<D>, Refusal>
         requires some { 1 ≤ length batch.now }
         requires short { length batch.now < 2 ^ 32 }
         requires fits { FitsSlot (state_of self.old) batch.now }
+        requires made { AreMade (state_of self.old) batch.now made.now }
 
         // What an Ok hands out names just this batch.
         ensures receipt { IfOk result (λ receipt. receipt ≡ batch.now) }
@@ -256,20 +267,21 @@ impl<D: Disk> Store<D> {
             return Err(Refusal::JournalFull);
         }
         let empty = State::new(alloc, self.state.limits());
-        let prepared = match replace(&mut self.state, empty).prepare(alloc, batch) {
+        let prepared = match prepare_batch(alloc, replace(&mut self.state, empty), batch, made) {
             Ok(prepared) => prepared,
             Err(unprepared) => {
                 self.state = unprepared.state;
                 return Err(unprepared.refusal);
             }
         };
-        let Ok(receipt) = make_receipt(alloc, &mut self.marks, batch) else {
+        let Ok(receipt) = make_receipt(&mut self.marks, batch) else {
             self.state = prepared.forget();
             return Err(Refusal::NoMemory);
         };
         match append_batch(alloc, &mut self.ring, &mut self.device, batch) {
             Ok(()) => {
                 self.state = prepared.accept();
+                self.state.let_go(alloc, batch.as_slice());
                 mark_batch(&self.ring, &mut self.marks, batch);
                 Ok(receipt)
             }
@@ -289,30 +301,48 @@ impl<D: Disk> Store<D> {
     }
 
     // Whether the batch fits behind what is there.
-    pub(crate) fn has_room(&self, batch: &[Taken]) -> bool
+    pub(crate) fn has_room(&self, batch: &Batch) -> bool
         requires some { 1 ≤ length batch.now }
         requires short { length batch.now < 2 ^ 32 }
         requires fits { FitsSlot (state_of self.now) batch.now }
         ensures room { result ≡ has_room self.now batch.now }
         ensures is_batch { IsBatch batch.now }
     {
-        self.ring.has_room(batch_len(batch))
+        self.ring.has_room(batch_len(batch.as_slice()))
     }
 }
 
-// The receipt of a batch that is still to be committed, and room for its marks. Refused as out of memory alone. The marks stay.
-fn make_receipt<D: Disk>(
+// Prepares a batch on the documents of a store.
+fn prepare_batch(
     alloc: Global,
-    marks: &mut Marks,
-    batch: &[Taken],
-) -> Result<Receipt<D>, Refusal>
+    state: State,
+    batch: &Batch,
+    made: &[Document],
+) -> Result<PreparedState, Unprepared>
+    requires made { AreMade state batch.now made.now }
+    ensures before { IfOk result (λ prepared. prepared.before ≡ state) }
+    ensures after { IfOk result (λ prepared. prepared.after ≡ fold state batch.now) }
+    ensures grow { OnOk result (all_grow state batch.now ≡ true) }
+    ensures unchanged { IfErr result (λ unprepared. unprepared.state ≡ state) }
+    ensures stranger { IfErr result (λ unprepared. unprepared.refusal ≡ Refusal.Stranger
+        → all_grow state batch.now ≡ false) }
+    ensures memory { IfErr result (λ unprepared. unprepared.refusal ≡ Refusal.NoMemory
+        → first_grows state batch.now ≡ true) }
+    ensures only { IfErr result (λ unprepared. (unprepared.refusal ≡ Refusal.Stranger)
+        ⊎ (unprepared.refusal ≡ Refusal.NoMemory)) }
+{
+    state.prepare(alloc, batch.as_slice(), made)
+}
+
+// The receipt of a batch that is still to be committed, and room for its marks. Refused as out of memory alone. The marks stay.
+fn make_receipt<D: Disk>(marks: &mut Marks, batch: &Batch) -> Result<Receipt<D>, Refusal>
     ensures receipt { IfOk result (λ receipt. receipt ≡ batch.now) }
     ensures room { OnOk result (length batch.now ≤ room_of marks.new) }
     ensures same { marks_of marks.new ≡ marks_of marks.old }
     ensures only { IsOkUnless result Refusal.NoMemory }
 {
-    marks.make_room(batch)?;
-    let receipt = Receipt::of(alloc, batch)?;
+    marks.make_room(batch.as_slice())?;
+    let receipt = Receipt::of(batch)?;
     Ok(receipt)
 }
 
@@ -321,7 +351,7 @@ fn append_batch<D: Disk>(
     alloc: Global,
     ring: &mut Ring,
     disk: &mut D,
-    batch: &[Taken],
+    batch: &Batch,
 ) -> Result<(), Refusal>
     requires within { end_of ring.old ≤ length (D.seen disk.old) }
     requires some { 1 ≤ length batch.now }
@@ -354,18 +384,18 @@ fn append_batch<D: Disk>(
     ensures only_written { HasOnlyWritten ⟦<D as Disk>⟧ disk.old disk.new }
     ensures faults { CountsFaultsAs ⟦<D as Disk>⟧ Refusal.Fault result disk.old disk.new }
 {
-    let record = Record::of_batch(alloc, batch)?;
+    let record = Record::of_batch(alloc, batch.as_slice())?;
     ring.append(disk, &record)
 }
 
 // Marks the documents of a batch in the newest segment, which it was appended to. It takes no memory.
-fn mark_batch(ring: &Ring, marks: &mut Marks, batch: &[Taken])
+fn mark_batch(ring: &Ring, marks: &mut Marks, batch: &Batch)
     requires { length batch.now ≤ room_of marks.old }
     ensures noted { (slot : ℕ) (number : ℕ) → IsNewest (known_numbers ring.now) slot number
         → IsNoted number batch.now (marks_of marks.old) (marks_of marks.new) }
     ensures grows { length (marks_of marks.new) ≤ length (marks_of marks.old) + length batch.now }
 {
     if let Some(segment) = ring.newest_number() {
-        marks.note(segment, batch);
+        marks.note(segment, batch.as_slice());
     }
 }

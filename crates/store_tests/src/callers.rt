@@ -21,7 +21,7 @@ use journal::{Area, Record};
 use milestone::{Cells, Format, Job, Milestone, ReadCells, Uncomposed, compose_job};
 use recovery::{Receipt, Store};
 use refusal::Refusal;
-use revision::Taken;
+use revision::{Batch, Taken};
 use segments::Ring;
 use std::alloc::Global;
 
@@ -126,5 +126,7 @@ pub fn commit_one<D: Disk>(
         (device_of store.new) }
     ensures done { OnOk result (IsOpen store.old → IsOpen store.new) }
 {
-    store.commit(alloc, &[taken])
+    let commands = vec![in alloc; taken]?;
+    let batch = Batch::of(alloc, commands)?;
+    store.commit(alloc, &batch, &[])
 }

@@ -6,7 +6,7 @@ use crate::scripts::{
 };
 use crate::stopping::calls_before;
 use crate::stores::{
-    SLOT, are_bytes, device_of, is_answer, is_opened_as, open_store, part, with_bytes_at,
+    SLOT, are_bytes, batch_of, device_of, is_answer, is_opened_as, open_store, part, with_bytes_at,
 };
 use disk::{Disk, FaultDisk, FaultPlan, MemDisk};
 use journal::decode_batch;
@@ -21,10 +21,11 @@ pub fn commit_freeing<D: Disk>(
     bytes: &[u8],
 ) -> Result<(), Refusal> {
     let found = decode_batch(rt.alloc(), bytes).expect(rt, "memory");
-    let batch = found.expect(rt, "a batch");
-    assert!(rt; 1 <= batch.len() && batch.len() <= 9);
-    assert!(rt; store.fits(&batch));
-    match store.commit_freeing(rt.alloc(), &batch) {
+    let batch = batch_of(rt, found.expect(rt, "a batch"));
+    let commands = batch.as_slice();
+    assert!(rt; 1 <= commands.len() && commands.len() <= 9);
+    assert!(rt; store.fits(commands));
+    match store.commit_freeing(rt.alloc(), &batch, &[]) {
         Ok(_) => Ok(()),
         Err(refusal) => Err(refusal),
     }

@@ -5,8 +5,8 @@ ghost use Rattle.recovery.specs.Run.{CanTake};
 
 use crate::batches::EDIT;
 use crate::stores::{
-    Row, SLOT, differ_by, extend, formatted_device, has_documents, open_store, part, push_text,
-    session, small_device,
+    Row, SLOT, batch_of, differ_by, extend, formatted_device, has_documents, open_store, part,
+    push_text, session, small_device,
 };
 use disk::Disk;
 use journal::decode_batch;
@@ -89,9 +89,10 @@ pub fn step<D: Disk>(rt: &(impl Abort + AllocGlobal), store: &Store<D>, bytes: &
     ensures { CanTake (state_of store.now) result }
 {
     let found = decode_batch(rt.alloc(), bytes).expect(rt, "memory");
-    let batch = found.expect(rt, "a batch");
-    assert!(rt; 1 <= batch.len() && batch.len() <= 9);
-    assert!(rt; store.fits(&batch));
+    let batch = batch_of(rt, found.expect(rt, "a batch"));
+    let commands = batch.as_slice();
+    assert!(rt; 1 <= commands.len() && commands.len() <= 9);
+    assert!(rt; store.fits(commands));
     StoreStep::Commit(batch)
 }
 

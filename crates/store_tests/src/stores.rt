@@ -1,5 +1,5 @@
 //! Stores on devices in memory. What they are to hold stands in docs/FORMATS.md, and is written out by hand here.
-ghost use Rattle.std.specs.Prelude.{◌≤◌, ◌<◌, ◌^◌, length};
+ghost use Rattle.std.specs.Prelude.{◌≡◌, ◌≤◌, ◌<◌, ◌^◌, length};
 ghost use Rattle.recovery.specs.Open.{FitsSlot, state_of};
 
 use attributes::Attrs;
@@ -7,7 +7,7 @@ use delta::{Builder, Delta, Op, OpRef};
 use disk::{Disk, MemDisk};
 use recovery::{OpenFault, Pick, Receipt, Shape, Store, format_device};
 use refusal::Refusal;
-use revision::{Command, DocState, Name, Plan, State, Taken};
+use revision::{Batch, Command, DocState, Name, Plan, State, Taken};
 use std::process::Abort;
 
 /// A device of 1,600 bytes: cells at 64, 320, 576 and 832, slots at 1,088 and 1,344.
@@ -256,17 +256,27 @@ pub fn edit(rt: &(impl Abort + AllocGlobal), number: u64, base: u64, text: &str)
     Command::edit(doc, source, number, base, insert_of(rt, text)).expect(rt, "an edit")
 }
 
+/// A batch of these commands.
+pub fn batch_of(rt: &(impl Abort + AllocGlobal), commands: Vec<Taken>) -> Batch
+    ensures { result ≡ commands.items }
+{
+    match Batch::of(rt.alloc(), commands) {
+        Ok(batch) => batch,
+        Err(refusal) => panic!(rt; "{refusal}"),
+    }
+}
+
 // Commits a batch. No clause is kept of what comes of it, so callers are checked faster.
 fn commit<D: Disk>(
     rt: &(impl Abort + AllocGlobal),
     store: &mut Store<D>,
-    batch: &[Taken],
+    batch: &Batch,
 ) -> Result<Receipt<D>, Refusal>
     requires some { 1 ≤ length batch.now }
     requires short { length batch.now < 2 ^ 32 }
     requires fits { FitsSlot (state_of store.old) batch.now }
 {
-    store.commit(rt.alloc(), batch)
+    store.commit(rt.alloc(), batch, &[])
 }
 
 // Commits what was taken of a command.
@@ -275,8 +285,9 @@ fn commit_taken<D: Disk>(
     store: &mut Store<D>,
     taken: Taken,
 ) -> Result<(), Refusal> {
-    let batch = [taken];
-    assert!(rt; store.fits(&batch));
+    let commands = vec![in rt.alloc(); taken].expect(rt, "memory");
+    let batch = batch_of(rt, commands);
+    assert!(rt; batch.as_slice().len() == 1 && store.fits(batch.as_slice()));
     match commit(rt, store, &batch) {
         Ok(_) => Ok(()),
         Err(refusal) => Err(refusal),

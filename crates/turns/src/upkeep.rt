@@ -33,7 +33,7 @@ impl Upkeep {
     // Notes a batch that was settled, whose documents are looked at in the next turn.
     pub(crate) fn note<D>(&mut self, receipt: &Receipt<D>) {
         if let Some(exchange) = &mut self.exchange {
-            exchange.note(receipt.batch());
+            exchange.note(receipt.batch().as_slice());
         }
     }
 

@@ -1,8 +1,8 @@
-use Rattle.std.proofs.Common.{◌≡◌, false, List, ℕ, inl, subst}
+use Rattle.std.proofs.Common.{◌≡◌, ◌∙◌, false, List, ℕ, ap, inl, subst}
 use Rattle.std.proofs.lemmas.Result.{on_ok_weaker}
 use Rattle.disk.specs.Crash.{history_of}
 use Rattle.disk.proofs.CallerLemmas.{begins}
-use Rattle.journal.specs.BatchSpelling.{batch_width}
+use Rattle.journal.specs.BatchSpelling.{batch, batch_width}
 use Rattle.segments.specs.Ring.{fits_newest}
 use Rattle.segments.proofs.CallerLemmas.{full_ring}
 use Rattle.recovery.specs.steps.Appending.{IsDone}
@@ -18,7 +18,7 @@ returns-in_err-record-clause-any_moment g c table synced fits =
 pub returns-clause-full : goal.returns-clause-full
 returns-clause-full g c is =
     let ring = c.args.ring.now in
-    let wide = c.in_ok-record.ensures.width in
+    let wide = c.in_ok-record.ensures.width ∙ ap batch_width c.as_slice.ensures in
     let both = c.append.ensures.full.0 is in
     (full_ring ring (batch_width c.args.batch.now)).1 (subst (λ n. fits_newest ring n ≡ false) wide both.0, both.1)
 
@@ -26,7 +26,7 @@ pub returns-clause-done : goal.returns-clause-done
 returns-clause-done g c =
     let old = g.D.Disk.seen c.args.disk.now in
     let new = g.D.Disk.seen c.append.new.disk in
-    let body = c.in_ok-record.ensures.spelled in
+    let body = c.in_ok-record.ensures.spelled ∙ ap batch c.as_slice.ensures in
     on_ok_weaker c.append.result (λ done table fits.
     let now = done table fits in
     subst (λ (l : List ℕ). IsDone old c.args.ring.now table l new c.append.new.self) body (record { ready = now.0; is_ready = now.1; now = now.2; appended = now.3; fits = now.4 }))

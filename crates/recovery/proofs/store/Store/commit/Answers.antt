@@ -51,8 +51,8 @@ returns-in-Ok-append_batch-clause-committed g c is_open =
     let store = c.args.self.now in
     let commands = c.args.batch.now in
     let grow : all_grow store.state commands ≡ true = subst (λ (s : State). all_grow s commands ≡ true) c.replace.ensures.value c.in-Ok.ensures.grow in
-    let state : c.accept.result ≡ fold store.state commands =
-    c.accept.ensures ∙ c.in-Ok.ensures.after ∙ ap (λ (s : State). fold s commands) c.replace.ensures.value in
+    let state : c.let_go.new.self ≡ fold store.state commands =
+    c.let_go.ensures ∙ c.accept.ensures ∙ c.in-Ok.ensures.after ∙ ap (λ (s : State). fold s commands) c.replace.ensures.value in
     let places = c.append_batch.ensures.places in
     let done : IsDone (g.D.Disk.seen store.device) store.ring is_open.table (batch commands) (g.D.Disk.seen c.append_batch.new.disk) c.append_batch.new.ring =
     c.in-Ok-append_batch.ensures.done is_open.table is_open.fits in
@@ -101,9 +101,9 @@ append_batch-requires-clause-wide g c =
 pub invariant_of-self-in-Ok-append_batch-clause-slot : goal.invariant_of-self-in-Ok-append_batch-clause-slot
 invariant_of-self-in-Ok-append_batch-clause-slot g c =
     let store = c.args.self.now in
-    let state : c.accept.result ≡ fold store.state c.args.batch.now =
-    c.accept.ensures ∙ c.in-Ok.ensures.after ∙ ap (λ (s : State). fold s c.args.batch.now) c.replace.ensures.value in
-    let width : c.accept.result.limits.width ≡ store.state.limits.width = ap (λ (s : State). s.limits.width) state ∙ ap (λ (l : Limits). l.width) (fold-limits store.state c.args.batch.now) in
+    let state : c.let_go.new.self ≡ fold store.state c.args.batch.now =
+    c.let_go.ensures ∙ c.accept.ensures ∙ c.in-Ok.ensures.after ∙ ap (λ (s : State). fold s c.args.batch.now) c.replace.ensures.value in
+    let width : c.let_go.new.self.limits.width ≡ store.state.limits.width = ap (λ (s : State). s.limits.width) state ∙ ap (λ (l : Limits). l.width) (fold-limits store.state c.args.batch.now) in
     c.append_batch.ensures.places.size ∙ store.slot ∙ ap (λ n. n + 19) (sym width)
 
 -- it was given up before the first call

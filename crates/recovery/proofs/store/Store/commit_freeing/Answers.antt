@@ -3,6 +3,7 @@ use Rattle.std.specs.Prelude.{Err}
 use Rattle.std.proofs.lemmas.Bool.{false≢true}
 use Rattle.refusal.specs.declared.Refusal.{Refusal}
 use Rattle.refusal.specs.declared.Refusal.TheVariants.{JournalFull, StillNeeded, Stranger, NoMemory}
+use Rattle.revision.specs.Made.{AreMade}
 use Rattle.revision.specs.State.{State, fold, all_grow}
 use Rattle.journal.specs.BatchSpelling.{batch_width}
 use Rattle.segments.specs.declared.ring.Ring.{Ring}
@@ -111,6 +112,10 @@ returns-in-Err-clause-costs g c = costs_more 2 10 c.args.self.now c.free_oldest.
 
 pub returns-in-Err-clause-goes : goal.returns-in-Err-clause-goes
 returns-in-Err-clause-goes g c = goes_map (λ content found. inl found) c.free_oldest.ensures.goes
+
+-- freeing leaves the documents, so those that are given continue them still
+pub commit-2-requires-clause-made : goal.commit-2-requires-clause-made
+commit-2-requires-clause-made g c = subst (λ (s : State). AreMade s c.args.batch.now c.args.made.now) (sym c.free_oldest.ensures.state) c.requires.made
 
 -- it was freed, and the batch is committed
 pub returns-clause-faults : goal.returns-clause-faults

@@ -3,6 +3,7 @@ use Rattle.std.specs.Prelude.{Contains, Err, ◌+◌, ◌^◌}
 use Rattle.disk.specs.Crash.{history_of}
 use Rattle.disk.proofs.CallerLemmas.{begins, leaves_map}
 use Rattle.history.specs.Cell.{Cell, cells_at}
+use Rattle.history.specs.Running.{Runs}
 use Rattle.milestone.specs.Job.{Job, cell_of_job}
 use Rattle.milestone.specs.CellSpelling.{IsCell, cell_body}
 use Rattle.milestone.specs.Cells.{IsLeftByReplacing, FitsNow, number_of, size_of}
@@ -16,12 +17,13 @@ use Rattle.recovery.proofs.Putting.{keeps, inside_items, its_cells, cells_within
 use Rattle.recovery.proofs.KeptJobs.{kept_put}
 use Rattle.recovery.proofs.Going.{open_unchanged}
 use Rattle.recovery.specs.Cells.{FitEach}
-use Rattle.recovery.specs.Found.{limits_of}
+use Rattle.recovery.specs.Found.{commands_of, limits_of}
 use Rattle.disk.specs.Crash.{LeavesOnly}
 use Rattle.history.specs.Cell.{with_pair, freed}
 use Rattle.milestone.specs.Cells.{with_cell}
 use Rattle.milestone.specs.CellSpelling.{inserts_of}
 use Rattle.revision.specs.Sources.{count_of}
+use Rattle.revision.specs.State.{State}
 use Rattle.revision.specs.Width.{delta_width}
 use Rattle.recovery.proofs.store.Store.put_milestone.Goals as goal
 
@@ -181,8 +183,9 @@ returns-in-Ok-clause-done g c is_open =
         cells_fit = subst (λ n. FitEach (g.D.Disk.seen c.replace_older.new.disk) (set store.cells.items n c.replace_older.new.self) (with_pair job.document (after store is_open job now_kept inside one its) is_open.cells)) (sym is)
             (fit_now store is_open job now_kept inside one its _ c.replace_older.new.self now);
         marked = is_open.marked;
-        limits = is_open.limits;
-        runs = runs_after store is_open job now_kept inside one its;
+        limits = subst (λ (s : State). s.limits ≡ limits_of store.shape) (sym c.let_go_of.ensures) is_open.limits;
+        runs = subst (Runs is_open.order (with_pair job.document (after store is_open job now_kept inside one its) is_open.cells) (commands_of is_open.batches)) (sym c.let_go_of.ensures)
+            (runs_after store is_open job now_kept inside one its);
         kept = subst (CanAllBePut is_open.order (with_pair job.document (after store is_open job now_kept inside one its) is_open.cells))
             (ap (λ n. without_job n (kept_jobs store)) (sym is) ∙ sym c.forget.ensures)
             (kept_put is_open.order is_open.cells job.document (after store is_open job now_kept inside one its) (kept_jobs store) is_open.kept);

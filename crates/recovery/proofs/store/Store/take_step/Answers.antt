@@ -9,7 +9,7 @@ use Rattle.recovery.specs.Run.{IsTaken, IsWhy}
 use Rattle.recovery.proofs.HandedOut.{on_ok}
 use Rattle.recovery.proofs.Faults.{faults_ok, faults_told}
 use Rattle.recovery.proofs.Begun.{left_commit, left_milestone, left_retire}
-use Rattle.recovery.proofs.PutAtOnce.{committed_by, given_up, retire_why, goes_on_retired, goes_on_needed}
+use Rattle.recovery.proofs.PutAtOnce.{given_up, retire_why, goes_on_retired, goes_on_needed}
 use Rattle.recovery.proofs.store.Store.take_step.Goals as goal
 
 -- without a batch the state stays
@@ -37,7 +37,7 @@ pub returns-in_default-clause-taken : goal.returns-in_default-clause-taken
 returns-in_default-clause-taken g c =
     let done = c.in_default.ensures in
     subst (λ (s : StoreStep). IsTaken s c.args.self.now c.commit.new.self) (sym c.in-Commit.is)
-    (committed_by c.args.self.now c.commit.new.self c.deref.result.now c.in-Commit.batch.items c.deref.ensures.value done.faults.works done.grow done.state done.committed done.room)
+    (done.faults.works, done.grow, done.state, done.committed, done.room)
 
 pub returns-in-Milestone-clause-taken : goal.returns-in-Milestone-clause-taken
 returns-in-Milestone-clause-taken g c =
@@ -76,7 +76,7 @@ pub returns-in-Err-clause-left : goal.returns-in-Err-clause-left
 returns-in-Err-clause-left g c =
     let e = c.commit.ensures in
     subst (λ (s : StoreStep). IsLeftBy s c.in-Err.refusal c.args.self.now c.commit.new.self) (sym c.in-Commit.is)
-    (left_commit c.args.self.now c.commit.new.self c.in-Commit.batch c.deref.result.now c.deref.ensures.value c.in-Err.refusal c.in-Err.ensures.same_state c.in-Err.ensures.same_marks e.jobs e.calls
+    (left_commit c.args.self.now c.commit.new.self c.in-Commit.batch c.in-Err.refusal c.in-Err.ensures.same_state c.in-Err.ensures.same_marks e.jobs e.calls
     e.any_moment c.in-Err.ensures.given_up)
 
 pub returns-in-Milestone-clause-left : goal.returns-in-Milestone-clause-left
