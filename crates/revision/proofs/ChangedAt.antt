@@ -70,3 +70,9 @@ among-more i (k ∷ js) j (inr among) = inr (among-more i js j among)
 pub among-last : (js : List ℕ) (j : ℕ) → IsAmong j (js ++ j ∷ [])
 among-last [] j = inl refl
 among-last (k ∷ js) j = inr (among-last js j)
+
+-- where nothing is changed the list stays
+pub changed_at-same : {X : Type 0} (i : ℕ) (xs : List X) → changed_at (λ (x : X). x) i xs ≡ xs
+changed_at-same i [] = refl
+changed_at-same zero (x ∷ xs) = refl
+changed_at-same (suc i) (x ∷ xs) = ap (λ ys. x ∷ ys) (changed_at-same i xs)

@@ -1,7 +1,7 @@
 -- What stands beside commands, and what a command leaves in its document.
 use Rattle.std.proofs.Common.{◌≡◌, ℕ, zero, suc, ◌+◌, ◌<◌, ◌≤◌, true, Some, None, List, [], ◌∷◌, ◌++◌, length, map, take, drop, get_or, refl, sym, ap, subst, ◌∙◌, arith}
-use Rattle.std.specs.Prelude.{Option, slice_get}
-use Rattle.std.proofs.lemmas.Option.{none-some, same_Some}
+use Rattle.std.specs.Prelude.{Option, IfSome, option_map, slice_get}
+use Rattle.std.proofs.lemmas.Option.{none-some, same_Some, slice_get-map}
 use Rattle.delta.specs.Element.{Element}
 use Rattle.revision.specs.Command.{Taken}
 use Rattle.revision.specs.Made.{text_of, text_at, IsMade, AreMade, MadeMore, MadeBefore, MadeFirst, MadeRest, MadeFew}
@@ -14,19 +14,26 @@ use Rattle.revision.proofs.Following.{content-with_steps}
 pub this_made : (state : State) (commands : List Taken) (documents : List (List Element)) (i : ℕ) (taken : Taken) (document : List Element) → i < length commands
     → taken ≡ get_or commands i taken → slice_get documents i ≡ Some document → AreMade state (drop i commands) (drop i documents) → IsMade state taken document
 this_made state [] documents i taken document inside is there are = absurd (omega (arith, inside))
-this_made state (first ∷ others) [] i taken document inside is there are = absurd (none-some (sym there))
+this_made state (first ∷ others) [] i taken document inside is there are = absurd (none-some _ there)
 this_made state (first ∷ others) (made ∷ rest) zero taken document inside is there are =
-    subst (λ (t : Taken). IsMade state t document) (sym is) (subst (λ (d : List Element). IsMade state first d) (same_Some there) are.0)
+    subst (λ (t : Taken). IsMade state t document) (sym is) (subst (λ (d : List Element). IsMade state first d) (same_Some made document there) are.0)
 this_made state (first ∷ others) (made ∷ rest) (suc i) taken document inside is there are =
     this_made state others rest i taken document (omega (arith, inside)) is there are
+
+drop-nil : {X : Type 0} (n : ℕ) → drop {A = X} n [] ≡ []
+drop-nil zero = refl
+drop-nil (suc n) = refl
 
 -- what is left then
 pub next_made : (state : State) (commands : List Taken) (documents : List (List Element)) (i : ℕ) (taken : Taken) → i < length commands
     → taken ≡ get_or commands i taken → AreMade state (drop i commands) (drop i documents) → AreMade (grown state taken) (drop (i + 1) commands) (drop (i + 1) documents)
 next_made state [] documents i taken inside is are = absurd (omega (arith, inside))
-next_made state (first ∷ others) [] i taken inside is are = tt
+next_made state (first ∷ others) [] i taken inside is are = subst (λ (ds : List (List Element)). AreMade (grown state taken) (drop (i + 1) (first ∷ others)) ds) (sym (drop-nil (i + 1))) tt
 next_made state (first ∷ others) (made ∷ rest) zero taken inside is are = subst (λ (t : Taken). AreMade (grown state t) others rest) (sym is) are.1
-next_made state (first ∷ others) (made ∷ rest) (suc i) taken inside is are = next_made state others rest i taken (omega (arith, inside)) is are
+next_made state (first ∷ others) (made ∷ rest) (suc i) taken inside is are =
+    let more : suc (i + 1) ≡ suc i + 1 = omega arith in
+    subst (λ (n : ℕ). AreMade (grown state taken) (drop n (first ∷ others)) (drop n (made ∷ rest))) more
+    (next_made state others rest i taken (omega (arith, inside)) is are)
 
 -- what a command leaves in the document of its number
 pub left_at : (keep : ℕ) (documents : List DocumentRecord) (number : ℕ) (taken : Taken)
@@ -51,6 +58,23 @@ pub left_there : (keep : ℕ) (d : PendingDocument) (taken : Taken)
 left_there keep d taken =
     ap (λ (c : Content). c.units) (content-with_steps keep (with_prepared keep d).past (next_of taken ∷ []))
     ∙ ap (λ (c : Content). units_after c.units taken.step taken.delta) (content-with_steps keep d.past.past d.past.next)
+
+there_by : {A : Type 0} (xs : List A) (i : ℕ) (x : A) → i < length xs → x ≡ get_or xs i x → slice_get xs i ≡ Some x
+there_by [] i x inside is = absurd (omega (arith, inside))
+there_by (y ∷ ys) zero x inside is = ap Some (sym is)
+there_by (y ∷ ys) (suc i) x inside is = there_by ys i x (omega (arith, inside)) is
+
+pub left_of : (keep : ℕ) (documents : List PendingDocument) (i : ℕ) (d : PendingDocument) (taken : Taken) → i < length documents → d ≡ get_or documents i d
+    → text_of (record_by_name keep (slice_get (map (with_prepared keep) documents) i) taken None) ≡ units_after (prepared_units d.past) taken.step taken.delta
+left_of keep documents i d taken inside is =
+    ap (λ found. text_of (record_by_name keep found taken None))
+    (slice_get-map (with_prepared keep) documents i ∙ ap (option_map (with_prepared keep)) (there_by documents i d inside is))
+    ∙ left_there keep d taken
+
+-- what holds of the document that is given, where one is
+pub if_through : {A : Type 0} (P Q : A → Type 0) (o : Option A) → ((x : A) → P x → Q x) → IfSome o P → IfSome o Q
+if_through P Q None through holds = tt
+if_through P Q (Some x) through holds = through x holds
 
 pub made_more : MadeMore
 made_more state [] [] taken document are same is = (is, tt)
@@ -77,7 +101,6 @@ made_rest state [] (made ∷ rest) (suc count) are = absurd are
 made_rest state (first ∷ others) (made ∷ rest) (suc count) are = made_rest (grown state first) others rest count are.1
 
 pub made_few : MadeFew
-made_few state commands [] are = (length commands, refl)
+made_few state commands [] are = omega arith
 made_few state [] (made ∷ rest) are = absurd are
-made_few state (first ∷ others) (made ∷ rest) are =
-    let fewer = made_few (grown state first) others rest are.1 in (fewer.0, ap suc fewer.1)
+made_few state (first ∷ others) (made ∷ rest) are = omega (arith, made_few (grown state first) others rest are.1)

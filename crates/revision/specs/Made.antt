@@ -1,5 +1,5 @@
 -- Documents that are at hand as commands leave them, so that nobody makes them again.
-use Rattle.std.specs.Prelude.{◌≡◌, ℕ, ◌+◌, true, Option, Some, None, List, [], ◌∷◌, ◌++◌, length, take, drop, slice_get}
+use Rattle.std.specs.Prelude.{◌≡◌, ◌≤◌, ℕ, true, Option, Some, None, List, [], ◌∷◌, ◌++◌, length, take, drop, slice_get}
 use Rattle.delta.specs.Element.{Element}
 use Rattle.revision.specs.Command.{Taken}
 use Rattle.revision.specs.State.{DocumentRecord, State, units_of, grows, grown, fold}
@@ -48,4 +48,4 @@ MadeRest = (state : State) (commands : List Taken) (documents : List (List Eleme
 -- There are no more documents than commands.
 abbrev pub MadeFew : Type 0
 MadeFew = (state : State) (commands : List Taken) (documents : List (List Element))
-    → AreMade state commands documents → (room : ℕ) × (length commands ≡ length documents + room)
+    → AreMade state commands documents → length documents ≤ length commands

@@ -179,9 +179,7 @@ impl DocState {
         ensures unchanged { OnErr result (self.new ≡ self.old) }
     {
         let after = made.copy(alloc)?;
-        if self.next.is_none() {
-            self.past.keep(alloc, &self.document);
-        }
+        self.past.keep(alloc, &self.document);
         note(alloc, &mut self.past, &mut self.sources, change, near)?;
         self.next = Some(after);
         Ok(())

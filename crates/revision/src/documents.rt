@@ -396,6 +396,15 @@ impl Documents {
         let_go_of(alloc, &mut self.documents, number as usize);
     }
 
+    /// Lets go so of the documents of these commands.
+    pub(crate) fn let_go_all(&mut self, alloc: Global, batch: &[Taken])
+        ensures { self.new ≡ self.old }
+    {
+        for taken in batch {
+            self.let_go(alloc, taken.document_number());
+        }
+    }
+
     /// Forgets what was prepared. It takes no memory, isn't refused, and goes through what was touched alone.
     pub(crate) fn forget(&mut self)
         ensures { self.new ≡ unprepared self.old.before }

@@ -76,14 +76,19 @@ impl State {
         Ok(())
     }
 
-    /// Lets go of what documents that these commands changed hold from below their floors, as far as memory goes: of a deleted document
-    /// that is its text. The state stays unchanged.
+    /// Lets go of what the documents that these commands changed hold from below their floors, as far as memory goes: of a deleted
+    /// document that is its text. The state stays equal.
     pub fn let_go(&mut self, alloc: Global, batch: &[Taken])
         ensures { self.new ≡ self.old }
     {
-        for taken in batch {
-            self.documents.let_go(alloc, taken.document_number());
-        }
+        self.documents.let_go_all(alloc, batch);
+    }
+
+    /// Lets go of what the document of this number holds from below its floor, as `let_go` does.
+    pub fn let_go_of(&mut self, alloc: Global, document: u32)
+        ensures { self.new ≡ self.old }
+    {
+        self.documents.let_go(alloc, document);
     }
 
     /// Adds commands in order, all of them or none. Refused with `Stranger` where one of them doesn't continue what
@@ -106,7 +111,10 @@ impl State {
     {
         let prepared = self.documents.prepare_all(alloc, batch, made);
         match prepared {
-            Ok(()) => self.documents.accept(),
+            Ok(()) => {
+                self.documents.accept();
+                self.documents.let_go_all(alloc, batch);
+            }
             Err(_) => self.documents.forget(),
         }
         prepared

@@ -78,10 +78,10 @@ fn pair(rt: &(impl Abort + AllocGlobal), is_next: bool) -> [Taken; 2] {
 #[test]
 fn a_batch_is_added_as_a_whole(rt: HostRuntime) {
     let mut state = small(&rt);
-    let added = state.absorb_all(rt.alloc(), &pair(&rt, false));
+    let added = state.absorb_all(rt.alloc(), &pair(&rt, false), &[]);
     assert_eq!(rt; added, Err(Refusal::Stranger));
     holds(&rt, &state, "");
-    assert_eq!(rt; state.absorb_all(rt.alloc(), &pair(&rt, true)), Ok(()));
+    assert_eq!(rt; state.absorb_all(rt.alloc(), &pair(&rt, true), &[]), Ok(()));
     holds(&rt, &state, "d 2 0\n");
 }
 
@@ -98,7 +98,7 @@ fn a_prepared_batch_is_accepted_or_forgotten(rt: HostRuntime) {
 }
 
 fn prepared(rt: &(impl Abort + AllocGlobal), state: State, batch: &[Taken]) -> PreparedState {
-    match state.prepare(rt.alloc(), batch) {
+    match state.prepare(rt.alloc(), batch, &[]) {
         Ok(prepared) => prepared,
         Err(_) => rt.abort(),
     }
@@ -106,7 +106,7 @@ fn prepared(rt: &(impl Abort + AllocGlobal), state: State, batch: &[Taken]) -> P
 
 // the state after a batch isn't prepared
 fn unprepared(rt: &(impl Abort + AllocGlobal), state: State, batch: &[Taken]) -> State {
-    match state.prepare(rt.alloc(), batch) {
+    match state.prepare(rt.alloc(), batch, &[]) {
         Ok(_) => rt.abort(),
         Err(unprepared) => {
             assert_eq!(rt; unprepared.refusal, Refusal::Stranger);

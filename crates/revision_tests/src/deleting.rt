@@ -193,7 +193,10 @@ fn a_batch_with_a_deletion_between_edits(rt: HostRuntime) {
     holds(&rt, &state, "d 1 0\n");
     made(&rt, &state, 1, &[Step::Plain("z")]);
     let mut state = state;
-    assert_eq!(rt; state.absorb_all(rt.alloc(), turned.as_slice()), Ok(()));
+    assert_eq!(rt;
+        state.absorb_all(rt.alloc(), turned.as_slice(), &[]),
+        Ok(())
+    );
     holds(&rt, &state, "d 5 4\n");
     made(&rt, &state, 5, &[Step::Plain("yn")]);
     made(&rt, &state, 4, &[Step::Plain("n")]);
@@ -208,7 +211,7 @@ fn a_batch_with_a_deletion_between_edits(rt: HostRuntime) {
 
 // the state after a batch was prepared and forgotten
 fn forgotten(rt: &(impl Abort + AllocGlobal), state: State, batch: &[Taken]) -> State {
-    match state.prepare(rt.alloc(), batch) {
+    match state.prepare(rt.alloc(), batch, &[]) {
         Ok(prepared) => prepared.forget(),
         Err(_) => rt.abort(),
     }

@@ -119,7 +119,7 @@ impl StateDesk {
         ensures unchanged { OnErr result (self.new ≡ self.old) }
     {
         let rev = taken.revision();
-        self.state.absorb_all(alloc, &[taken])?;
+        self.state.add(alloc, &taken)?;
         Ok(Reply::Taken { rev })
     }
 }

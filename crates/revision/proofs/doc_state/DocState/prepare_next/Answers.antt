@@ -109,12 +109,28 @@ invariant_of-self c =
     let one : Next = next_by change.source change.number change.step change.delta in
     let after = c.note_on.new.next in
     let past : Prepared = record inside.past { next = inside.past.next ++ one ∷ [] } in
-    let there : inside.next ≡ Some c.in-Some.next.now = sym c.in-Some.ensures.value in
-    let units : c.in-Some.next.now ≡ prepared_units inside.past = subst (AreNextUnits inside.past) there c.self.invariant.after in
+    let there : inside.next ≡ Some c.in-Some-as_mut.next.now = sym c.in-Some-as_mut.ensures.value in
+    let units : c.in-Some-as_mut.next.now ≡ prepared_units inside.past = subst (AreNextUnits inside.past) there c.self.invariant.after in
     let after_is : after ≡ units_after (prepared_units inside.past) change.step (own_delta change.step change.delta) =
-    c.in_ok-note_on-in-Some.ensures.next
+    c.in_ok-note_on-in-Some-as_mut.ensures.next
     ∙ (ap (λ u. units_after u change.step change.delta) units ∙ sym (own-after (prepared_units inside.past) change.step change.delta)) in
-    subst (λ (p : Prepared). ComesOf p inside.document (Some after) c.note_on.new.sources) (sym c.in_ok-note_on-in-Some.ensures.past)
-    (subst (λ (t : Table). ComesOf past inside.document (Some after) t) (sym c.in_ok-note_on-in-Some.ensures.sources)
+    subst (λ (p : Prepared). ComesOf p inside.document (Some after) c.note_on.new.sources) (sym c.in_ok-note_on-in-Some-as_mut.ensures.past)
+    (subst (λ (t : Table). ComesOf past inside.document (Some after) t) (sym c.in_ok-note_on-in-Some-as_mut.ensures.sources)
     (prepared_comes inside.past inside.document after inside.next inside.sources one change.revision c.self.invariant after_is
     (following (goal.at.invariant_of-self c).In_ok-change)))
+
+-- so does what is given beside it
+pub take_over-requires-clause-suits : goal.take_over-requires-clause-suits
+take_over-requires-clause-suits c =
+    let made = (goal.at.take_over-requires-clause-suits c).In_ok-change in
+    subst (λ (e : PendingDocument). suits (prepared_content e.past).live made.in_ok-change.change.step ≡ true) made.self.view_is (suited made)
+
+pub take_over-requires-clause-accepted : goal.take_over-requires-clause-accepted
+take_over-requires-clause-accepted c =
+    let made = (goal.at.take_over-requires-clause-accepted c).In_ok-change in
+    subst (λ (e : PendingDocument). IsAccepted (prepared_units e.past) (counted made.in_ok-change.change.delta)) made.self.view_is (accepted made)
+
+pub take_over-requires-clause-revision : goal.take_over-requires-clause-revision
+take_over-requires-clause-revision c =
+    let made = (goal.at.take_over-requires-clause-revision c).In_ok-change in
+    following made ∙ ap (λ (e : PendingDocument). prepared_revision e.past + 1) made.self.view_is

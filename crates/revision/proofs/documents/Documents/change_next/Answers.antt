@@ -1,4 +1,4 @@
-use Rattle.std.proofs.Common.{◌≡◌, List, [], ◌∷◌, ◌++◌, length, map, take, refl, sym, ap, ap₂, ◌∙◌, arith}
+use Rattle.std.proofs.Common.{◌≡◌, subst, List, [], ◌∷◌, ◌++◌, length, map, take, refl, sym, ap, ap₂, ◌∙◌, arith}
 use Rattle.std.specs.Prelude.{slice_get}
 use Rattle.revision.specs.steps.ChangedAt.{IsAmong}
 use Rattle.revision.specs.Documents.{PreparedState}
@@ -6,9 +6,11 @@ use Rattle.revision.specs.steps.DocumentsView.{names_of}
 use Rattle.revision.specs.steps.Index.{number_of}
 use Rattle.revision.specs.Pending.{PendingDocument, record_of, with_prepared}
 use Rattle.revision.specs.steps.Preparing.{with_next}
+use Rattle.revision.specs.Made.{IsMade}
 use Rattle.revision.specs.State.{DocumentRecord, next_of, record_by_name, set_document, grown}
 use Rattle.revision.proofs.ChangedAt.{map-changed_at, length-changed_at, among-last}
 use Rattle.revision.proofs.Untouched.{rest-touch, rest-changed}
+use Rattle.revision.proofs.MadeDocuments.{left_by, if_through}
 use Rattle.revision.proofs.OneMore.{changed_by, record_of-changed}
 use Rattle.revision.proofs.documents.Documents.change_next.Goals as goal
 
@@ -67,3 +69,13 @@ returns-clause-ok c =
     (ap (map (with_prepared keep)) made ∙ sym (changed_by keep i documents c.args.taken)
     ∙ ap (λ n. set_document i (record_by_name keep (slice_get (map (with_prepared keep) documents) i) c.args.taken n) (map (with_prepared keep) documents)) (sym c.requires.name))
     ∙ ap (λ (p : PreparedState). record { before = p.before; after = grown p.after c.args.taken }) c.self.view_is
+
+-- what is given is what the command leaves
+pub change-requires-clause-made : goal.change-requires-clause-made
+change-requires-clause-made c =
+    let limits = c.self.inside.limits in
+    let documents = c.self.inside.documents.items in
+    if_through _ _ c.args.made
+    (λ document is. left_by (record { limits = limits; documents = map (with_prepared limits.keep) documents }) c.args.taken document.now c.requires.name
+    (subst (λ (p : PreparedState). IsMade p.after c.args.taken document.now) (sym c.self.view_is) is))
+    c.requires.made

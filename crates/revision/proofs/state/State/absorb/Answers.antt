@@ -12,5 +12,6 @@ invariant_of-self-2 c =
     let after : c.prepare.new.self.after ≡ grown old.after taken = ap (λ (p : PreparedState). p.after) c.in_ok-prepare.ensures.ok in
     let is : IsState (grown old.after taken) =
     growing_keeps old.after taken (subst IsState (sym c.self.invariant.0) c.self.invariant.1) c.in_ok-prepare.ensures.grow in
-    let before : c.accept.new.self.before ≡ c.prepare.new.self.after = ap (λ (p : PreparedState). p.before) c.accept.ensures in
-    (ap (λ (p : PreparedState). p.after) c.accept.ensures ∙ sym before, subst IsState (sym (before ∙ after)) is)
+    let same = c.let_go.ensures ∙ c.accept.ensures in
+    let before : c.let_go.new.self.before ≡ c.prepare.new.self.after = ap (λ (p : PreparedState). p.before) same in
+    (ap (λ (p : PreparedState). p.after) same ∙ sym before, subst IsState (sym (before ∙ after)) is)
