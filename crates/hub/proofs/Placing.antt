@@ -4,7 +4,7 @@ use Rattle.std.specs.Prelude.{Option, Some, None, zero, suc}
 use Rattle.std.proofs.lemmas.List.{append-nil}
 use mathlib.Core.List.{IsPrefix}
 use Rattle.revision.specs.Command.{Taken, Command}
-use Rattle.revision.specs.State.{State, fold}
+use Rattle.revision.specs.State.{State, grown, fold}
 use Rattle.revision.specs.Acceptance.{Answer, Takes, Repeats, Refuses, Reply, TakenAt, AgainAt, Refused, answer}
 use Rattle.world.specs.Board.{Board, Ticket, submitted, submitted_by, ticket_by, ticket_of}
 use Rattle.world.specs.World.{Entry, entry_of, takens}
@@ -18,6 +18,7 @@ use Rattle.hub.proofs.Histories.{counts}
 pub record TakenLast (start : State) (order : List Entry) (ticket : Ticket) (new : Board Entry) (revision : ℕ) : Type 0 where
   pub taken : Taken
   pub longer : new.order ≡ order ++ entry_of ticket.command taken ∷ []
+  pub state : new.state ≡ grown (fold start (takens order)) taken
   pub answered : answer (fold start (takens order)) ticket.command ≡ Takes taken
   pub made : taken.revision ≡ revision
   pub long : ticket.length ≡ length order + 1
@@ -38,6 +39,7 @@ module _ (old : Board Entry) (ticket : Ticket) (new : Board Entry) (history : Is
       record {
         taken = taken;
         longer = ap (λ (b : Board Entry). b.order) submits;
+        state = ap (λ (b : Board Entry). b.state) submits ∙ ap (λ s. grown s taken) history.state;
         answered = ap (λ s. answer s ticket.command) (sym history.state) ∙ is;
         made = cc (reply);
         long = ap (λ (t : Ticket). t.length) same;
@@ -153,12 +155,12 @@ takens-long : (entries : List Entry) → length (takens entries) ≡ length entr
 takens-long [] = refl
 takens-long (first ∷ others) = ap (λ n. suc n) (takens-long others)
 
-takens-take : (n : ℕ) (entries : List Entry) → takens (take n entries) ≡ take n (takens entries)
+pub takens-take : (n : ℕ) (entries : List Entry) → takens (take n entries) ≡ take n (takens entries)
 takens-take zero entries = refl
 takens-take (suc n) [] = refl
 takens-take (suc n) (first ∷ others) = ap (λ l. first.taken ∷ l) (takens-take n others)
 
-takens-drop : (n : ℕ) (entries : List Entry) → takens (drop n entries) ≡ drop n (takens entries)
+pub takens-drop : (n : ℕ) (entries : List Entry) → takens (drop n entries) ≡ drop n (takens entries)
 takens-drop zero entries = refl
 takens-drop (suc n) [] = refl
 takens-drop (suc n) (first ∷ others) = takens-drop n others

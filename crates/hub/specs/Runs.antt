@@ -1,6 +1,9 @@
 -- Which commands of the order make a batch.
 use Rattle.std.specs.Prelude.{◌≡◌, ◌⊎◌, ◌<◌, ◌≤◌, ◌+◌, ◌^◌, ℕ, true, List, drop, length, take}
+use Rattle.delta.specs.Element.{Element}
 use Rattle.revision.specs.Command.{Taken}
+use Rattle.revision.specs.Made.{AreMade}
+use Rattle.revision.specs.State.{State, fold}
 use Rattle.journal.specs.BatchSpelling.{batch_width}
 use Rattle.world.specs.Board.{Board, can_settle}
 use Rattle.world.specs.World.{Entry, takens}
@@ -23,6 +26,11 @@ pub record IsPart (commands : List Taken) (place : ℕ) (order : List Entry) : T
   pub within : place + length commands ≤ length order
   pub few : place + length commands < 2 ^ 64
   pub part : commands ≡ take (length commands) (drop place (takens order))
+
+-- Beside the first of these commands stands what each of them leaves in its document, where they come after so many commands of an order
+-- from this state.
+abbrev pub AreMadeThere : State → List Entry → ℕ → List Taken → List (List Element) → Type 0
+AreMadeThere start order place commands documents = AreMade (fold start (takens (take place order))) commands documents
 
 -- the commands that are not taken off yet
 abbrev pub untaken : Board Entry → List Taken

@@ -1,7 +1,8 @@
 //! The board.
-ghost use Rattle.std.specs.Prelude.{◌≡◌, ◌⊎◌, ◌↔◌, ◌≤◌, ◌<◌, ◌+◌, ◌-◌, ◌^◌, ◌++◌, ◌∷◌, true, false, List, [], Some, None, Ok, length, IfOk, IfErr, IfSome, OnOk, OnErr, IsTrue, IsOk, IsErrOf};
+ghost use Rattle.std.specs.Prelude.{◌≡◌, ◌⊎◌, ◌↔◌, ◌≤◌, ◌<◌, ◌+◌, ◌-◌, ◌^◌, ◌++◌, ◌∷◌, true, false, List, [], Some, None, Ok, length, take, drop, IfOk, IfErr, IfSome, OnOk, OnErr, IsTrue, IsOk, IsErrOf};
 ghost use mathlib.Core.List.{IsPrefix};
 ghost use Rattle.revision.specs.Acceptance.{answer, Refuses};
+ghost use Rattle.revision.specs.Made.{text_at};
 ghost use Rattle.revision.specs.Planned.{may_want_memory};
 ghost use Rattle.recovery.specs.Found.{commands_of};
 ghost use Rattle.recovery.specs.Open.{state_of};
@@ -9,23 +10,27 @@ ghost use Rattle.world.specs.Board.{begun_board, submitted, ticket_of, next_run,
 ghost use Rattle.world.specs.World.{Entry as Kept, entry_of, takens};
 ghost use Rattle.hub.specs.Legal.{IsHistory, IsOfRun, IsWithin, counted};
 ghost use Rattle.hub.specs.Placed.{IsPlaced, StandsFirst, WasSubmitted};
-ghost use Rattle.hub.specs.Runs.{IsLongest, untaken, MaySettle};
+ghost use Rattle.hub.specs.Runs.{AreMadeThere, IsLongest, untaken, MaySettle};
 
 use crate::run::{Run, copied, is_beginning, longest};
 use crate::seat::{PLACES, Seat, Tally, Ticket, count};
 use disk::Disk;
+use document::Document;
 use published::{Order, Ordered, Site, Told};
 use recovery::{Receipt, Store};
 use refusal::Refusal;
-use revision::{Command, Reply, State};
-use std::alloc::Global;
+use revision::{Batch, Command, Reply, State};
+use std::alloc::{AllocError, Global};
 use std::marker::Model;
+use std::mem;
 use std::sync::ledger::{Blank, Book, Share};
 use world::{Board as Inner, Entry};
 
 /// The order of the commands that were taken since a store was opened, with the state after them, how many are taken off to be written
 /// and how many of those are settled; the token of what was published up to there; whether the store has failed; and the ledger of the
-/// seats, whose counts add up to the length of the order. It owns the run's order, and makes it longer as its own grows.
+/// seats, whose counts add up to the length of the order. It owns the run's order, and makes it longer as its own grows. Beside the
+/// commands that aren't taken off it keeps the documents as they leave them, as far as memory went: beside the first of them, since behind
+/// one that has none no further one is kept.
 #[derive(Drop)]
 pub struct Board<D, J: Site> {
     board: Inner,
@@ -36,11 +41,13 @@ pub struct Board<D, J: Site> {
     spare: Share<J>,
     left: u32,
     used: [u32; 64],
+    made: Vec<Document>,
 }
 
 impl<D, J: Site> Model for Board<D, J> {
     ghost use Rattle.std.specs.Prelude.{◌≡◌, ◌+◌, length};
     ghost use Rattle.hub.specs.Legal as spec;
+    ghost use Rattle.hub.specs.Runs.{AreMadeThere, untaken};
 
     ghost Value = { spec.Board };
 
@@ -48,7 +55,8 @@ impl<D, J: Site> Model for Board<D, J> {
 
     ghost invariant = { λ b. spec.IsHistory b.board × spec.IsWithin b.board b.told × (b.board.start ≡ J.start)
         × (b.seats.total ≡ length b.board.order) × (b.spare.parts ≡ b.left + 1) × (b.order ≡ b.board.order)
-        × (b.spare.amount ≡ 0) };
+        × (b.spare.amount ≡ 0)
+        × AreMadeThere J.start b.board.order b.board.taken (untaken b.board) b.made.items };
 }
 
 impl<D, J: Site> Board<D, J> {
@@ -85,6 +93,7 @@ impl<D, J: Site> Board<D, J> {
             spare,
             left: seats,
             used: [0; 64],
+            made: Vec::new(alloc),
         }
     }
 
@@ -200,6 +209,7 @@ impl<D, J: Site> Board<D, J> {
         let _ = command.number();
         match self.board.submit(alloc, command) {
             Ok(ticket) => {
+                keep_made(alloc, &mut self.made, &self.order, &self.board, &ticket);
                 order_taken(&mut self.order, &self.board, &ticket);
                 count(&mut self.seats, &mut seat.share, ticket.reply());
                 Ok(Ticket {
@@ -212,8 +222,8 @@ impl<D, J: Site> Board<D, J> {
         }
     }
 
-    /// Takes off the longest run of the next commands whose batch has at most `cap` bytes, and gives a copy of it; it is empty where
-    /// there is none. Refused as out of memory alone, and then nothing has changed.
+    /// Takes off the longest run of the next commands whose batch has at most `cap` bytes, and gives a copy of it, with the documents that
+    /// are kept beside these commands; it is empty where there is none. Refused as out of memory alone, and then nothing has changed.
     pub fn take(&mut self, alloc: Global, cap: u32) -> Result<Run<D, J>, Refusal>
         ensures longest { IfOk result (λ run. IsLongest cap (untaken self.old.board) (length run.commands)) }
         ensures run { IfOk result (λ run. run.commands ≡ takens (next_run self.old.board (length run.commands))) }
@@ -226,9 +236,12 @@ impl<D, J: Site> Board<D, J> {
     {
         let untaken = self.board.untaken();
         let count = longest(untaken, cap);
-        let commands = copied(alloc, &untaken[..count])?;
-        let run = Run::by_board(self, commands, cap);
+        let batch = Batch::of(alloc, copied(alloc, &untaken[..count])?)?;
+        let rest = parted(&mut self.made, count)?;
+        let made = mem::replace(&mut self.made, Vec::new(alloc));
+        let run = Run::by_board(self, batch, made, cap);
         self.board.take(count);
+        self.made = rest;
         Ok(run)
     }
 
@@ -245,7 +258,7 @@ impl<D, J: Site> Board<D, J> {
         ensures unchanged { OnErr result (self.new ≡ self.old) }
     {
         self.order.covers(&told);
-        let batch = receipt.batch();
+        let batch = receipt.batch().as_slice();
         if !is_beginning(batch, self.board.unsettled()) {
             return Err(Refusal::Stranger);
         }
@@ -305,6 +318,7 @@ impl<D, J: Site> Board<D, J> {
             spare: mut all,
             left: _,
             used: _,
+            made: _made,
         } = self;
         order.holds(ordered);
         all.merge(seats.share);
@@ -343,6 +357,69 @@ fn order_taken<J: Site>(order: &mut Order<J>, board: &Inner, ticket: &world::Tic
         Reply::Taken { rev: _ } => order.put(last_ordered(board)),
         Reply::Again { rev: _ } => {}
     }
+}
+
+// Keeps the document that the command of a ticket left, which the board has just given, if the board took it, memory suffices, and the
+// documents of all commands before it that aren't taken off are kept. The order is as it was before the command.
+fn keep_made<J: Site>(
+    alloc: Global,
+    made: &mut Vec<Document>,
+    order: &Order<J>,
+    board: &Inner,
+    ticket: &world::Ticket,
+)
+    requires given { WasSubmitted J.start order.now ticket.now board.now }
+    requires made { AreMadeThere J.start order.now board.now.taken (takens (drop board.now.taken order.now)) made.old.items }
+    ensures { AreMadeThere J.start board.now.order board.now.taken (untaken board.now) made.new.items }
+{
+    let _ = order;
+    match ticket.reply() {
+        Reply::Taken { rev: _ } => keep_last(alloc, made, board, last_ordered(board)),
+        Reply::Again { rev: _ } => {}
+    }
+}
+
+// Keeps what stands in the document of a command, behind as many documents as there are commands before the last one, or leaves them.
+fn keep_last(alloc: Global, made: &mut Vec<Document>, board: &Inner, last: &Entry)
+    ensures { (made.new.items ≡ made.old.items)
+        ⊎ ((length made.old.items + 1 ≡ length (untaken board.now))
+        × (made.new.items ≡ made.old.items ++ text_at board.now.state last.now.taken.document ∷ [])) }
+{
+    if made.len() + 1 != board.untaken().len() {
+        return;
+    }
+    if let Some(document) = document_of(board.state(), last.taken().document_number()) {
+        push_copy(alloc, made, document);
+    }
+}
+
+// what stands in the document of this number, where there is one
+fn document_of(state: &State, number: u32) -> Option<&Document>
+    ensures { IfSome result (λ document. document.now ≡ text_at state.now number) }
+{
+    match state.documents().get(number as usize) {
+        Some(found) => Some(found.document()),
+        None => None,
+    }
+}
+
+// Puts a copy of a document behind others, or leaves them where memory runs out.
+fn push_copy(alloc: Global, made: &mut Vec<Document>, document: &Document)
+    ensures { (made.new.items ≡ made.old.items) ⊎ (made.new.items ≡ made.old.items ++ document.now ∷ []) }
+{
+    if let Ok(copy) = document.copy(alloc) {
+        let _ = made.push(copy);
+    }
+}
+
+// Parts documents after so many of them: the first ones stay, and it gives the others.
+fn parted(made: &mut Vec<Document>, count: usize) -> Result<Vec<Document>, AllocError>
+    ensures first { OnOk result (made.new.items ≡ take count made.old.items) }
+    ensures rest { IfOk result (λ rest. rest.items ≡ drop count made.old.items) }
+    ensures unchanged { OnErr result (made.new ≡ made.old) }
+{
+    let kept = count.min(made.len());
+    made.split_off(kept)
 }
 
 // The command that was ordered last, which isn't taken off yet.

@@ -14,6 +14,11 @@
 //! isn't `Drop`, so no path lets one go: it ends by the receipt of its commit, with its store, or where it doesn't follow what is
 //! published. Where it does, it gives the token of the order by which it is published (`Run::goes_on`).
 //!
+//! Beside the first of its commands a run has the documents as they leave them, on what is published before it (`Run::made`,
+//! `Run::committed`; `AreMade` of revision). The board keeps a copy of each as it takes the command, which shares the chunks with its own
+//! document: so whoever adds the run to a state needn't apply an edit again. Where memory runs out for a copy, the commands from there on
+//! have none, until all of them are taken off.
+//!
 //! What is the flusher's, to take, to settle, to wait for work and to fail, asks for a hub's `Writer`, and to end it or to give its seats
 //! out for its `Closer`: `Hub::new` gives one of each, which can't be copied, so that no session's desk can do any of it. The hub's own calls
 //! can't either: what lies under the lock stands in a module of its own (src/kept.rt), which lends the board for reading alone, and asks for
@@ -66,8 +71,8 @@
 //! }
 //! ```
 //!
-//! The crate stands on `world`, on `revision`, on `journal` for the width of a batch, on `recovery` for receipts and on `published` for
-//! the tokens of what was published.
+//! The crate stands on `world`, on `revision`, on `document` for what commands leave, on `journal` for the width of a batch, on `recovery`
+//! for receipts and on `published` for the tokens of what was published.
 //!
 //! # What isn't promised
 //!

@@ -3,16 +3,19 @@ ghost use Rattle.std.specs.Prelude.{◌≡◌, ◌≢◌, ◌↔◌, ◌<◌, �
 ghost use mathlib.Core.List.{IsPrefix};
 ghost use Rattle.recovery.specs.Found.{commands_of};
 ghost use Rattle.world.specs.Board.{next_run};
+ghost use Rattle.revision.specs.Made.{AreMade};
+ghost use Rattle.revision.specs.State.{fold};
 ghost use Rattle.world.specs.World.{takens};
-ghost use Rattle.hub.specs.Runs.{IsLongest, untaken};
+ghost use Rattle.hub.specs.Runs.{IsLongest, untaken, AreMadeThere};
 
 use crate::board::Board;
 use crate::tokens::Nothing;
 use disk::Disk;
+use document::Document;
 use published::{Ordered, Site, Told};
 use recovery::{Receipt, Store};
 use refusal::Refusal;
-use revision::Taken;
+use revision::{Batch, Taken};
 use std::alloc::Global;
 use std::marker::{Model, PhantomData};
 use world::Entry;
@@ -21,9 +24,11 @@ use world::Entry;
 /// longest run that fits, and it can't be changed: so what is written is what the board took off. It isn't `Drop`, so that no run is
 /// lost: it ends with the receipt of its commit, or where it has no command, or where it doesn't follow what is published, or with the store
 /// that would have written it. It has a token of
-/// the order, and knows its place there.
+/// the order, and knows its place there. Beside the first of its commands it has the documents as they leave them, so that nobody makes
+/// these again.
 pub struct Run<D, J: Site> {
-    commands: Vec<Taken>,
+    batch: Batch,
+    made: Vec<Document>,
     cap: u32,
     place: usize,
     order: Ordered<J>,
@@ -35,21 +40,29 @@ impl<D, J: Site> Model for Run<D, J> {
 
     ghost Value = { spec.Run };
 
-    ghost view = { λ r. record { commands = r.commands.items; cap = r.cap; place = r.place } };
+    ghost view = { λ r. record { commands = r.batch; cap = r.cap; place = r.place } };
 
-    ghost invariant = { λ r. spec.IsPart r.commands.items r.place r.order };
+    ghost invariant = { λ r. spec.IsPart r.batch r.place r.order
+        × spec.AreMadeThere J.start r.order r.place r.batch r.made.items };
 }
 
 impl<D, J: Site> Run<D, J> {
-    // The run that a board has to take off next, for a batch of so many bytes.
-    pub(crate) fn by_board(board: &Board<D, J>, commands: Vec<Taken>, cap: u32) -> Run<D, J>
-        requires longest { IsLongest cap (untaken board.now.board) (length commands.items) }
-        requires run { commands.items ≡ takens (next_run board.now.board (length commands.items)) }
-        ensures { result ≡ record { commands = commands.items; cap = cap; place = board.now.board.taken } }
+    // The run that a board has to take off next, for a batch of so many bytes, with the documents beside its first commands.
+    pub(crate) fn by_board(
+        board: &Board<D, J>,
+        batch: Batch,
+        made: Vec<Document>,
+        cap: u32,
+    ) -> Run<D, J>
+        requires longest { IsLongest cap (untaken board.now.board) (length batch) }
+        requires run { batch ≡ takens (next_run board.now.board (length batch)) }
+        requires made { AreMadeThere J.start board.now.board.order board.now.board.taken batch made.items }
+        ensures { result ≡ record { commands = batch; cap = cap; place = board.now.board.taken } }
     {
         let _count = board.ordered();
         Run {
-            commands,
+            batch,
+            made,
             cap,
             place: board.taken(),
             order: board.order(),
@@ -79,7 +92,8 @@ impl<D, J: Site> Run<D, J> {
         requires { self.place ≢ length (commands_of told.now) }
     {
         let Run {
-            commands: _commands,
+            batch: _batch,
+            made: _made,
             cap: _,
             place: _,
             order: _order,
@@ -92,28 +106,43 @@ impl<D, J: Site> Run<D, J> {
     pub fn len(&self) -> usize
         ensures { result ≡ length self.now.commands }
     {
-        self.commands.len()
+        self.batch.as_slice().len()
     }
 
     /// Its commands, in order.
-    pub fn commands(&self) -> &[Taken]
+    pub fn batch(&self) -> &Batch
         ensures { result.now ≡ self.now.commands }
     {
-        self.commands.as_slice()
+        &self.batch
     }
 
-    /// Ends a run that was committed, by the receipt of its commit.
-    pub fn committed(self, receipt: &Receipt<D>)
-        requires { receipt.now ≡ self.commands }
+    /// The documents as its first commands leave them, where it goes on with what a token names: beside its last ones there may be none.
+    pub fn made(&self, told: &Told<D, J>) -> &[Document]
+        requires { self.now.place ≡ length (commands_of told.now) }
+        ensures { AreMade (fold J.start (commands_of told.now)) self.now.commands result.now }
+    {
+        told.begins_order(&self.order);
+        self.made.as_slice()
+    }
+
+    /// Ends a run that was committed, by the receipt of its commit, where it goes on with what a token names, and gives the documents as its
+    /// first commands leave them, as `made` does.
+    pub fn committed(self, receipt: &Receipt<D>, told: &Told<D, J>) -> Vec<Document>
+        requires batch { receipt.now ≡ self.commands }
+        requires place { self.place ≡ length (commands_of told.now) }
+        ensures { AreMade (fold J.start (commands_of told.now)) self.commands result.items }
     {
         let Run {
-            commands: _commands,
+            batch: _batch,
+            made,
             cap: _,
             place: _,
-            order: _order,
+            order,
             of: _,
         } = self;
+        told.begins_order(&order);
         let _ = receipt;
+        made
     }
 
     /// Ends a run that has no command, and gives the token that there was none to take off for so many bytes.
@@ -122,7 +151,8 @@ impl<D, J: Site> Run<D, J> {
         ensures { result ≡ self.cap }
     {
         let Run {
-            commands: _commands,
+            batch: _batch,
+            made: _made,
             cap,
             place: _,
             order: _order,
@@ -138,7 +168,8 @@ impl<D, J: Site> Run<D, J> {
         ensures { result ≡ store }
     {
         let Run {
-            commands: _commands,
+            batch: _batch,
+            made: _made,
             cap: _,
             place: _,
             order: _order,

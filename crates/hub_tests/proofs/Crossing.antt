@@ -15,7 +15,7 @@ use Rattle.published.specs.contracts.told.Told as told
 use Rattle.hub.specs.contracts.hub.Hub as hub
 use Rattle.hub.specs.contracts.seat.Seat as seat
 use Rattle.hub.specs.contracts.kept.Closer as closer
-use Rattle.hub.proofs.CallerLemmas.{board_send, entry_send, state_send, taken_send}
+use Rattle.hub.proofs.CallerLemmas.{board_send, document_send, entry_send, state_send, taken_send}
 
 batch_send : IsSend batch.the_row
 batch_send = search (taken_send, sendable, crosses) depth 60 fits 20000
@@ -40,4 +40,4 @@ pub hub_sync : (D T : RattleType) (s : site.Ghosts T.Denot) (l : ledger.Ghosts T
 hub_sync D T s l a b =
     let told = told_send D T s l a in
     let order = owner_send entry.the_row entry_send in
-    search (board_send, book.the_send, share.the_send, sendable, crosses) depth 60 fits 20000
+    search (board_send, document_send, book.the_send, share.the_send, sendable, crosses) depth 60 fits 20000

@@ -6,6 +6,8 @@ mod board;
 #[cfg(test)]
 pub mod callers;
 #[cfg(test)]
+mod documents;
+#[cfg(test)]
 mod publishing;
 #[cfg(test)]
 mod rows;

@@ -143,9 +143,9 @@ fn committed<J: Site>(rt: &(impl Abort + AllocGlobal), life: &mut Life<J>) -> Gi
         return Gives::Nothing;
     }
     let ordered = run.goes_on(life.publishing.told());
-    match commit(rt.alloc(), &mut life.store, run.commands()) {
+    match commit(rt.alloc(), &mut life.store, run.batch()) {
         Ok(receipt) => {
-            run.committed(&receipt);
+            let _made = run.committed(&receipt, life.publishing.told());
             life.publishing.add(&receipt, &ordered);
             assert!(rt; life.tokens.push(life.publishing.told().copy()).is_ok());
             assert!(rt; life.batches.push(receipt).is_ok());

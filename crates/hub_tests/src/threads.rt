@@ -101,9 +101,9 @@ fn committed<J: Site, R: Wait>(
         return Err(Refusal::Stranger);
     }
     let ordered = run.goes_on(publishing.told());
-    match commit(alloc, &mut store, run.commands()) {
+    match commit(alloc, &mut store, run.batch()) {
         Ok(receipt) => {
-            run.committed(&receipt);
+            let _made = run.committed(&receipt, publishing.told());
             publishing.add(&receipt, &ordered);
             Ok((store, receipt))
         }

@@ -18,7 +18,7 @@ use Rattle.view.proofs.CallerLemmas.{viewer_send}
 use Rattle.hub.specs.contracts.hub.Hub as hub
 use Rattle.hub.specs.contracts.seat.Seat as seat
 use Rattle.hub.specs.contracts.kept.Closer as closer
-use Rattle.hub.proofs.CallerLemmas.{board_send, entry_send, state_send, taken_send}
+use Rattle.hub.proofs.CallerLemmas.{board_send, document_send, entry_send, state_send, taken_send}
 use Rattle.hub_desk.specs.contracts.desk.HubDesk as desk
 
 pub batch_send : IsSend batch.the_row
@@ -49,7 +49,7 @@ pub hub_sync : (D T : RattleType) (s : site.Ghosts T.Denot) (l : ledger.Ghosts T
 hub_sync D T s l a b =
     let told = told_send D T s l a in
     let order = owner_send entry.the_row entry_send in
-    search (board_send, book.the_send, share.the_send, sendable, crosses) depth 60 fits 20000
+    search (board_send, document_send, book.the_send, share.the_send, sendable, crosses) depth 60 fits 20000
 
 pub desk_send : (k : NamedLft) (D T R : RattleType) (s : site.Ghosts T.Denot) (l : ledger.Ghosts T.Denot) → IsSend T → IsSync T → IsSync R
     → IsSend (desk.the_row k D T R s l)

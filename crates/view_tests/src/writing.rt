@@ -65,10 +65,10 @@ impl<J: Site> Writing<J> {
             panic!(rt; "it isn't the next part of the order");
         }
         let ordered = run.goes_on(publisher.told());
-        match commit(alloc, &mut self.store, run.commands()) {
+        match commit(alloc, &mut self.store, run.batch()) {
             Ok(receipt) => {
-                run.committed(&receipt);
-                publisher.accept(receipt, ordered);
+                let made = run.committed(&receipt, publisher.told());
+                publisher.accept(receipt, ordered, made);
             }
             Err(refusal) => panic!(rt; "{refusal}"),
         }

@@ -112,9 +112,7 @@ impl Board {
         let rev = taken.revision();
         self.order.reserve(1)?;
         self.unsettled.reserve(1)?;
-        if let Err(refusal) = self.state.absorb(alloc, &taken) {
-            return Err(refusal);
-        }
+        self.state.add(alloc, &taken)?;
         let entry = Entry::new(command, taken);
         self.order.push(Noted::of(&entry))?;
         self.unsettled.push(entry)?;
