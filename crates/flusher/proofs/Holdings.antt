@@ -8,7 +8,9 @@ use Rattle.disk.specs.Crash.{LeavesOnly}
 use Rattle.refusal.specs.declared.Refusal.{Refusal}
 use Rattle.refusal.specs.declared.Refusal.TheVariants.{JournalFull, Stranger, StillNeeded, NoMemory, Fault}
 use Rattle.disk.specs.declared.device.Disk.{Ghosts}
+use Rattle.delta.specs.Element.{Element}
 use Rattle.revision.specs.Command.{Taken}
+use Rattle.revision.specs.Made.{AreMade}
 use Rattle.revision.specs.State.{State, fold, grown, grows, all_grow}
 use Rattle.recovery.specs.declared.store.Store.{Store}
 use Rattle.recovery.specs.Faults.{FailsAtFaults}
@@ -179,6 +181,25 @@ held_continues start begin state told named committed run batch order begun same
 
     goes_on : IsPrefix (commands_of told ++ run) (takens order)
     goes_on = subst (λ (l : List (List Taken)). IsPrefix (commands_of l ++ run) (takens order)) same next
+
+-- The documents beside it are those that its commands leave, on what the store holds,
+pub held_made : (start begin state : State) (told named committed : List (List Taken)) (run batch : List Taken) (documents : List (List Element)) → begin ≡ start
+    → named ≡ told → batch ≡ run → state ≡ fold begin (commands_of (told ++ committed)) → committed ≡ [] → AreMade (fold start (commands_of named)) run documents
+    → AreMade state batch documents
+held_made start begin state told named committed run batch documents begun same alike kept none made =
+    subst (λ (b : List Taken). AreMade state b documents) (sym alike) (subst (λ (s : State). AreMade s run documents) (sym there) made)
+  where
+    there : state ≡ fold start (commands_of named)
+    there = kept ∙ ap (λ (s : State). fold s (commands_of (told ++ committed))) begun
+        ∙ ap (λ (l : List (List Taken)). fold start (commands_of (told ++ l))) none ∙ ap (λ (l : List (List Taken)). fold start (commands_of l)) (append-nil told)
+        ∙ ap (λ (l : List (List Taken)). fold start (commands_of l)) (sym same)
+
+-- and, for a publisher, on what is published.
+pub made_on : (start : State) (told named : List (List Taken)) (run receipt : List Taken) (documents : List (List Element)) → named ≡ told → receipt ≡ run
+    → AreMade (fold start (commands_of named)) run documents → AreMade (fold start (commands_of told)) receipt documents
+made_on start told named run receipt documents same is made =
+    subst (λ (l : List (List Taken)). AreMade (fold start (commands_of l)) receipt documents) same
+    (subst (λ (r : List Taken). AreMade (fold start (commands_of named)) r documents) (sym is) made)
 
 -- So its commit isn't refused as a stranger's.
 pub not_stranger : (state : State) (batch : List Taken) (refusal : Refusal) → all_grow state batch ≡ true → (refusal ≡ Stranger → all_grow state batch ≡ false)

@@ -161,10 +161,11 @@ impl<D: Disk, J: Site> Flusher<D, J> {
                 self.begun.is_start();
                 let ordered = held.goes_on(self.publisher.told());
                 ordered.legal();
-                match self.store.commit(alloc, held.commands()) {
+                let made = held.made(self.publisher.told());
+                match self.store.commit(alloc, held.batch(), made) {
                     Ok(receipt) => {
-                        held.committed(&receipt);
-                        self.publisher.accept(receipt, ordered);
+                        let made = held.committed(&receipt, self.publisher.told());
+                        self.publisher.accept(receipt, ordered, made);
                         Ok(())
                     }
                     Err(refusal) => {
@@ -361,10 +362,11 @@ impl<D: Disk, J: Site> Flusher<D, J> {
                 self.begun.is_start();
                 let ordered = batch.goes_on(self.publisher.told());
                 ordered.legal();
-                match self.store.commit_freeing(alloc, batch.commands()) {
+                let made = batch.made(self.publisher.told());
+                match self.store.commit_freeing(alloc, batch.batch(), made) {
                     Ok(receipt) => {
-                        batch.committed(&receipt);
-                        self.publisher.accept(receipt, ordered);
+                        let made = batch.committed(&receipt, self.publisher.told());
+                        self.publisher.accept(receipt, ordered, made);
                         Ok(())
                     }
                     Err(refusal) => {

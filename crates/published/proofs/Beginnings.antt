@@ -1,5 +1,5 @@
 -- Beginnings of one list.
-use Rattle.std.proofs.Common.{◌≡◌, ℕ, ◌≤◌, ◌<◌, nat_le, Bool, true, false, MatchBool, List, [], ◌∷◌, ◌++◌, length, refl, ap, sym, ◌∙◌, arith, append_assoc}
+use Rattle.std.proofs.Common.{◌≡◌, ◌↔◌, ℕ, ◌≤◌, ◌<◌, nat_le, nat_eq, eq-eqb, eqb-true, Bool, true, false, MatchBool, List, [], ◌∷◌, ◌++◌, length, refl, ap, sym, ◌∙◌, arith, append_assoc}
 use Rattle.std.proofs.lemmas.Bool.Decides.{nat_tests}
 use mathlib.Core.List.{IsPrefix}
 
@@ -41,3 +41,11 @@ begins_as xs ys zs m n first second p q false is =
 pub begins_by : {A : Type 0} (xs ys zs : List A) (m n : ℕ) → m ≡ length xs → n ≡ length ys → IsPrefix xs zs → IsPrefix ys zs
     → MatchBool (nat_le m n) (IsPrefix xs ys) (IsPrefix ys xs × (length ys < length xs))
 begins_by xs ys zs m n first second p q = begins_as xs ys zs m n first second p q (nat_le m n) refl
+
+-- equal lengths tell that two beginnings of one list are the same
+pub same_by : {A : Type 0} (xs ys zs : List A) (m n : ℕ) → m ≡ length xs → n ≡ length ys → IsPrefix xs zs → IsPrefix ys zs → (nat_eq m n ≡ true) ↔ (xs ≡ ys)
+same_by xs ys zs m n first second p q = (
+  λ e. let same : m ≡ n = eqb-true m n e in
+      prefix_whole xs ys (prefix_shorter xs ys zs p q (omega (arith, same, first, second))) (omega (arith, same, first, second)),
+  λ same. eq-eqb m n (first ∙ ap length same ∙ sym second),
+)

@@ -1,5 +1,5 @@
 //! The token of what was published.
-ghost use Rattle.std.specs.Prelude.{◌≡◌, ◌⊎◌, ◌≤◌, ◌<◌, ◌+◌, ◌^◌, ◌∷◌, ◌++◌, [], true, length, MatchBool};
+ghost use Rattle.std.specs.Prelude.{◌≡◌, ◌⊎◌, ◌≤◌, ◌<◌, ◌+◌, ◌^◌, ◌∷◌, ◌++◌, [], ◌↔◌, true, length, IsTrue, MatchBool};
 ghost use mathlib.Core.List.{IsPrefix};
 ghost use Rattle.revision.specs.State.{all_grow};
 ghost use Rattle.recovery.specs.Found.{commands_of};
@@ -57,6 +57,14 @@ impl<D, J: Site> Told<D, J> {
     {
         self.mark.log.meets(&other.mark.log);
         self.mark.batches <= other.mark.batches
+    }
+
+    /// Whether both tokens name the same batches. It takes no memory.
+    pub fn is_same(&self, other: &Told<D, J>) -> bool
+        ensures { IsTrue result ↔ (self.now ≡ other.now) }
+    {
+        self.mark.log.meets(&other.mark.log);
+        self.mark.batches == other.mark.batches
     }
 
     /// The longer of two tokens, which the other begins. It takes no memory.
@@ -128,7 +136,7 @@ impl<D, J: Site> Told<D, J> {
         Told {
             mark: Mark {
                 batches: self.mark.batches + 1,
-                len: self.mark.len + receipt.batch().len() as u64,
+                len: self.mark.len + receipt.batch().as_slice().len() as u64,
                 log: log.owner.front(),
                 order: ordered.front.copy(),
                 start: self.mark.start.copy(),

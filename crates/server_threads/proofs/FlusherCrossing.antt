@@ -23,8 +23,7 @@ use Rattle.view.specs.contracts.shown.News as news
 use Rattle.view.specs.contracts.publisher.Stage as stage
 use Rattle.view.specs.contracts.publisher.Publisher as publisher
 use Rattle.view.specs.contracts.publisher.Publisher.TheInside as inside
-use Rattle.view.proofs.CallerLemmas.{name_send, delta_send, sources_send, state_send, shown_send, shown_sync}
-use Rattle.hub.proofs.CallerLemmas.{taken_send}
+use Rattle.view.proofs.CallerLemmas.{name_send, delta_send, document_send, sources_send, state_send, commands_send, shown_send, shown_sync}
 use Rattle.flusher.specs.contracts.flusher.Flusher as flusher
 use Rattle.server_threads.specs.contracts.writing.Shared as shared
 use Rattle.server_threads.specs.contracts.writing.Writing as writing
@@ -38,16 +37,16 @@ pub job_send : IsSend job.the_row
 job_send = search (name_send, delta_send, sources_send, sendable, crosses) depth 60 fits 20000
 
 pub receipt_send : (D : RattleType) → IsSend (receipt.the_row D)
-receipt_send D = search (taken_send, sendable, crosses) depth 60 fits 20000
+receipt_send D = search (commands_send, sendable, crosses) depth 60 fits 20000
 
 pub stage_send : (D T : RattleType) (s : site.Ghosts T.Denot) (l : ledger.Ghosts T.Denot) → IsSend D → IsSend T → IsSend (stage.the_row D T s l)
 stage_send D T s l a b =
     let told = told_send D T s l b in
     let ordered = ordered_send T s l b in
-    search (receipt_send, sendable, crosses) depth 60 fits 20000
+    search (receipt_send, document_send, sendable, crosses) depth 60 fits 20000
 
-pub news_send : IsSend news.the_row
-news_send = search (taken_send, mark_send, sendable, crosses) depth 60 fits 20000
+pub news_send : (T : RattleType) (s : site.Ghosts T.Denot) (l : ledger.Ghosts T.Denot) → IsSend T → IsSend (news.the_row T s l)
+news_send T s l a = search (commands_send, document_send, mark_send, sendable, crosses) depth 60 fits 20000
 
 pub log_send : (D T : RattleType) (s : site.Ghosts T.Denot) (l : ledger.Ghosts T.Denot) → IsSend (log.the_row D T s l)
 log_send D T s l =
@@ -56,14 +55,14 @@ log_send D T s l =
 
 pub publisher_send : (D T : RattleType) (s : site.Ghosts T.Denot) (l : ledger.Ghosts T.Denot) → IsSend D → IsSend T → IsSync T → IsSend (publisher.the_row D T s l)
 publisher_send D T s l a b c =
-    let x = shown_sync in
-    let y = shown_send in
-    let news = news_send in
+    let x = shown_sync T s l c in
+    let y = shown_send T s l b in
+    let news = news_send T s l b in
     let told = told_send D T s l b in
     let ordered = ordered_send T s l b in
     let all : AllSend (shape (inside.the_type D T s l)).fields = (
       search (part.the_send, deed.the_send, place.the_send, table.the_send, table.the_sync, lease.the_send, lease.the_sync, frees, sendable, crosses) depth 40 fits 20000,
-      (log_send D T s l, (told, (search (receipt_send, sendable, crosses) depth 60 fits 20000, tt))),
+      (log_send D T s l, (told, (search (receipt_send, document_send, sendable, crosses) depth 60 fits 20000, tt))),
     ) in
     let fields : IsSend (inside.the_row D T s l) =
     recorded_send (Struct (shape (inside.the_type D T s l))) _ _ (inside.the_type D T s l).to_one (struct_send (shape (inside.the_type D T s l)) all) in
@@ -76,7 +75,7 @@ flusher_fields D T d s l a b c =
       search (cells_send, job_send, state_send, sendable, crosses) depth 60 fits 20000,
       (
         publisher_send D T s l a b c,
-        (search (taken_send, sendable, crosses) depth 60 fits 20000, (search (sendable, crosses) depth 60 fits 20000, tt)),
+        (search (commands_send, document_send, sendable, crosses) depth 60 fits 20000, (search (sendable, crosses) depth 60 fits 20000, tt)),
       ),
     )
 

@@ -18,6 +18,8 @@ use Rattle.revision.specs.contracts.source_table.SourceTable as kept
 use Rattle.revision.specs.contracts.past.Past as past
 use Rattle.revision.specs.contracts.doc_state.DocState as one
 use Rattle.revision.specs.contracts.state.State as state
+use Rattle.revision.specs.contracts.taken.Taken as taken
+use Rattle.revision.specs.contracts.batch.Batch as batch
 use Rattle.published.specs.declared.site.Site as site
 use Rattle.view.specs.contracts.shown.Shown as shown
 use Rattle.view.specs.contracts.viewer.Viewer as viewer
@@ -70,13 +72,23 @@ one_sync = search (name_sync, past_sync, document_sync, table_sync, sendable, cr
 pub state_sync : IsSync state.the_row
 state_sync = search (one_sync, sendable, crosses, maps.crosses) depth 60 fits 20000
 
-pub shown_sync : IsSync shown.the_row
-shown_sync = search (state_sync, seen.the_sync, sendable, crosses) depth 60 fits 20000
+pub taken_send : IsSend taken.the_row
+taken_send = search (name_send, delta_send, sendable, crosses, maps.crosses) depth 60 fits 20000
 
-pub shown_send : IsSend shown.the_row
-shown_send = search (state_send, seen.the_send, sendable, crosses) depth 60 fits 20000
+pub taken_sync : IsSync taken.the_row
+taken_sync = search (name_sync, delta_sync, sendable, crosses, maps.crosses) depth 60 fits 20000
+
+-- commands that owners on several threads have together
+pub commands_send : IsSend batch.the_row
+commands_send = search (taken_send, taken_sync, sendable, crosses, maps.crosses) depth 60 fits 20000
+
+pub shown_sync : (T : RattleType) (s : site.Ghosts T.Denot) (l : ledger.Ghosts T.Denot) → IsSync T → IsSync (shown.the_row T s l)
+shown_sync T s l b = search (state_sync, seen.the_sync, sendable, crosses) depth 60 fits 20000
+
+pub shown_send : (T : RattleType) (s : site.Ghosts T.Denot) (l : ledger.Ghosts T.Denot) → IsSend T → IsSend (shown.the_row T s l)
+shown_send T s l a = search (state_send, seen.the_send, sendable, crosses) depth 60 fits 20000
 
 pub viewer_send : (D T : RattleType) (s : site.Ghosts T.Denot) (l : ledger.Ghosts T.Denot) → IsSend T → IsSync T → IsSend (viewer.the_row D T s l)
 viewer_send D T s l a b =
-    let x = shown_sync in let y = shown_send in
+    let x = shown_sync T s l b in let y = shown_send T s l a in
     search (seen.the_send, part.the_send, place.the_send, table.the_send, table.the_sync, lease.the_send, lease.the_sync, frees, sendable, crosses) depth 40 fits 20000

@@ -3,14 +3,15 @@ use Rattle.std.proofs.Common.{◌≡◌, List, [], ◌∷◌, ◌++◌, fold, re
 use Rattle.std.proofs.lemmas.Bool.{and_parts}
 use Rattle.std.proofs.lemmas.List.{append-nil}
 use Rattle.published.specs.Books.{Books}
+use Rattle.delta.specs.Element.{Element}
 use Rattle.revision.specs.Command.{Taken}
+use Rattle.revision.specs.Made.{AreMade}
 use Rattle.revision.specs.State as state
 use Rattle.recovery.specs.Found.{commands_of}
-use Rattle.view.specs.News.{News}
-use Rattle.view.specs.Shown.{basis_of, after, IsShown}
+use Rattle.view.specs.News.{News, GoesOn}
+use Rattle.view.specs.Shown.{Seen, basis_of, after, IsShown}
 use Rattle.view.specs.Stages.{news_of, AreShown}
 use Rattle.published.specs.Batches.{Mark}
-use Rattle.view.specs.declared.shown.Shown.{Shown}
 use Rattle.view.specs.declared.shown.Basis.{Basis}
 
 -- commands in turn make what the later ones make of what the first have made
@@ -31,7 +32,7 @@ grow_join s (x ∷ xs) ys first later =
     ap₂ (λ a b. a && b) parts.0 (grow_join (state.grown s x) xs ys parts.1 later)
 
 -- what shows these batches and takes in one more shows them all
-pub shows_more : (book : Books) (start : state.State) (told next : List (List Taken)) (batch : List Taken) (old new : Shown) (waiting : List News)
+pub shows_more : (book : Books) (start : state.State) (told next : List (List Taken)) (batch : List Taken) (old new : Seen) (waiting : List News)
     → AreShown book start told old → waiting ≡ news_of book start batch next ∷ [] → next ≡ told ++ batch ∷ []
     → basis_of new ≡ fold after (basis_of old) waiting → IsShown book start new
 shows_more book start told next batch old new waiting shows waits more goes =
@@ -60,3 +61,27 @@ pub absorbs : (before made : state.State) (batch : List Taken) (mark other : Mar
     → basis made other true ≡ basis (state.fold before batch) mark (true && state.all_grow before batch)
 absorbs before made batch mark other is grew same =
     ap₂ (λ (s : state.State) (rest : Mark × Bool). basis s rest.0 rest.1) is (ap₂ (λ (m : Mark) (b : Bool). (m, b)) same (sym grew))
+
+-- a copy that shows what was published before a batch
+module _ (book : Books) (start : state.State) (shown : Seen) (batch : List Taken) (documents : List (List Element)) (before after : Mark) (is : IsShown book start shown)
+    (goes : GoesOn book start batch documents before after) (same : shown.mark.batches ≡ before.batches) where
+  there : shown.state ≡ state.fold start (commands_of before.batches)
+  there = is.made ∙ ap (λ (l : List (List Taken)). state.fold start (commands_of l)) same
+
+  -- the documents beside the batch are those of this copy
+  pub made_here : AreMade shown.state batch documents
+  made_here = subst (λ (s : state.State). AreMade s batch documents) (sym there) goes.made
+
+  -- and it shows the batch too, once it has absorbed it
+  pub shows_after : (made : state.State) (mark : Mark) → made ≡ state.fold shown.state batch → state.all_grow shown.state batch ≡ true → mark ≡ after
+      → IsShown book start (record { state = made; mark = mark })
+  shows_after made mark made_is grow mark_is =
+      let commands : commands_of after.batches ≡ commands_of before.batches ++ batch = ap commands_of goes.next ∙ commands_more before.batches batch in
+      let first : state.all_grow start (commands_of before.batches) ≡ true = ap (λ (l : List (List Taken)). state.all_grow start (commands_of l)) (sym same) ∙ is.grew in
+      let later : state.all_grow (state.fold start (commands_of before.batches)) batch ≡ true = ap (λ (s : state.State). state.all_grow s batch) (sym there) ∙ grow in
+      subst (λ (m : Mark). IsShown book start (record { state = made; mark = m })) (sym mark_is) (record {
+        log = goes.log_after;
+        begun = goes.begun_after;
+        made = made_is ∙ ap (λ (s : state.State). state.fold s batch) there ∙ sym (ap (state.fold start) commands ∙ fold_join start (commands_of before.batches) batch);
+        grew = ap (state.all_grow start) commands ∙ grow_join start (commands_of before.batches) batch first later;
+      })

@@ -1,14 +1,19 @@
 -- What readers are shown.
 use Rattle.std.specs.Prelude.{◌≡◌, ◌&&◌, true, [], ◌∷◌}
 use Rattle.published.specs.Books.{Books}
+use Rattle.published.specs.Batches.{Mark}
 use Rattle.revision.specs.State.{State, fold, all_grow}
 use Rattle.recovery.specs.Found.{commands_of}
 use Rattle.view.specs.News.{News}
-use Rattle.view.specs.declared.shown.Shown.{Shown}
 use Rattle.view.specs.declared.shown.Basis.{Basis}
 
+-- a state, with the published batches that made it
+pub record Seen : Type 0 where
+  pub state : State
+  pub mark : Mark
+
 -- the state that is shown, with the published batches that made it, each of which continued it
-abbrev pub basis_of : Shown → Basis
+abbrev pub basis_of : Seen → Basis
 basis_of shown = record { state = shown.state; mark = shown.mark; grew = true }
 
 -- it goes on by a batch
@@ -16,7 +21,7 @@ abbrev pub after : Basis → News → Basis
 after basis news = record { state = fold basis.state news.batch; mark = news.mark; grew = basis.grew && all_grow basis.state news.batch }
 
 -- What is shown is what the batches of this log make of the start, and each of their commands continued what those before had made.
-pub record IsShown (book : Books) (start : State) (shown : Shown) : Type 0 where
+pub record IsShown (book : Books) (start : State) (shown : Seen) : Type 0 where
   pub log : shown.mark.book ≡ book
   pub begun : shown.mark.start ≡ start ∷ []
   pub made : shown.state ≡ fold start (commands_of shown.mark.batches)

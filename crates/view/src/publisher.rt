@@ -2,6 +2,8 @@
 ghost use Rattle.std.specs.Prelude.{◌≡◌, ◌∷◌, ◌++◌, [], drop, length, nat_lt, IfOk, IfErr, IfSome, IfNone, OnErr, IsOkUnless};
 ghost use mathlib.Core.List.{IsPrefix};
 ghost use Rattle.recovery.specs.Found.{commands_of};
+ghost use Rattle.revision.specs.Made.{AreMade};
+ghost use Rattle.revision.specs.State.{fold};
 ghost use Rattle.world.specs.World.{takens};
 ghost use Rattle.view.specs.Published.{Published};
 ghost use Rattle.view.specs.Stages.{AreShown, IsNext, news_of as to_show};
@@ -9,13 +11,14 @@ ghost use Rattle.view.specs.Stages.{AreShown, IsNext, news_of as to_show};
 use crate::shown::{InLog, News, Sees, Shown};
 use crate::viewer::Viewer;
 use core::mem::replace_with;
+use document::Document;
 use left_right::writer::Writer;
 use published::{Log, Opened, Order, Ordered, Site, Told};
 use recovery::Receipt;
 use refusal::Refusal;
-use revision::{State, Taken};
+use revision::State;
 use std::alloc::Global;
-use std::marker::Model;
+use std::marker::{Model, PhantomData};
 use std::sync::Wait;
 
 /// So many viewers there may be at once.
@@ -27,8 +30,8 @@ const VIEWERS: usize = 64;
 pub enum Stage<D, J: Site> {
     /// There is none.
     Idle,
-    /// It was given, with the order that has it next.
-    Held(Receipt<D>, Ordered<J>),
+    /// It was given, with the order that has it next, and with the documents that its first commands leave.
+    Held(Receipt<D>, Ordered<J>, Vec<Document>),
     /// It is in the log.
     Logged(Receipt<D>, Told<D, J>),
     /// The writer of the view has it, and doesn't show it yet.
@@ -38,7 +41,7 @@ pub enum Stage<D, J: Site> {
 /// What publishes committed batches to viewers: it alone puts them into the run's log. Contracts see it as the batches that are
 /// published, and the one that was given to be published next. It isn't `Drop`: end it by `end`.
 pub struct Publisher<D, J: Site> {
-    writer: Writer<Shown, News, (), InLog<J>>,
+    writer: Writer<Shown<J>, News<J>, (), InLog<J>>,
     log: Log<D, J>,
     told: Told<D, J>,
     stage: Stage<D, J>,
@@ -55,7 +58,8 @@ impl<D, J: Site> Model for Publisher<D, J> {
     ghost view = { λ p. record { told = p.told; unpublished = spec.held_in p.stage } };
 
     ghost invariant = { λ p. spec.AreShown J.book J.start p.told p.writer.desk.shown.value
-        × (drop p.writer.behind p.writer.log.items ≡ spec.waiting J.book J.start p.stage) × spec.IsLogged p.log p.told p.stage };
+        × (drop p.writer.behind p.writer.log.items ≡ spec.waiting J.book J.start p.stage) × spec.IsLogged p.log p.told p.stage
+        × spec.IsGiven J.start p.told p.stage };
 }
 
 impl<D, J: Site> Publisher<D, J> {
@@ -78,11 +82,13 @@ impl<D, J: Site> Publisher<D, J> {
             alloc,
             state: state.copy(alloc)?,
             mark: told.mark(),
+            of: PhantomData,
         };
         let second = Shown {
             alloc,
             state: state.copy(alloc)?,
             mark: told.mark(),
+            of: PhantomData,
         };
         let writer = Writer::new(alloc, first, second, VIEWERS)?;
         let start = told.copy();
@@ -98,13 +104,15 @@ impl<D, J: Site> Publisher<D, J> {
         ))
     }
 
-    /// Takes a batch that was committed, to be published next: the next part of the order, of which it has a token. It takes no memory.
-    pub fn accept(&mut self, receipt: Receipt<D>, ordered: Ordered<J>)
+    /// Takes a batch that was committed, to be published next: the next part of the order, of which it has a token. The documents that its
+    /// first commands leave may be given: those that are shown take them over, and aren't made again. It takes no memory.
+    pub fn accept(&mut self, receipt: Receipt<D>, ordered: Ordered<J>, made: Vec<Document>)
         requires none { self.old.unpublished ≡ [] }
         requires next { IsNext (commands_of self.old.told) receipt (takens ordered) }
+        requires made { AreMade (fold J.start (commands_of self.old.told)) receipt made.items }
         ensures { self.new ≡ record self.old { unpublished = receipt ∷ [] } }
     {
-        self.stage = Stage::Held(receipt, ordered);
+        self.stage = Stage::Held(receipt, ordered, made);
     }
 
     /// Whether a batch was given that isn't published yet.
@@ -113,7 +121,7 @@ impl<D, J: Site> Publisher<D, J> {
     {
         match &self.stage {
             Stage::Idle => false,
-            Stage::Held(_, _) => true,
+            Stage::Held(_, _, _) => true,
             Stage::Logged(_, _) => true,
             Stage::Queued(_, _) => true,
         }
@@ -132,7 +140,7 @@ impl<D, J: Site> Publisher<D, J> {
     {
         match &self.stage {
             Stage::Idle => self.told.ordered(),
-            Stage::Held(_, ordered) => ordered.copy(),
+            Stage::Held(_, ordered, _) => ordered.copy(),
             Stage::Logged(_, next) => next.ordered(),
             Stage::Queued(_, next) => next.ordered(),
         }
@@ -223,24 +231,26 @@ fn published<D, J: Site, R: Wait>(
             };
             (idle, Ok(None))
         }
-        Stage::Held(receipt, ordered) => {
+        Stage::Held(receipt, ordered, made) => {
             let next = told.add(&mut log, &receipt, &ordered);
-            queued(rt, alloc, writer, log, told, receipt, next)
+            queued(rt, writer, log, told, receipt, next, made)
         }
-        Stage::Logged(receipt, next) => queued(rt, alloc, writer, log, told, receipt, next),
+        Stage::Logged(receipt, next) => {
+            queued(rt, writer, log, told, receipt, next, Vec::new(alloc))
+        }
         Stage::Queued(receipt, next) => shown(rt, writer, log, told, receipt, next),
     }
 }
 
-// gives the batch to the writer, and shows it
+// gives the batch to the writer, and shows it; without memory for it, the documents are dropped
 fn queued<D, J: Site, R: Wait>(
     rt: &R,
-    alloc: Global,
-    mut writer: Writer<Shown, News, (), InLog<J>>,
+    mut writer: Writer<Shown<J>, News<J>, (), InLog<J>>,
     log: Log<D, J>,
     told: Told<D, J>,
     receipt: Receipt<D>,
     next: Told<D, J>,
+    made: Vec<Document>,
 ) -> (
     Publisher<D, J>,
     Result<Option<(Receipt<D>, Told<D, J>)>, Refusal>,
@@ -248,6 +258,7 @@ fn queued<D, J: Site, R: Wait>(
     requires shown { AreShown J.book J.start told writer.desk.shown.value }
     requires waiting { drop writer.behind writer.log.items ≡ [] }
     requires next { next ≡ told ++ receipt ∷ [] }
+    requires made { AreMade (fold J.start (commands_of told)) receipt made.items }
     requires log { log ≡ next }
     ensures done { IfOk result.1 (λ published. IfSome published (λ p. (p.0 ≡ receipt) × (p.1 ≡ next)
         × (result.0 ≡ record { told = next; unpublished = [] }))) }
@@ -255,7 +266,7 @@ fn queued<D, J: Site, R: Wait>(
     ensures unchanged { OnErr result.1 (result.0 ≡ record { told = told; unpublished = receipt ∷ [] }) }
     ensures only { IsOkUnless result.1 Refusal.NoMemory }
 {
-    let appended = match news_of(alloc, &receipt, &next) {
+    let appended = match news_of(&receipt, &told, &next, made) {
         Ok(news) => writer.append(news).is_ok(),
         Err(_) => false,
     };
@@ -274,7 +285,7 @@ fn queued<D, J: Site, R: Wait>(
 // shows the batch that the writer has
 fn shown<D, J: Site, R: Wait>(
     rt: &R,
-    writer: Writer<Shown, News, (), InLog<J>>,
+    writer: Writer<Shown<J>, News<J>, (), InLog<J>>,
     log: Log<D, J>,
     told: Told<D, J>,
     receipt: Receipt<D>,
@@ -317,29 +328,23 @@ fn shown<D, J: Site, R: Wait>(
     }
 }
 
-// the batch of the receipt, copied, as it is to be shown with what is then published
+// the batch of the receipt, shared, with the documents, as it is to be shown with what is then published
 fn news_of<D, J: Site>(
-    alloc: Global,
     receipt: &Receipt<D>,
+    told: &Told<D, J>,
     next: &Told<D, J>,
-) -> Result<News, Refusal>
+    made: Vec<Document>,
+) -> Result<News<J>, Refusal>
+    requires next { next.now ≡ told.now ++ receipt.now ∷ [] }
+    requires made { AreMade (fold J.start (commands_of told.now)) receipt.now made.items }
     ensures news { IfOk result (λ news. news ≡ to_show J.book J.start receipt.now next.now) }
     ensures only { IsOkUnless result Refusal.NoMemory }
 {
     Ok(News {
-        batch: copies(alloc, receipt.batch())?,
+        batch: receipt.batch().share()?,
+        made,
+        before: told.mark(),
         mark: next.mark(),
+        of: PhantomData,
     })
-}
-
-// equal commands in the same order, or `NoMemory`
-fn copies(alloc: Global, batch: &[Taken]) -> Result<Vec<Taken>, Refusal>
-    ensures same { IfOk result (λ copies. copies.items ≡ batch.now) }
-    ensures only { IsOkUnless result Refusal.NoMemory }
-{
-    let mut copies = Vec::with_capacity(alloc, batch.len())?;
-    for taken in batch {
-        copies.push(taken.copy(alloc)?)?;
-    }
-    Ok(copies)
 }

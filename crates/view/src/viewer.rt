@@ -19,7 +19,7 @@ use std::marker::Model;
 /// A reader of the view, which never waits. Contracts see it as the published batches that it has seen or was told of.
 #[derive(Drop)]
 pub struct Viewer<D, J: Site> {
-    reader: Option<Reader<Shown, (), InLog<J>>>,
+    reader: Option<Reader<Shown<J>, (), InLog<J>>>,
     told: Told<D, J>,
 }
 
@@ -33,7 +33,7 @@ impl<D, J: Site> Model for Viewer<D, J> {
 }
 
 impl<D, J: Site> Viewer<D, J> {
-    pub(crate) fn new(reader: Reader<Shown, (), InLog<J>>, told: Told<D, J>) -> Viewer<D, J>
+    pub(crate) fn new(reader: Reader<Shown<J>, (), InLog<J>>, told: Told<D, J>) -> Viewer<D, J>
         ensures { result ≡ told }
     {
         Viewer {

@@ -4,6 +4,8 @@
 #[cfg(test)]
 pub mod callers;
 #[cfg(test)]
+mod documents;
+#[cfg(test)]
 mod shows;
 #[cfg(test)]
 mod threads;

@@ -36,7 +36,7 @@ fn published<J: Site, R: Abort + AllocGlobal + Wait>(
 {
     match publisher.publish(rt, rt.alloc()) {
         Ok(Some((receipt, told))) => {
-            assert_eq!(rt; receipt.batch().len(), 1);
+            assert_eq!(rt; receipt.batch().as_slice().len(), 1);
             assert_eq!(rt; told.len(), length);
             told
         }

@@ -45,7 +45,7 @@ pub fn begun<J: Site, R: Abort + AllocGlobal>(
 }
 
 impl<J: Site> Writing<J> {
-    /// The command of this number, with so many letters, is ordered, committed, and given to be published.
+    /// The command of this number, with so many letters, is ordered, committed, and given to be published, with the document that it leaves.
     pub fn give<R: Abort + AllocGlobal>(
         &mut self,
         rt: &R,
@@ -55,11 +55,28 @@ impl<J: Site> Writing<J> {
     )
         requires { publisher.old.unpublished ≡ [] }
     {
-        let alloc = rt.alloc();
-        let command = command(alloc, number, count).expect(rt, "a command");
-        if let Err(refusal) = self.board.submit(alloc, &mut self.seat, &command) {
+        self.order(rt, number, count);
+        self.hand_on(rt, publisher, true);
+    }
+
+    /// The command of this number, with so many letters, is ordered.
+    pub fn order<R: Abort + AllocGlobal>(&mut self, rt: &R, number: u64, count: u32) {
+        let command = command(rt.alloc(), number, count).expect(rt, "a command");
+        if let Err(refusal) = self.board.submit(rt.alloc(), &mut self.seat, &command) {
             panic!(rt; "{refusal}");
         }
+    }
+
+    /// The commands that were ordered are committed as one batch, and given to be published, with the documents that they leave or without.
+    pub fn hand_on<R: Abort + AllocGlobal>(
+        &mut self,
+        rt: &R,
+        publisher: &mut Publisher<MemDisk, J>,
+        with_documents: bool,
+    )
+        requires { publisher.old.unpublished ≡ [] }
+    {
+        let alloc = rt.alloc();
         let run = self.board.take(alloc, CAP).expect(rt, "memory");
         if run.len() == 0 || run.place() as u64 != publisher.told().len() {
             panic!(rt; "it isn't the next part of the order");
@@ -68,7 +85,11 @@ impl<J: Site> Writing<J> {
         match commit(alloc, &mut self.store, run.batch()) {
             Ok(receipt) => {
                 let made = run.committed(&receipt, publisher.told());
-                publisher.accept(receipt, ordered, made);
+                if with_documents {
+                    publisher.accept(receipt, ordered, made);
+                } else {
+                    publisher.accept(receipt, ordered, Vec::new(alloc));
+                }
             }
             Err(refusal) => panic!(rt; "{refusal}"),
         }

@@ -9,7 +9,7 @@ use Rattle.recovery.proofs.CallerLemmas.{goes_call}
 use Rattle.refusal.specs.declared.Refusal.{Refusal}
 use Rattle.refusal.specs.declared.Refusal.TheVariants.{JournalFull, Fault}
 use Rattle.view.specs.Published.{Published}
-use Rattle.flusher.proofs.Holdings.{held_in, goes_not, goes_batch, kept_more, next_by, no_batch, no_error, held_continues, not_stranger, unchanged_without, same_batch, same_refusal}
+use Rattle.flusher.proofs.Holdings.{held_in, goes_not, goes_batch, kept_more, next_by, held_made, made_on, no_batch, no_error, held_continues, not_stranger, unchanged_without, same_batch, same_refusal}
 use Rattle.flusher.proofs.flusher.Flusher.commit_held.Goals as goal
 
 pub returns-in-None-clause-goes : goal.returns-in-None-clause-goes
@@ -29,15 +29,15 @@ returns-in-None-clause-state g c =
 pub returns-in-Ok-clause-goes : goal.returns-in-Ok-clause-goes
 returns-in-Ok-clause-goes g c =
     let held : c.args.self.now.waiting ≡ Some c.in-Some.held = cc in
-    let same : c.commands.result.now ≡ c.in-Some.held.commands = cc in
+    let same : c.batch.result.now ≡ c.in-Some.held.commands = cc in
     let e = c.commit.ensures in
-    goes_batch _ _ c.commands.result.now _ (ap held_in held ∙ ap (λ (b : List Taken). b ∷ []) (sym same))
+    goes_batch _ _ c.batch.result.now _ (ap held_in held ∙ ap (λ (b : List Taken). b ∷ []) (sym same))
     (goes_call c.commit.result e.faults.failed_before e.faults.fails e.any_moment e.done e.kept)
 
 pub returns-in-Ok-clause-ok : goal.returns-in-Ok-clause-ok
 returns-in-Ok-clause-ok g c =
     let held : c.args.self.now.waiting ≡ Some c.in-Some.held = cc in
-    let same : c.commands.result.now ≡ c.in-Some.held.commands = cc in
+    let same : c.batch.result.now ≡ c.in-Some.held.commands = cc in
     let alone = (c.args.self.now.fits c.in-Some.held held).alone in (
       ap (λ (p : Published). p.unpublished) c.accept.ensures ∙ ap (λ (b : List Taken). b ∷ []) (c.in-Ok.ensures.receipt ∙ same) ∙ sym (ap held_in held)
           ∙ sym (ap (λ (l : List (List Taken)). l ++ held_in c.args.self.now.waiting) alone),
@@ -47,7 +47,7 @@ returns-in-Ok-clause-ok g c =
 pub returns-in-Ok-clause-state : goal.returns-in-Ok-clause-state
 returns-in-Ok-clause-state g c =
     let held : c.args.self.now.waiting ≡ Some c.in-Some.held = cc in
-    let same : c.commands.result.now ≡ c.in-Some.held.commands = cc in
+    let same : c.batch.result.now ≡ c.in-Some.held.commands = cc in
     c.in-Ok.ensures.state ∙ ap (fold c.args.self.now.store.state) (same ∙ sym (ap commands_of (ap held_in held) ∙ append-nil _))
 
 pub goes_on-ordered-requires : goal.goes_on-ordered-requires
@@ -64,8 +64,8 @@ returns-in-None-clause-committed g c batch held is_open =
 pub returns-in-Ok-clause-committed : goal.returns-in-Ok-clause-committed
 returns-in-Ok-clause-committed g c batch waits is_open =
     let held : c.args.self.now.waiting ≡ Some c.in-Some.held = cc in
-    let same : c.commands.result.now ≡ c.in-Some.held.commands = cc in
-    let one : c.commands.result.now ≡ batch = same_batch (held_in c.args.self.now.waiting) c.commands.result.now batch (ap held_in held ∙ ap (λ (b : List Taken). b ∷ []) (sym same)) waits in
+    let same : c.batch.result.now ≡ c.in-Some.held.commands = cc in
+    let one : c.batch.result.now ≡ batch = same_batch (held_in c.args.self.now.waiting) c.batch.result.now batch (ap held_in held ∙ ap (λ (b : List Taken). b ∷ []) (sym same)) waits in
     subst (λ (b : List Taken). IsCommittedNow b c.args.self.now.store is_open c.commit.new.self) one (c.in-Ok.ensures.committed is_open)
 
 pub returns-in-Ok-clause-still : goal.returns-in-Ok-clause-still
@@ -93,15 +93,15 @@ returns-in-None-clause-full g c batch held works =
 pub returns-in-Ok-clause-full : goal.returns-in-Ok-clause-full
 returns-in-Ok-clause-full g c batch waits works =
     let held : c.args.self.now.waiting ≡ Some c.in-Some.held = cc in
-    let same : c.commands.result.now ≡ c.in-Some.held.commands = cc in
-    let one : c.commands.result.now ≡ batch = same_batch (held_in c.args.self.now.waiting) c.commands.result.now batch (ap held_in held ∙ ap (λ (b : List Taken). b ∷ []) (sym same)) waits in
+    let same : c.batch.result.now ≡ c.in-Some.held.commands = cc in
+    let one : c.batch.result.now ≡ batch = same_batch (held_in c.args.self.now.waiting) c.batch.result.now batch (ap held_in held ∙ ap (λ (b : List Taken). b ∷ []) (sym same)) waits in
     (λ told. absurd (no_error tt JournalFull told), λ none. absurd (false≢true (sym none ∙ ap (has_room c.args.self.now.store) (sym one) ∙ c.in-Ok.ensures.room)))
 
 pub returns-in-Err-clause-full : goal.returns-in-Err-clause-full
 returns-in-Err-clause-full g c batch waits works =
     let held : c.args.self.now.waiting ≡ Some c.in-Some.held = cc in
-    let same : c.commands.result.now ≡ c.in-Some.held.commands = cc in
-    let one : c.commands.result.now ≡ batch = same_batch (held_in c.args.self.now.waiting) c.commands.result.now batch (ap held_in held ∙ ap (λ (b : List Taken). b ∷ []) (sym same)) waits in
+    let same : c.batch.result.now ≡ c.in-Some.held.commands = cc in
+    let one : c.batch.result.now ≡ batch = same_batch (held_in c.args.self.now.waiting) c.batch.result.now batch (ap held_in held ∙ ap (λ (b : List Taken). b ∷ []) (sym same)) waits in
     let full = rw c.in-Err.is at (c.commit.ensures.full works) in (
       λ told. ap (has_room c.args.self.now.store) (sym one) ∙ full.0 (same_refusal c.in-Err.refusal JournalFull told),
       λ none. same_refusal c.in-Err.refusal JournalFull (full.1 (ap (has_room c.args.self.now.store) one ∙ none)),
@@ -111,26 +111,26 @@ returns-in-Err-clause-full g c batch waits works =
 pub returns-in-Err-clause-only : goal.returns-in-Err-clause-only
 returns-in-Err-clause-only g c =
     let held : c.args.self.now.waiting ≡ Some c.in-Some.held = cc in
-    let same : c.commands.result.now ≡ c.in-Some.held.commands = cc in
-    not_stranger c.args.self.now.store.state c.commands.result.now c.in-Err.refusal
+    let same : c.batch.result.now ≡ c.in-Some.held.commands = cc in
+    not_stranger c.args.self.now.store.state c.batch.result.now c.in-Err.refusal
     (held_continues g.J.Site.start c.args.self.now.begun c.args.self.now.store.state c.args.self.now.publisher.told c.told.result.now c.args.self.now.publisher.unpublished
-    c.in-Some.held.commands c.commands.result.now c.goes_on-ordered.result c.is_start.ensures c.told.ensures same c.legal.ensures c.goes_on-ordered.ensures.next
+    c.in-Some.held.commands c.batch.result.now c.goes_on-ordered.result c.is_start.ensures c.told.ensures same c.legal.ensures c.goes_on-ordered.ensures.next
     c.args.self.now.kept (c.args.self.now.fits c.in-Some.held held).alone)
     (λ is. c.in-Err.ensures.stranger (ap (λ (r : Refusal). Err r) is)) c.in-Err.ensures.only
 
 pub accept-requires-clause-next : goal.accept-requires-clause-next
 accept-requires-clause-next g c =
     let held : c.args.self.now.waiting ≡ Some c.in-Some.held = cc in
-    let same : c.commands.result.now ≡ c.in-Some.held.commands = cc in
+    let same : c.batch.result.now ≡ c.in-Some.held.commands = cc in
     next_by c.args.self.now.publisher.told c.told.result.now c.in-Some.held.commands c.in-Ok.receipt (takens c.goes_on-ordered.result) c.told.ensures
     (c.in-Ok.ensures.receipt ∙ same) (c.args.self.now.fits c.in-Some.held held).some c.goes_on-ordered.ensures.few c.goes_on-ordered.ensures.next
 
 pub returns-in-Err-clause-goes : goal.returns-in-Err-clause-goes
 returns-in-Err-clause-goes g c =
     let held : c.args.self.now.waiting ≡ Some c.in-Some.held = cc in
-    let same : c.commands.result.now ≡ c.in-Some.held.commands = cc in
+    let same : c.batch.result.now ≡ c.in-Some.held.commands = cc in
     let e = c.commit.ensures in
-    goes_batch _ _ c.commands.result.now _ (ap held_in held ∙ ap (λ (b : List Taken). b ∷ []) (sym same))
+    goes_batch _ _ c.batch.result.now _ (ap held_in held ∙ ap (λ (b : List Taken). b ∷ []) (sym same))
     (goes_call c.commit.result e.faults.failed_before e.faults.fails e.any_moment e.done e.kept)
 
 pub returns-in-Err-clause-held : goal.returns-in-Err-clause-held
@@ -142,7 +142,7 @@ pub invariant_of-self-in-Ok : goal.invariant_of-self-in-Ok
 invariant_of-self-in-Ok g c =
     let held : c.args.self.now.waiting ≡ Some c.in-Some.held = cc in
     record {
-      kept = kept_more _ _ _ _ _ _ c.commands.result.now c.args.self.now.kept (c.args.self.now.fits c.in-Some.held held).alone c.accept.ensures c.in-Ok.ensures.receipt c.in-Ok.ensures.state;
+      kept = kept_more _ _ _ _ _ _ c.batch.result.now c.args.self.now.kept (c.args.self.now.fits c.in-Some.held held).alone c.accept.ensures c.in-Ok.ensures.receipt c.in-Ok.ensures.state;
       few = omega (arith, ap (λ (p : Published). length p.unpublished) c.accept.ensures);
       fits = λ x is. absurd (let none : ⊥ = cc in none);
       placed = λ x is. absurd (let none : ⊥ = cc in none);
@@ -163,3 +163,28 @@ pub returns-in-Err-clause-failed_before : goal.returns-in-Err-clause-failed_befo
 returns-in-Err-clause-failed_before g c failed batch held =
     let both = c.commit.ensures.faults.failed_before failed in
     (same_refusal c.in-Err.refusal Fault (rw c.in-Err.is at both.0), both.1)
+
+-- the documents beside the batch
+pub made-made-requires : goal.made-made-requires
+made-made-requires g c =
+    let held : c.args.self.now.waiting ≡ Some c.in-Some.held = cc in
+    c.args.self.now.placed c.in-Some.held held ∙ ap (λ (l : List (List Taken)). length (commands_of l)) (sym c.told-2.ensures)
+
+pub commit-requires-clause-made : goal.commit-requires-clause-made
+commit-requires-clause-made g c =
+    let held : c.args.self.now.waiting ≡ Some c.in-Some.held = cc in
+    let same : c.batch.result.now ≡ c.in-Some.held.commands = cc in
+    held_made g.J.Site.start c.args.self.now.begun c.args.self.now.store.state c.args.self.now.publisher.told c.told-2.result.now c.args.self.now.publisher.unpublished
+    c.in-Some.held.commands c.batch.result.now c.made-made.result.now c.is_start.ensures c.told-2.ensures same c.args.self.now.kept
+    (c.args.self.now.fits c.in-Some.held held).alone c.made-made.ensures
+
+pub committed-made-requires-clause-place : goal.committed-made-requires-clause-place
+committed-made-requires-clause-place g c =
+    let held : c.args.self.now.waiting ≡ Some c.in-Some.held = cc in
+    c.args.self.now.placed c.in-Some.held held ∙ ap (λ (l : List (List Taken)). length (commands_of l)) (sym c.told-3.ensures)
+
+pub accept-requires-clause-made : goal.accept-requires-clause-made
+accept-requires-clause-made g c =
+    let same : c.batch.result.now ≡ c.in-Some.held.commands = cc in
+    made_on g.J.Site.start c.args.self.now.publisher.told c.told-3.result.now c.in-Some.held.commands c.in-Ok.receipt c.committed-made.result.items c.told-3.ensures
+    (c.in-Ok.ensures.receipt ∙ same) c.committed-made.ensures

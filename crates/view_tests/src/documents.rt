@@ -1,0 +1,94 @@
+//! Documents that are given with a batch are shown as those that are made of it.
+ghost use Rattle.std.specs.Prelude.{◌≡◌, []};
+ghost use Rattle.recovery.specs.Open.{state_of};
+
+use crate::SHAPE;
+use crate::writing::{Writing, begun};
+use delta::{Delta, OpRef};
+use disk::MemDisk;
+use fixtures::new_store;
+use published::{Opened, Site};
+use recovery::Store;
+use revision::Name;
+use std::marker::Brand;
+use std::process::Abort;
+use std::sync::Wait;
+use std::sync::ledger::Blank;
+use view::{Publisher, Viewer};
+
+/// What stands in the document at each revision: commands put 3, 2, 1 and 4 letters in front.
+const TEXTS: [(u64, &str); 4] = [(1, "xxx"), (2, "xxxxx"), (3, "xxxxxx"), (4, "xxxxxxxxxx")];
+
+// a delta inserts this text, and nothing else
+fn inserts(delta: &Delta, wanted: &str) -> bool {
+    match delta.ops() {
+        [op] => matches!(op.get(), OpRef::Text(text, _) if text == wanted),
+        _ => false,
+    }
+}
+
+// this text stands in the document at a revision
+fn has_text<J: Site>(
+    rt: &(impl Abort + AllocGlobal),
+    viewer: &mut Viewer<MemDisk, J>,
+    row: &(u64, &str),
+) {
+    let alloc = rt.alloc();
+    let name = Name::doc(alloc, "z").expect(rt, "a name");
+    let document = viewer.at(alloc, &name, row.0).expect(rt, "it stands there");
+    let text = document.as_delta(alloc).expect(rt, "memory");
+    assert!(rt; inserts(&text, row.1), "revision {row.0}");
+}
+
+// A batch of two commands, whose documents are given or not, is published.
+fn publishes_two<J: Site, R: Abort + AllocGlobal + Wait>(
+    rt: &R,
+    writing: &mut Writing<J>,
+    publisher: &mut Publisher<MemDisk, J>,
+    first: (u64, u32, u32),
+    with_documents: bool,
+)
+    requires { publisher.old.unpublished ≡ [] }
+    ensures { publisher.new.unpublished ≡ [] }
+{
+    let (number, count, next) = first;
+    writing.order(rt, number, count);
+    writing.order(rt, number.saturating_add(1), next);
+    writing.hand_on(rt, publisher, with_documents);
+    match publisher.publish(rt, rt.alloc()) {
+        Ok(Some((receipt, _told))) => assert_eq!(rt; receipt.batch().as_slice().len(), 2),
+        Ok(None) => panic!(rt; "nothing was given"),
+        Err(_) => panic!(rt; "it isn't published"),
+    }
+}
+
+// One batch with the documents, and one without.
+fn two_of_two<J: Site, R: Abort + AllocGlobal + Wait>(
+    rt: &R,
+    store: Store<MemDisk>,
+    opened: Opened,
+    blank: Blank,
+)
+    requires book { opened ≡ J.book }
+    requires name { blank.name ≡ J.name }
+    requires parts { blank.parts ≡ J.parts }
+    requires seats { blank.parts ≡ 2 }
+    requires start { state_of store ≡ J.start }
+{
+    let (mut publisher, mut writing, _start) = begun::<J, R>(rt, store, opened, blank);
+    let mut viewer = publisher.viewer().expect(rt, "a place");
+    publishes_two(rt, &mut writing, &mut publisher, (1, 3, 2), true);
+    publishes_two(rt, &mut writing, &mut publisher, (3, 1, 4), false);
+    viewer.learn(publisher.told());
+    for row in &TEXTS {
+        has_text(rt, &mut viewer, row);
+    }
+    publisher.end(rt);
+}
+
+#[test]
+fn given_documents_are_shown_as_made_ones(rt: HostRuntime) {
+    let store = new_store(rt.alloc(), SHAPE).expect(&rt, "a store");
+    let opened = Opened::new().expect(&rt, "logs");
+    two_of_two::<Brand, _>(&rt, store, opened, Blank::new(2));
+}
