@@ -7,5 +7,5 @@ pub use Rattle.revision.proofs.Agreeing.{agrees, agree_turned, agree_through, ag
 pub use Rattle.revision.proofs.Alike.{agreeing_answer, agreeing_answer_held}
 pub use Rattle.revision.proofs.Keeping.{empty_is_state, growing_keeps, adopting_keeps, continuing_keeps}
 pub use Rattle.revision.proofs.Changing.{from_itself, from_twice, from_newest, from_longer, step_makes}
-pub use Rattle.revision.proofs.MadeDocuments.{made_more, made_before, made_first, made_rest, made_few}
+pub use Rattle.revision.proofs.MadeDocuments.{made_more, made_before, made_first, made_rest}
 pub use Rattle.revision.proofs.Replays.{stand-take, stand-drop}

@@ -1,14 +1,15 @@
 -- What stands beside commands, and what a command leaves in its document.
-use Rattle.std.proofs.Common.{◌≡◌, ℕ, zero, suc, ◌+◌, ◌<◌, ◌≤◌, true, Some, None, List, [], ◌∷◌, ◌++◌, length, map, take, drop, get_or, refl, sym, ap, subst, ◌∙◌, arith}
-use Rattle.std.specs.Prelude.{Option, IfSome, option_map, slice_get}
-use Rattle.std.proofs.lemmas.Option.{none-some, same_Some, slice_get-map}
+use Rattle.std.proofs.Common.{◌≡◌, ℕ, zero, suc, ◌+◌, ◌<◌, ◌≤◌, true, Some, None, List, [], ◌∷◌, ◌++◌, length, map, take, drop, get_or, refl, sym, ap, ap₂, subst, ◌∙◌, arith}
+use Rattle.std.specs.Prelude.{Option, option_map, is_some, slice_get}
+use Rattle.std.proofs.lemmas.Option.{none-some, same_Some, slice_get-map, slice_get_read}
 use Rattle.delta.specs.Element.{Element}
 use Rattle.revision.specs.Command.{Taken}
-use Rattle.revision.specs.Made.{text_of, text_at, IsMade, AreMade, MadeMore, MadeBefore, MadeFirst, MadeRest, MadeFew}
-use Rattle.revision.specs.Past.{Content, units_after, content_after, prepared_units}
+use Rattle.revision.specs.Made.{text_of, text_at, IsMade, AreMade, MadeMore, MadeBefore, MadeFirst, MadeRest}
+use Rattle.revision.specs.Past.{Content, units_after, empty_past, prepared_units}
 use Rattle.revision.specs.Pending.{PendingDocument, with_prepared}
 use Rattle.revision.specs.State.{DocumentRecord, State, next_of, record_by_name, set_document, grows, grown, fold}
 use Rattle.revision.proofs.Following.{content-with_steps}
+use Rattle.revision.proofs.OneMore.{none-past}
 
 -- the document beside a command
 pub this_made : (state : State) (commands : List Taken) (documents : List (List Element)) (i : ℕ) (taken : Taken) (document : List Element) → i < length commands
@@ -59,22 +60,29 @@ left_there keep d taken =
     ap (λ (c : Content). c.units) (content-with_steps keep (with_prepared keep d).past (next_of taken ∷ []))
     ∙ ap (λ (c : Content). units_after c.units taken.step taken.delta) (content-with_steps keep d.past.past d.past.next)
 
-there_by : {A : Type 0} (xs : List A) (i : ℕ) (x : A) → i < length xs → x ≡ get_or xs i x → slice_get xs i ≡ Some x
-there_by [] i x inside is = absurd (omega (arith, inside))
-there_by (y ∷ ys) zero x inside is = ap Some (sym is)
-there_by (y ∷ ys) (suc i) x inside is = there_by ys i x (omega (arith, inside)) is
-
 pub left_of : (keep : ℕ) (documents : List PendingDocument) (i : ℕ) (d : PendingDocument) (taken : Taken) → i < length documents → d ≡ get_or documents i d
     → text_of (record_by_name keep (slice_get (map (with_prepared keep) documents) i) taken None) ≡ units_after (prepared_units d.past) taken.step taken.delta
 left_of keep documents i d taken inside is =
     ap (λ found. text_of (record_by_name keep found taken None))
-    (slice_get-map (with_prepared keep) documents i ∙ ap (option_map (with_prepared keep)) (there_by documents i d inside is))
+    (slice_get-map (with_prepared keep) documents i ∙ ap (option_map (with_prepared keep)) (slice_get_read documents (length documents) i d refl inside is))
     ∙ left_there keep d taken
 
--- what holds of the document that is given, where one is
-pub if_through : {A : Type 0} (P Q : A → Type 0) (o : Option A) → ((x : A) → P x → Q x) → IfSome o P → IfSome o Q
-if_through P Q None through holds = tt
-if_through P Q (Some x) through holds = through x holds
+-- what a creation leaves in the document that comes at the end
+pub left_new : (state : State) (taken : Taken) (name : List ℕ) (document : List Element) → taken.name ≡ Some name → taken.document ≡ length state.documents
+    → IsMade state taken document → document ≡ units_after [] taken.step taken.delta
+left_new state taken name document named at made =
+    made.left
+    ∙ (ap₂ (λ i n. text_of (slice_get (set_document i (record_by_name state.limits.keep (slice_get state.documents i) taken n) state.documents) i)) at named
+    ∙ (ap (λ found. text_of (slice_get (set_document (length state.documents) (record_by_name state.limits.keep found taken (Some name)) state.documents) (length state.documents)))
+    (none-past state.documents)
+    ∙ (ap text_of (at-end state.documents (record_by_name state.limits.keep None taken (Some name)) refl)
+    ∙ ap (λ (c : Content). c.units) (content-with_steps state.limits.keep empty_past (next_of taken ∷ [])))))
+  where
+    at-end : (documents : List DocumentRecord) (found : Option DocumentRecord) → is_some found ≡ true
+        → slice_get (set_document (length documents) found documents) (length documents) ≡ found
+    at-end documents None some = absurd (cc)
+    at-end [] (Some found) some = refl
+    at-end (first ∷ others) (Some found) some = at-end others (Some found) some
 
 pub made_more : MadeMore
 made_more state [] [] taken document are same is = (is, tt)
@@ -99,8 +107,3 @@ made_rest state commands documents zero are = are
 made_rest state commands [] (suc count) are = tt
 made_rest state [] (made ∷ rest) (suc count) are = absurd are
 made_rest state (first ∷ others) (made ∷ rest) (suc count) are = made_rest (grown state first) others rest count are.1
-
-pub made_few : MadeFew
-made_few state commands [] are = omega arith
-made_few state [] (made ∷ rest) are = absurd are
-made_few state (first ∷ others) (made ∷ rest) are = omega (arith, made_few (grown state first) others rest are.1)

@@ -1,5 +1,5 @@
 -- Documents that are at hand as commands leave them, so that nobody makes them again.
-use Rattle.std.specs.Prelude.{◌≡◌, ◌≤◌, ℕ, true, Option, Some, None, List, [], ◌∷◌, ◌++◌, length, take, drop, slice_get}
+use Rattle.std.specs.Prelude.{◌≡◌, ℕ, true, Option, Some, None, List, [], ◌∷◌, ◌++◌, length, take, drop, slice_get}
 use Rattle.delta.specs.Element.{Element}
 use Rattle.revision.specs.Command.{Taken}
 use Rattle.revision.specs.State.{DocumentRecord, State, units_of, grows, grown, fold}
@@ -36,16 +36,12 @@ abbrev pub MadeBefore : Type 0
 MadeBefore = (state : State) (commands others : List Taken) (documents : List (List Element))
     → AreMade state commands documents → AreMade state (commands ++ others) documents
 
--- So many of the first commands with their documents, and the others with theirs.
+-- So many of the first commands with their documents.
 abbrev pub MadeFirst : Type 0
 MadeFirst = (state : State) (commands : List Taken) (documents : List (List Element)) (count : ℕ)
     → AreMade state commands documents → AreMade state (take count commands) (take count documents)
 
+-- The others with theirs, on what the first ones make.
 abbrev pub MadeRest : Type 0
 MadeRest = (state : State) (commands : List Taken) (documents : List (List Element)) (count : ℕ)
     → AreMade state commands documents → AreMade (fold state (take count commands)) (drop count commands) (drop count documents)
-
--- There are no more documents than commands.
-abbrev pub MadeFew : Type 0
-MadeFew = (state : State) (commands : List Taken) (documents : List (List Element))
-    → AreMade state commands documents → length documents ≤ length commands

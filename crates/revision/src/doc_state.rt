@@ -239,10 +239,12 @@ impl DocState {
         self.next = None;
     }
 
-    /// Lets go of what lies below its floor, as `Past::let_go` does.
+    /// Lets go of what lies below its floor, as `Past::let_go` does. The newest document is kept first where it was deleted or created
+    /// again, so that no delta is applied.
     pub(crate) fn let_go(&mut self, alloc: Global)
         ensures { self.new ≡ self.old }
     {
+        self.past.keep(alloc, &self.document);
         self.past.let_go(alloc);
     }
 

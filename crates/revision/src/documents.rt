@@ -7,6 +7,7 @@ ghost use Rattle.revision.specs.steps.DocumentsView.{names_of};
 ghost use Rattle.revision.specs.steps.Index.{IsIndex, NoneTwice};
 ghost use Rattle.revision.specs.Invariants.{IsLimits};
 ghost use Rattle.revision.specs.Made.{AreMade, IsMade, text_of};
+ghost use Rattle.revision.specs.Past.{units_after};
 ghost use Rattle.revision.specs.Pending.{record_of, with_prepared};
 ghost use Rattle.revision.specs.steps.Preparing.{accepted, forgotten, with_next, begun};
 ghost use Rattle.revision.specs.State.{begins as spec_begins, has_room, next_of, continues_by_name, record_by_name, grows, grown, all_grow, first_grows, fold, find};
@@ -222,7 +223,7 @@ impl Documents {
         ensures unchanged { OnErr result (self.new ≡ self.old) }
     {
         match taken.name() {
-            Some(name) => self.create(alloc, taken, name),
+            Some(name) => self.create(alloc, taken, name, made),
             None => self.change_next(alloc, taken.copy(alloc)?, near, made),
         }
     }
@@ -240,7 +241,7 @@ impl Documents {
         ensures unchanged { OnErr result (self.new ≡ self.old) }
     {
         match taken.name() {
-            Some(name) => self.create(alloc, &taken, name),
+            Some(name) => self.create(alloc, &taken, name, None),
             None => self.change_next(alloc, taken, near, None),
         }
     }
@@ -266,15 +267,22 @@ impl Documents {
     }
 
     // prepares a creation that continues what was prepared
-    fn create(&mut self, alloc: Global, taken: &Taken, name: &Name) -> Result<(), Refusal>
+    fn create(
+        &mut self,
+        alloc: Global,
+        taken: &Taken,
+        name: &Name,
+        made: Option<&Document>,
+    ) -> Result<(), Refusal>
         requires name { taken.now.name ≡ Some name.now }
         requires continues { grows self.old.after taken.now ≡ true }
+        requires made { IfSome made (λ document. IsMade self.old.after taken.now document.now) }
         ensures ok { OnOk result (self.new ≡ record self.old { after = grown self.old.after taken.now }) }
         ensures only { IsOkUnless result Refusal.NoMemory }
         ensures unchanged { OnErr result (self.new ≡ self.old) }
     {
         let number = taken.document_number();
-        let document = begin(alloc, self.limits, taken, name)?;
+        let document = begin(alloc, self.limits, taken, name, made)?;
         self.touched.push(number)?;
         push_named(
             alloc,
@@ -453,14 +461,21 @@ fn change(
 }
 
 // the document that a creation begins, with its first change prepared
-fn begin(alloc: Global, limits: Limits, taken: &Taken, name: &Name) -> Result<DocState, Refusal>
+fn begin(
+    alloc: Global,
+    limits: Limits,
+    taken: &Taken,
+    name: &Name,
+    made: Option<&Document>,
+) -> Result<DocState, Refusal>
     requires limits { IsLimits limits }
     requires begins { spec_begins limits taken.now ≡ true }
+    requires made { IfSome made (λ document. document.now ≡ units_after [] taken.now.step taken.now.delta) }
     ensures ok { IfOk result (λ made. made ≡ begun name.now (next_of taken.now)) }
     ensures only { IsOkUnless result Refusal.NoMemory }
 {
     let mut document = DocState::empty(alloc, name.copy(alloc)?);
-    document.prepare_next(alloc, limits, taken.copy(alloc)?, 0, None)?;
+    document.prepare_next(alloc, limits, taken.copy(alloc)?, 0, made)?;
     Ok(document)
 }
 

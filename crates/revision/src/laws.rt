@@ -4,7 +4,7 @@ ghost use Rattle.std.specs.Str.{is_utf8};
 ghost use Rattle.utf16.specs.Units.{units_of};
 ghost use Rattle.revision.specs.Spellable.{IsText};
 ghost use Rattle.revision.specs.Acceptance.{TakenGrows};
-ghost use Rattle.revision.specs.Made.{MadeMore, MadeBefore, MadeFirst, MadeRest, MadeFew};
+ghost use Rattle.revision.specs.Made.{MadeMore, MadeBefore, MadeFirst, MadeRest};
 ghost use Rattle.revision.specs.Parting.{PartsTold};
 ghost use Rattle.revision.specs.Replay.{PartsStand};
 ghost use Rattle.revision.specs.Agree.{AgreeSame, AgreeTurned, AgreeThrough, AgreeingContinue, AgreeingGrow, AgreeingAnswer, AgreeingAnswerHeld};
@@ -107,5 +107,4 @@ pub fn made_documents()
     ensures before { MadeBefore }
     ensures first { MadeFirst }
     ensures rest { MadeRest }
-    ensures few { MadeFew }
 {}

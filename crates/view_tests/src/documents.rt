@@ -35,9 +35,10 @@ fn has_text<J: Site>(
 ) {
     let alloc = rt.alloc();
     let name = Name::doc(alloc, "z").expect(rt, "a name");
-    let document = viewer.at(alloc, &name, row.0).expect(rt, "it stands there");
+    let (revision, wanted) = row;
+    let document = viewer.at(alloc, &name, *revision).expect(rt, "it stands there");
     let text = document.as_delta(alloc).expect(rt, "memory");
-    assert!(rt; inserts(&text, row.1), "revision {row.0}");
+    assert!(rt; inserts(&text, wanted), "revision {revision}");
 }
 
 // A batch of two commands, whose documents are given or not, is published.

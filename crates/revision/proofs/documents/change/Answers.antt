@@ -3,10 +3,11 @@ use Rattle.std.specs.Prelude.{slice_get}
 use Rattle.revision.specs.steps.ChangedAt.{changed_at}
 use Rattle.revision.specs.Pending.{with_prepared}
 use Rattle.revision.specs.steps.Preparing.{with_next}
+use Rattle.std.proofs.lemmas.Option.{IfSome_then}
 use Rattle.revision.specs.Made.{text_of}
 use Rattle.revision.specs.State.{next_of, record_by_name}
 use Rattle.revision.proofs.ChangedAt.{set-changed}
-use Rattle.revision.proofs.MadeDocuments.{left_of, if_through}
+use Rattle.revision.proofs.MadeDocuments.{left_of}
 use Rattle.revision.proofs.OneMore.{continued-within, same_length}
 use Rattle.revision.proofs.documents.change.Goals as goal
 
@@ -29,8 +30,7 @@ prepare_next-requires-clause-made c =
     let number = c.document_number-number.result in
     let within = continued-within c.args.limits (map (with_prepared keep) documents) taken.document taken c.requires.continues in
     let inside : number < length documents = omega (arith, within, same_length keep documents, c.document_number-number.ensures) in
-    if_through _ _ c.args.made
+    IfSome_then c.args.made c.requires.made
     (λ document is. is
     ∙ (ap (λ i. text_of (record_by_name keep (slice_get (map (with_prepared keep) documents) i) taken None)) (sym c.document_number-number.ensures)
     ∙ left_of keep documents number c.index_mut.result.now taken inside c.index_mut.ensures.value))
-    c.requires.made

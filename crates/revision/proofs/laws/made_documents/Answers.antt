@@ -1,4 +1,4 @@
-use Rattle.revision.proofs.MadeDocuments.{made_more, made_before, made_first, made_rest, made_few}
+use Rattle.revision.proofs.MadeDocuments.{made_more, made_before, made_first, made_rest}
 use Rattle.revision.proofs.laws.made_documents.Goals as goal
 
 pub returns-clause-more : goal.returns-clause-more
@@ -12,6 +12,3 @@ returns-clause-first c = made_first
 
 pub returns-clause-rest : goal.returns-clause-rest
 returns-clause-rest c = made_rest
-
-pub returns-clause-few : goal.returns-clause-few
-returns-clause-few c = made_few

@@ -6,11 +6,12 @@ use Rattle.revision.specs.steps.DocumentsView.{names_of}
 use Rattle.revision.specs.steps.Index.{number_of}
 use Rattle.revision.specs.Pending.{PendingDocument, record_of, with_prepared}
 use Rattle.revision.specs.steps.Preparing.{with_next}
+use Rattle.std.proofs.lemmas.Option.{IfSome_then}
 use Rattle.revision.specs.Made.{IsMade}
 use Rattle.revision.specs.State.{DocumentRecord, next_of, record_by_name, set_document, grown}
 use Rattle.revision.proofs.ChangedAt.{map-changed_at, length-changed_at, among-last}
 use Rattle.revision.proofs.Untouched.{rest-touch, rest-changed}
-use Rattle.revision.proofs.MadeDocuments.{left_by, if_through}
+use Rattle.revision.proofs.MadeDocuments.{left_by}
 use Rattle.revision.proofs.OneMore.{changed_by, record_of-changed}
 use Rattle.revision.proofs.documents.Documents.change_next.Goals as goal
 
@@ -75,7 +76,6 @@ pub change-requires-clause-made : goal.change-requires-clause-made
 change-requires-clause-made c =
     let limits = c.self.inside.limits in
     let documents = c.self.inside.documents.items in
-    if_through _ _ c.args.made
+    IfSome_then c.args.made c.requires.made
     (λ document is. left_by (record { limits = limits; documents = map (with_prepared limits.keep) documents }) c.args.taken document.now c.requires.name
     (subst (λ (p : PreparedState). IsMade p.after c.args.taken document.now) (sym c.self.view_is) is))
-    c.requires.made

@@ -1,14 +1,17 @@
-use Rattle.std.proofs.Common.{◌≡◌, ◌+◌, ℕ, Some, true, List, [], ◌∷◌, ◌++◌, length, map, take, sym, ap, ap₂, ◌∙◌, arith, cond}
+use Rattle.std.proofs.Common.{◌≡◌, ◌+◌, ℕ, Some, true, List, [], ◌∷◌, ◌++◌, length, map, take, sym, ap, ap₂, subst, ◌∙◌, arith, cond}
 use Rattle.std.specs.Str.{bytes_eq}
 use Rattle.std.specs.BTreeMap.{get_by_text}
 use Rattle.std.proofs.lemmas.List.{map-append, length-append}
+use Rattle.std.proofs.lemmas.Option.{IfSome_then}
 use Rattle.revision.specs.Documents.{PreparedState}
 use Rattle.revision.specs.steps.DocumentsView.{names_of}
 use Rattle.revision.specs.steps.Index.{number_of}
 use Rattle.revision.specs.Pending.{PendingDocument, record_of, with_prepared}
+use Rattle.revision.specs.Made.{IsMade}
 use Rattle.revision.specs.State.{DocumentRecord, has_room, grows, grown}
 use Rattle.revision.proofs.Indexed.{index-more, none_twice-more, take_init, names_length}
-use Rattle.revision.proofs.OneMore.{room_for, created_by, created_parts, state_by}
+use Rattle.revision.proofs.MadeDocuments.{left_new}
+use Rattle.revision.proofs.OneMore.{room_for, created_by, created_parts, same_length, state_by}
 use Rattle.revision.proofs.Untouched.{rest-touch, rest-more}
 use Rattle.revision.proofs.documents.Documents.create.Goals as goal
 
@@ -73,3 +76,16 @@ returns-clause-ok c =
     (ap (map (with_prepared c.self.inside.limits.keep)) (made c ∙ ap (λ (d : PendingDocument). documents ++ d ∷ []) c.in_ok-document.ensures.ok)
     ∙ created_by c.self.inside.limits documents c.args.taken.now c.args.name.now there.0 c.requires.name)
     ∙ ap (λ (p : PreparedState). record { before = p.before; after = grown p.after c.args.taken.now }) c.self.view_is
+
+-- what is given is what the creation leaves
+pub begin-requires-clause-made : goal.begin-requires-clause-made
+begin-requires-clause-made c =
+    let limits = c.self.inside.limits in
+    let documents = c.self.inside.documents.items in
+    let state = state_by limits documents in
+    let taken = c.args.taken.now in
+    let name = c.args.name.now in
+    let room = (created_parts state taken name c.requires.name (ap (λ (p : PreparedState). grows p.after taken) c.self.view_is ∙ c.requires.continues)).0 in
+    let at : taken.document ≡ length state.documents = (room_for limits documents taken name taken.document room).0 ∙ sym (same_length limits.keep documents) in
+    IfSome_then c.args.made c.requires.made
+    (λ document is. left_new state taken name document.now c.requires.name at (subst (λ (p : PreparedState). IsMade p.after taken document.now) (sym c.self.view_is) is))
