@@ -14,7 +14,7 @@ use Rattle.revision.proofs.CallerLemmas.{taken_grows, made_more, made_before, ma
 use Rattle.world.specs.Board.{Board, Ticket, next_run, submitted, submitted_by, can_take, taken_more}
 use Rattle.world.specs.World.{Entry, entry_of, takens}
 use Rattle.hub.specs.Placed.{WasSubmitted}
-use Rattle.hub.specs.Runs.{AreMadeThere, IsPart, untaken}
+use Rattle.hub.specs.Runs.{AreMadeThere, untaken}
 use Rattle.hub.proofs.Placing.{TakenLast, WasBefore, takens-take, takens-drop}
 
 fold-append : (state : State) (first others : List Taken) → fold state (first ++ others) ≡ fold (fold state first) others

@@ -25,5 +25,5 @@ invariant_of-self-3 g c =
       search rules,
       search rules,
       subst (λ (d : List (List Element)). AreMadeThere g.J.Site.start c.take.new.self.order c.take.new.self.taken (untaken c.take.new.self) d) (sym c.in_ok-rest.ensures.rest)
-      (rest_made g.J.Site.start c.self.inside.board c.self.inside.made.items c.self.invariant.7 c.longest-count.result c.take.new.self new),
+          (rest_made g.J.Site.start c.self.inside.board c.self.inside.made.items c.self.invariant.7 c.longest-count.result c.take.new.self new),
     )
