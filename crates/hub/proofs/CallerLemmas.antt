@@ -1,5 +1,5 @@
 -- What a hub keeps may go to another thread: for a caller whose threads share a hub. The search for it is too long in one piece.
-use denote.Param.Send.{IsSend, IsSync, sendable}
+use denote.Param.Send.{IsSend, sendable}
 use Rattle.std.proofs.Crossing.{crosses}
 use Rattle.std.proofs.MapsCrossing as maps
 use Rattle.delta.specs.contracts.delta.Delta as delta

@@ -1,6 +1,6 @@
 -- Documents stand beside the commands of an order, as it grows and as commands are taken off it.
-use Rattle.std.proofs.Common.{◌≡◌, ◌⊎◌, ℕ, ◌+◌, ◌≤◌, ◌<◌, List, [], ◌∷◌, ◌++◌, length, take, drop, refl, sym, ap, subst, ◌∙◌, arith, inl, inr, take-add, drop-drop, length-append, length-drop}
-use Rattle.std.specs.Prelude.{Bool, true, false, Some, slice_get, if◌then◌else◌}
+use Rattle.std.proofs.Common.{◌≡◌, ◌⊎◌, ℕ, ◌+◌, ◌≤◌, List, [], ◌∷◌, ◌++◌, length, take, drop, refl, sym, ap, subst, ◌∙◌, arith, inl, inr, take-add, drop-drop, length-append, length-drop}
+use Rattle.std.specs.Prelude.{Bool, true, false, if◌then◌else◌}
 use Rattle.std.proofs.lemmas.List.{length-map, map-append, take-append-drop, take-append-le, drop-append-le}
 use Rattle.std.proofs.lemmas.Bool.Decides.{nat_tests}
 use Rattle.std.proofs.Math.Seq.{take-append_seam}
@@ -8,8 +8,8 @@ use mathlib.Core.List.{IsPrefix}
 use Rattle.delta.specs.Element.{Element}
 use Rattle.revision.specs.Command.{Command, Taken}
 use Rattle.revision.specs.Acceptance.{Answer, Takes, Repeats, Refuses, answer}
-use Rattle.revision.specs.Made.{text_at, text_of, IsMade, AreMade}
-use Rattle.revision.specs.State.{State, DocumentRecord, grown, fold}
+use Rattle.revision.specs.Made.{text_at, IsMade, AreMade}
+use Rattle.revision.specs.State.{State, grown, fold}
 use Rattle.revision.proofs.CallerLemmas.{taken_grows, made_more, made_before, made_first, made_rest}
 use Rattle.world.specs.Board.{Board, Ticket, next_run, submitted, submitted_by, can_take, taken_more}
 use Rattle.world.specs.World.{Entry, entry_of, takens}
@@ -119,12 +119,6 @@ as_before start old new order command documents same is are =
   where
     taken : new.taken ≡ old.taken
     taken = ap (λ (b : Board Entry). b.taken) is ∙ taken_by old command (answer old.state command)
-
--- what stands in a document that is held
-pub text_there : (documents : List DocumentRecord) (state : State) (number : ℕ) (found : DocumentRecord) (document : List Element) → documents ≡ state.documents
-    → slice_get documents number ≡ Some found → document ≡ text_of (Some found) → document ≡ text_at state number
-text_there documents state number found document are is there =
-    there ∙ ap text_of (sym is) ∙ ap (λ (d : List DocumentRecord). text_of (slice_get d number)) are
 
 module _ (start : State) (board : Board Entry) (documents : List (List Element)) (are : AreMadeThere start board.order board.taken (untaken board) documents) where
   -- a run that is taken off has the first ones
