@@ -3,8 +3,8 @@
 //! A device has a superblock that names the store's shape, two cells for each document, each of which may hold the document at
 //! a revision, and the slots of the journal's ring. To the layer above the crate promises which state the content of a device
 //! stands for, by the newer or the older cell of each document, and what a crash at any moment of a call leaves of it. It
-//! stands on `segments`, `milestone`, `journal` and `disk`; crate `history` says, over values alone, what the
-//! parts of a store stand for.
+//! stands on `segments`, `milestone`, `journal` and `disk`, and on `document` for documents that are given beside a batch; crate
+//! `history` says, over values alone, what the parts of a store stand for.
 //!
 //! A caller, with its contract, which is proved as it stands:
 //!
