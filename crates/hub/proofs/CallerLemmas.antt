@@ -10,7 +10,6 @@ use Rattle.revision.specs.contracts.source_table.SourceTable as table
 use Rattle.revision.specs.contracts.past.Past as past
 use Rattle.revision.specs.contracts.doc_state.DocState as one
 use Rattle.revision.specs.contracts.taken.Taken as taken
-use Rattle.revision.specs.contracts.batch.Batch as batch
 use Rattle.revision.specs.contracts.state.State as state
 use Rattle.world.specs.contracts.entry.Entry as entry
 use Rattle.world.specs.contracts.board.Board as board
@@ -38,9 +37,6 @@ one_send = search (name_send, past_send, document_send, table_send, sendable, cr
 
 pub taken_send : IsSend taken.the_row
 taken_send = search (name_send, delta_send, sendable, crosses, maps.crosses) depth 60 fits 20000
-
-pub commands_send : IsSend batch.the_row
-commands_send = search (taken_send, name_send, delta_send, sendable, crosses, maps.crosses) depth 60 fits 20000
 
 pub state_send : IsSend state.the_row
 state_send = search (one_send, name_send, sendable, crosses, maps.crosses) depth 60 fits 20000

@@ -1,7 +1,8 @@
 -- Documents stand beside the commands of an order, as it grows and as commands are taken off it.
-use Rattle.std.proofs.Common.{◌≡◌, ◌⊎◌, ℕ, ◌+◌, ◌≤◌, ◌<◌, List, [], ◌∷◌, ◌++◌, length, take, drop, refl, sym, ap, subst, ◌∙◌, arith, inl, inr, take-add, drop-drop, length-append}
-use Rattle.std.specs.Prelude.{Some, slice_get}
-use Rattle.std.proofs.lemmas.List.{map-append, take-append-drop, take-append-le, drop-append-le}
+use Rattle.std.proofs.Common.{◌≡◌, ◌⊎◌, ℕ, ◌+◌, ◌≤◌, ◌<◌, List, [], ◌∷◌, ◌++◌, length, take, drop, refl, sym, ap, subst, ◌∙◌, arith, inl, inr, take-add, drop-drop, length-append, length-drop}
+use Rattle.std.specs.Prelude.{Bool, true, false, Some, slice_get, if◌then◌else◌}
+use Rattle.std.proofs.lemmas.List.{length-map, map-append, take-append-drop, take-append-le, drop-append-le}
+use Rattle.std.proofs.lemmas.Bool.Decides.{nat_tests}
 use Rattle.std.proofs.Math.Seq.{take-append_seam}
 use mathlib.Core.List.{IsPrefix}
 use Rattle.delta.specs.Element.{Element}
@@ -10,10 +11,10 @@ use Rattle.revision.specs.Acceptance.{Answer, Takes, Repeats, Refuses, answer}
 use Rattle.revision.specs.Made.{text_at, text_of, IsMade, AreMade}
 use Rattle.revision.specs.State.{State, DocumentRecord, grown, fold}
 use Rattle.revision.proofs.CallerLemmas.{taken_grows, made_more, made_before, made_first, made_rest}
-use Rattle.world.specs.Board.{Board, Ticket, next_run, submitted, submitted_by, taken_more}
+use Rattle.world.specs.Board.{Board, Ticket, next_run, submitted, submitted_by, can_take, taken_more}
 use Rattle.world.specs.World.{Entry, entry_of, takens}
 use Rattle.hub.specs.Placed.{WasSubmitted}
-use Rattle.hub.specs.Runs.{AreMadeThere, IsPart, untaken}
+use Rattle.hub.specs.Runs.{AreMadeThere, untaken}
 use Rattle.hub.proofs.Placing.{TakenLast, WasBefore, takens-take, takens-drop}
 
 fold-append : (state : State) (first others : List Taken) → fold state (first ++ others) ≡ fold (fold state first) others
@@ -149,6 +150,19 @@ module _ (start : State) (board : Board Entry) (documents : List (List Element))
       (subst (λ (s : State). AreMade s (takens (drop (board.taken + count) board.order)) (drop count documents)) (before_rest count)
       (subst (λ (l : List Taken). AreMade (fold (fold start (takens (take board.taken board.order))) (take count (untaken board))) l (drop count documents)) (rest_of count)
       (made_rest (fold start (takens (take board.taken board.order))) (untaken board) documents count are)))
+
+none_taken : (board : Board Entry) (count : ℕ) → count ≤ length (takens (drop board.taken board.order)) → can_take board count ≡ false → count ≡ 0
+none_taken board count within cant =
+    let long : length (takens (drop board.taken board.order)) ≡ length (drop board.taken board.order) = length-map (drop board.taken board.order) (λ (e : Entry). e.taken) in
+    let dropped = length-drop board.taken board.order in grind (arith, nat_tests)
+
+taken_when : (can : Bool) (board : Board Entry) (count : ℕ) → (can ≡ false → count ≡ 0) → (if can then taken_more board count else board) ≡ taken_more board count
+taken_when true board count none = refl
+taken_when false board count none = let same : board.taken ≡ board.taken + count = omega (arith, none refl) in ap (λ n. record board { taken = n }) same
+
+-- a board that may have nothing to take off
+pub takes : (board : Board Entry) (count : ℕ) → count ≤ length (untaken board) → (if can_take board count then taken_more board count else board) ≡ taken_more board count
+takes board count within = taken_when (can_take board count) board count (none_taken board count within)
 
 -- The documents of a run, where it goes on with what is published.
 pub made_by : (start : State) (told commands named : List Taken) (place at : ℕ) (order : List Entry) (documents : List (List Element)) → commands ≡ named

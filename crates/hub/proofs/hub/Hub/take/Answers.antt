@@ -1,4 +1,3 @@
-use Rattle.std.proofs.Common.{◌≡◌, ◌⊎◌, ◌≤◌, length, []}
 use Rattle.hub.proofs.Fitting.{longest_fits, if_ok_both}
 use Rattle.hub.proofs.hub.Hub.take.Goals as goal
 
