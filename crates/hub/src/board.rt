@@ -26,11 +26,14 @@ use std::mem;
 use std::sync::ledger::{Blank, Book, Share};
 use world::{Board as Inner, Entry};
 
+/// So many code units the documents beside commands may have, if all are as long as the last one.
+const MOST_UNITS: u64 = 1 << 22;
+
 /// The order of the commands that were taken since a store was opened, with the state after them, how many are taken off to be written
 /// and how many of those are settled; the token of what was published up to there; whether the store has failed; and the ledger of the
 /// seats, whose counts add up to the length of the order. It owns the run's order, and makes it longer as its own grows. Beside the
-/// commands that aren't taken off it keeps the documents as they leave them, as far as memory went: beside the first of them, since behind
-/// one that has none no further one is kept.
+/// commands that aren't taken off it keeps the documents as they leave them, as far as memory went and they aren't too many or too long:
+/// beside the first of them, since behind one that has none no further one is kept.
 #[derive(Drop)]
 pub struct Board<D, J: Site> {
     board: Inner,
@@ -389,8 +392,17 @@ fn keep_last(alloc: Global, made: &mut Vec<Document>, board: &Inner, last: &Entr
         return;
     }
     if let Some(document) = document_of(board.state(), last.taken().document_number()) {
-        push_copy(alloc, made, document);
+        if may_keep(made.len(), document) {
+            push_copy(alloc, made, document);
+        }
     }
+}
+
+// Whether a document may be kept behind so many: if all were as long, they would have at most 2^22 code units together. So commands that
+// are sent far ahead don't hold a text each.
+fn may_keep(count: usize, document: &Document) -> bool {
+    let many = (count as u64).saturating_add(1);
+    many.saturating_mul(document.len16()) <= MOST_UNITS
 }
 
 // what stands in the document of this number, where there is one

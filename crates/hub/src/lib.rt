@@ -16,8 +16,8 @@
 //!
 //! Beside the first of its commands a run has the documents as they leave them, on what is published before it (`Run::made`,
 //! `Run::committed`; `AreMade` of revision). The board keeps a copy of each as it takes the command, which shares the chunks with its own
-//! document: so whoever adds the run to a state needn't apply an edit again. Where memory runs out for a copy, the commands from there on
-//! have none, until all of them are taken off.
+//! document: so whoever adds the run to a state needn't apply an edit again. Where memory runs out for a copy, or many or long texts would be
+//! held, the commands from there on have none, until all before them are taken off.
 //!
 //! What is the flusher's, to take, to settle, to wait for work and to fail, asks for a hub's `Writer`, and to end it or to give its seats
 //! out for its `Closer`: `Hub::new` gives one of each, which can't be copied, so that no session's desk can do any of it. The hub's own calls

@@ -23,9 +23,8 @@ use world::Entry;
 /// A run that was taken off a board to be written, with how many bytes its batch could have. Only a board's `take` makes one, of the
 /// longest run that fits, and it can't be changed: so what is written is what the board took off. It isn't `Drop`, so that no run is
 /// lost: it ends with the receipt of its commit, or where it has no command, or where it doesn't follow what is published, or with the store
-/// that would have written it. It has a token of
-/// the order, and knows its place there. Beside the first of its commands it has the documents as they leave them, so that nobody makes
-/// these again.
+/// that would have written it. It has a token of the order, and knows its place there. Beside the first of its commands it has the
+/// documents as they leave them, so that nobody makes these again.
 pub struct Run<D, J: Site> {
     batch: Batch,
     made: Vec<Document>,

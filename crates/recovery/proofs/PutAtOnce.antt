@@ -7,8 +7,7 @@ use Rattle.disk.specs.declared.device.Disk.{Ghosts}
 use Rattle.disk.specs.Crash.{LeavesOnly}
 use Rattle.refusal.specs.declared.Refusal.{Refusal}
 use Rattle.refusal.specs.declared.Refusal.TheVariants.{NoDocument, Future, TooOld, StillNeeded, NoMemory, Fault}
-use Rattle.revision.specs.Command.{Taken}
-use Rattle.revision.specs.State.{DocumentRecord, State, fold, all_grow, revision_of}
+use Rattle.revision.specs.State.{DocumentRecord, State, revision_of}
 use Rattle.history.specs.Cell.{Pair}
 use Rattle.milestone.specs.Job.{Job}
 use Rattle.segments.specs.Slot.{Segment}
@@ -19,7 +18,7 @@ use Rattle.recovery.specs.Cells.{highest_known}
 use Rattle.recovery.specs.Found.{FoundAs}
 use Rattle.recovery.specs.Jobs.{with_job, without_job, IsJobTo, no_job_for}
 use Rattle.recovery.specs.Marked.{MayRetire}
-use Rattle.recovery.specs.Open.{IsOpen, IsUnchanged, IsCommittedNow, IsRetiredNow, IsPutNow, device_of, state_of, known_cells, has_failed, has_room}
+use Rattle.recovery.specs.Open.{IsOpen, IsUnchanged, IsRetiredNow, IsPutNow, device_of, state_of, known_cells, has_failed}
 use Rattle.recovery.specs.Run.{IsPutAt, IsTaken, AreTaken, IsWhy, MayPut}
 use Rattle.recovery.proofs.Refusals.{refusal_or, ok≢err}
 use Rattle.recovery.proofs.HandedOut.{none≢some, same_some}

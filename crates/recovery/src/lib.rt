@@ -3,36 +3,36 @@
 //! A device has a superblock that names the store's shape, two cells for each document, each of which may hold the document at
 //! a revision, and the slots of the journal's ring. To the layer above the crate promises which state the content of a device
 //! stands for, by the newer or the older cell of each document, and what a crash at any moment of a call leaves of it. It
-//! stands on `segments`, `milestone`, `journal` and `disk`; crate `history` says, over values alone, what the
-//! parts of a store stand for.
+//! stands on `segments`, `milestone`, `journal` and `disk`, and on `document` for documents that are given beside a batch; crate
+//! `history` says, over values alone, what the parts of a store stand for.
 //!
 //! A caller, with its contract, which is proved as it stands:
 //!
 //! ```text
-//! ghost use Rattle.std.specs.Prelude.{◌≡◌, [], ◌∷◌, false, OnOk};
+//! ghost use Rattle.std.specs.Prelude.{◌≡◌, ◌≤◌, ◌<◌, ◌^◌, false, length, OnOk};
 //! ghost use Rattle.disk.specs.Crash.{LeavesOnly};
 //! ghost use Rattle.recovery.specs.Open.{FitsSlot, IsOpen, IsWithOrWithout, device_of, state_of, has_failed};
 //!
 //! use disk::Disk;
 //! use recovery::{Receipt, Store};
 //! use refusal::Refusal;
-//! use revision::{Batch, Taken};
+//! use revision::Batch;
 //! use std::alloc::Global;
 //!
-//! /// Commits one command. A crash at any moment leaves the state without it or with it, and at Ok the store goes on.
-//! pub fn commit_one<D: Disk>(
+//! /// Commits a batch whose documents aren't at hand. A crash at any moment leaves the state without it or with it, and at Ok the store goes on.
+//! pub fn commit_batch<D: Disk>(
 //!     alloc: Global,
 //!     store: &mut Store<D>,
-//!     taken: Taken,
+//!     batch: &Batch,
 //! ) -> Result<Receipt<D>, Refusal>
-//!     requires { FitsSlot (state_of store.old) (taken ∷ []) }
+//!     requires some { 1 ≤ length batch.now }
+//!     requires short { length batch.now < 2 ^ 32 }
+//!     requires fits { FitsSlot (state_of store.old) batch.now }
 //!     ensures any_moment { has_failed store.old ≡ false → IsOpen store.old
-//!         → LeavesOnly ⟦<D as Disk>⟧ (IsWithOrWithout (state_of store.old) (taken ∷ [])) (device_of store.old) (device_of store.new) }
+//!         → LeavesOnly ⟦<D as Disk>⟧ (IsWithOrWithout (state_of store.old) batch.now) (device_of store.old) (device_of store.new) }
 //!     ensures done { OnOk result (IsOpen store.old → IsOpen store.new) }
 //! {
-//!     let commands = vec![in alloc; taken]?;
-//!     let batch = Batch::of(alloc, commands)?;
-//!     store.commit(alloc, &batch, &[])
+//!     store.commit(alloc, batch, &[])
 //! }
 //! ```
 #![tactic(auto)]

@@ -37,7 +37,8 @@ const APART: u64 = 256;
 /// documents are kept at every 256th revision or so, which share what they have in common, so that the way to a revision is short.
 ///
 /// A deletion is kept as the delta that deletes all. It raises the floor to its own revision, as a creation again does, so the revisions
-/// that are held are of one mark, live or deleted. What stood there before is let go of by the next change, as far as memory goes.
+/// that are held are of one mark, live or deleted. What stood there before is let go of by `let_go`, as far as memory goes, and before the
+/// next change.
 ///
 /// A change is first prepared, which leaves what is seen as it is, and may find no memory. What is prepared is then accepted,
 /// which needs none.

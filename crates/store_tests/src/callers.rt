@@ -114,19 +114,19 @@ pub fn put_where_closed<D: Disk>(
     Ok(Some(read))
 }
 
-/// Commits one command. A crash at any moment leaves the state without it or with it, and at Ok the store goes on.
-pub fn commit_one<D: Disk>(
+/// Commits a batch whose documents aren't at hand. A crash at any moment leaves the state without it or with it, and at Ok the store goes on.
+pub fn commit_batch<D: Disk>(
     alloc: Global,
     store: &mut Store<D>,
-    taken: Taken,
+    batch: &Batch,
 ) -> Result<Receipt<D>, Refusal>
-    requires { FitsSlot (state_of store.old) (taken ∷ []) }
+    requires some { 1 ≤ length batch.now }
+    requires short { length batch.now < 2 ^ 32 }
+    requires fits { FitsSlot (state_of store.old) batch.now }
     ensures any_moment { has_failed store.old ≡ false → IsOpen store.old
-        → LeavesOnly ⟦<D as Disk>⟧ (IsWithOrWithout (state_of store.old) (taken ∷ [])) (device_of store.old)
+        → LeavesOnly ⟦<D as Disk>⟧ (IsWithOrWithout (state_of store.old) batch.now) (device_of store.old)
         (device_of store.new) }
     ensures done { OnOk result (IsOpen store.old → IsOpen store.new) }
 {
-    let commands = vec![in alloc; taken]?;
-    let batch = Batch::of(alloc, commands)?;
-    store.commit(alloc, &batch, &[])
+    store.commit(alloc, batch, &[])
 }

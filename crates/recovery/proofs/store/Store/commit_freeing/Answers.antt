@@ -114,8 +114,8 @@ pub returns-in-Err-clause-goes : goal.returns-in-Err-clause-goes
 returns-in-Err-clause-goes g c = goes_map (λ content found. inl found) c.free_oldest.ensures.goes
 
 -- freeing leaves the documents, so those that are given continue them still
-pub commit-2-requires-clause-made : goal.commit-2-requires-clause-made
-commit-2-requires-clause-made g c = subst (λ (s : State). AreMade s c.args.batch.now c.args.made.now) (sym c.free_oldest.ensures.state) c.requires.made
+pub commit-requires-2-clause-made : goal.commit-requires-2-clause-made
+commit-requires-2-clause-made g c = subst (λ (s : State). AreMade s c.args.batch.now c.args.made.now) (sym c.free_oldest.ensures.state) c.requires.made
 
 -- it was freed, and the batch is committed
 pub returns-clause-faults : goal.returns-clause-faults
