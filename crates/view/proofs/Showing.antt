@@ -1,5 +1,6 @@
 -- A batch more is shown.
-use Rattle.std.proofs.Common.{◌≡◌, List, [], ◌∷◌, ◌++◌, fold, refl, ap, ap₂, sym, subst, ◌∙◌, ◌&&◌, Bool, true, append_assoc}
+use Rattle.std.proofs.Common.{◌≡◌, Result, Ok, Err, List, [], ◌∷◌, ◌++◌, fold, refl, ap, ap₂, sym, subst, ◌∙◌, ◌&&◌, Bool, true, append_assoc}
+use Rattle.std.specs.Prelude.{MatchBool, MatchResult, is_ok}
 use Rattle.std.proofs.lemmas.Bool.{and_parts}
 use Rattle.std.proofs.lemmas.List.{append-nil}
 use Rattle.published.specs.Books.{Books}
@@ -85,3 +86,12 @@ module _ (book : Books) (start : state.State) (shown : Seen) (batch : List Taken
         made = made_is ∙ ap (λ (s : state.State). state.fold s batch) there ∙ sym (ap (state.fold start) commands ∙ fold_join start (commands_of before.batches) batch);
         grew = ap (state.all_grow start) commands ∙ grow_join start (commands_of before.batches) batch first later;
       })
+
+-- what a writer has still to show, after one more was given to it where nothing was waiting, or refused
+pub was_appended : {V A : Type 0} (result : Result V A) (ok : Bool) (old new : List A) (news wanted : A) → ok ≡ is_ok result
+    → MatchResult result (λ _. new ≡ old ++ news ∷ []) (λ x. (x ≡ news) × (new ≡ old)) → old ≡ [] → news ≡ wanted
+    → MatchBool ok (new ≡ wanted ∷ []) (new ≡ [])
+was_appended (Ok v) ok old new news wanted is told none same =
+    subst (λ b. MatchBool b (new ≡ wanted ∷ []) (new ≡ [])) (sym is) (told ∙ ap (λ l. l ++ news ∷ []) none ∙ ap (λ n. n ∷ []) same)
+was_appended (Err x) ok old new news wanted is told none same =
+    subst (λ b. MatchBool b (new ≡ wanted ∷ []) (new ≡ [])) (sym is) (told.1 ∙ none)

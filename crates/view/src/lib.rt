@@ -39,4 +39,5 @@ mod shown;
 mod viewer;
 
 pub use publisher::Publisher;
+pub use shown::{Basis, News, Shown};
 pub use viewer::Viewer;

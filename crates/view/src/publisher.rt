@@ -1,5 +1,5 @@
 //! The writer of the view.
-ghost use Rattle.std.specs.Prelude.{◌≡◌, ◌∷◌, ◌++◌, [], drop, length, nat_lt, IfOk, IfErr, IfSome, IfNone, OnErr, IsOkUnless};
+ghost use Rattle.std.specs.Prelude.{◌≡◌, ◌∷◌, ◌++◌, [], drop, length, nat_lt, IfOk, IfErr, IfSome, IfNone, OnErr, IsOkUnless, MatchBool};
 ghost use mathlib.Core.List.{IsPrefix};
 ghost use Rattle.recovery.specs.Found.{commands_of};
 ghost use Rattle.revision.specs.Made.{AreMade};
@@ -8,10 +8,11 @@ ghost use Rattle.world.specs.World.{takens};
 ghost use Rattle.view.specs.Published.{Published};
 ghost use Rattle.view.specs.Stages.{AreShown, IsNext, news_of as to_show};
 
-use crate::shown::{InLog, News, Sees, Shown};
+use crate::shown::{Basis, InLog, News, Sees, Shown};
 use crate::viewer::Viewer;
 use core::mem::replace_with;
 use document::Document;
+use left_right::Absorb;
 use left_right::writer::Writer;
 use published::{Log, Opened, Order, Ordered, Site, Told};
 use recovery::Receipt;
@@ -40,14 +41,20 @@ pub enum Stage<D, J: Site> {
 
 /// What publishes committed batches to viewers: it alone puts them into the run's log. Contracts see it as the batches that are
 /// published, and the one that was given to be published next. It isn't `Drop`: end it by `end`.
-pub struct Publisher<D, J: Site> {
+pub struct Publisher<D, J: Site>
+where
+    Shown<J>: Absorb<News<J>, State = Basis>,
+{
     writer: Writer<Shown<J>, News<J>, (), InLog<J>>,
     log: Log<D, J>,
     told: Told<D, J>,
     stage: Stage<D, J>,
 }
 
-impl<D, J: Site> Model for Publisher<D, J> {
+impl<D, J: Site> Model for Publisher<D, J>
+where
+    Shown<J>: Absorb<News<J>, State = Basis>,
+{
     ghost use Rattle.std.specs.Prelude.{◌≡◌, drop};
     ghost use Rattle.view.specs.Published.{Published};
 
@@ -266,11 +273,7 @@ fn queued<D, J: Site, R: Wait>(
     ensures unchanged { OnErr result.1 (result.0 ≡ record { told = told; unpublished = receipt ∷ [] }) }
     ensures only { IsOkUnless result.1 Refusal.NoMemory }
 {
-    let appended = match news_of(&receipt, &told, &next, made) {
-        Ok(news) => writer.append(news).is_ok(),
-        Err(_) => false,
-    };
-    if !appended {
+    if !appended(&mut writer, &receipt, &told, &next, made) {
         let logged = Publisher {
             writer,
             log,
@@ -280,6 +283,27 @@ fn queued<D, J: Site, R: Wait>(
         return (logged, Err(Refusal::NoMemory));
     }
     shown(rt, writer, log, told, receipt, next)
+}
+
+// gives the batch to the writer with the documents, and says whether there was memory for it
+fn appended<D, J: Site>(
+    writer: &mut Writer<Shown<J>, News<J>, (), InLog<J>>,
+    receipt: &Receipt<D>,
+    told: &Told<D, J>,
+    next: &Told<D, J>,
+    made: Vec<Document>,
+) -> bool
+    requires waiting { drop writer.old.behind writer.old.log.items ≡ [] }
+    requires next { next.now ≡ told.now ++ receipt.now ∷ [] }
+    requires made { AreMade (fold J.start (commands_of told.now)) receipt.now made.items }
+    ensures desk { writer.new.desk ≡ writer.old.desk }
+    ensures waiting { MatchBool result (drop writer.new.behind writer.new.log.items
+        ≡ to_show J.book J.start receipt.now next.now ∷ []) (drop writer.new.behind writer.new.log.items ≡ []) }
+{
+    match news_of(receipt, told, next, made) {
+        Ok(news) => writer.append(news).is_ok(),
+        Err(_) => false,
+    }
 }
 
 // shows the batch that the writer has
