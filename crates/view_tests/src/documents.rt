@@ -36,7 +36,9 @@ fn has_text<J: Site>(
     let alloc = rt.alloc();
     let name = Name::doc(alloc, "z").expect(rt, "a name");
     let (revision, wanted) = row;
-    let document = viewer.at(alloc, &name, *revision).expect(rt, "it stands there");
+    let document = viewer
+        .at(alloc, &name, *revision)
+        .expect(rt, "it stands there");
     let text = document.as_delta(alloc).expect(rt, "memory");
     assert!(rt; inserts(&text, wanted), "revision {revision}");
 }
