@@ -115,14 +115,11 @@ fn unprepared(rt: &(impl Abort + AllocGlobal), state: State, batch: &[Taken]) ->
     }
 }
 
-/// What is known to continue the state is added without a look, and so is what another state made of it.
+/// What is known to continue the state is added without a look.
 #[test]
 fn what_continues_the_state_is_added(rt: HostRuntime) {
     let edit = taken_by(&rt, D, &("a", "d", 2, Y, Now(2)));
     let state = added(&rt, after(&rt, small(&rt), D), &edit);
-    holds(&rt, &state, "d 2 0\n");
-    made(&rt, &state, 2, &[Step::Plain("yz")]);
-    let state = taken_over(&rt, after(&rt, small(&rt), D), edit);
     holds(&rt, &state, "d 2 0\n");
     made(&rt, &state, 2, &[Step::Plain("yz")]);
 }
@@ -136,22 +133,4 @@ fn added(rt: &(impl Abort + AllocGlobal), state: State, taken: &Taken) -> State 
         Err(_) => rt.abort(),
     }
     state
-}
-
-// the state after a command, whose document is that of a copy that took it in before
-fn taken_over(rt: &(impl Abort + AllocGlobal), state: State, taken: Taken) -> State {
-    let mut other = state.copy(rt.alloc()).expect(rt, "memory");
-    if other.absorb(rt.alloc(), &taken).is_err() {
-        rt.abort();
-    }
-    match other.documents().get(taken.document_number() as usize) {
-        Some(found) => {
-            let document = found.document().copy(rt.alloc()).expect(rt, "memory");
-            match state.prepare(rt.alloc(), &[taken], &[document]) {
-                Ok(prepared) => prepared.accept(),
-                Err(_) => rt.abort(),
-            }
-        }
-        None => rt.abort(),
-    }
 }
