@@ -181,23 +181,23 @@ returns-in-Err-clause-failed_before g c failed batch held =
 pub made-made-requires : goal.made-made-requires
 made-made-requires g c =
     let held : c.args.self.now.waiting ≡ Some c.in-Some.batch = cc in
-    c.args.self.now.placed c.in-Some.batch held ∙ ap (λ (l : List (List Taken)). length (commands_of l)) (sym c.told-2.ensures)
+    c.args.self.now.placed c.in-Some.batch held ∙ ap (λ (l : List (List Taken)). length (commands_of l)) (sym c.told-in-Some.ensures)
 
 pub commit_freeing-requires-clause-made : goal.commit_freeing-requires-clause-made
 commit_freeing-requires-clause-made g c =
     let held : c.args.self.now.waiting ≡ Some c.in-Some.batch = cc in
     let same : c.batch.result.now ≡ c.in-Some.batch.commands = cc in
-    held_made g.J.Site.start c.args.self.now.begun c.args.self.now.store.state c.args.self.now.publisher.told c.told-2.result.now c.args.self.now.publisher.unpublished
-    c.in-Some.batch.commands c.batch.result.now c.made-made.result.now c.is_start.ensures c.told-2.ensures same c.args.self.now.kept
+    held_made g.J.Site.start c.args.self.now.begun c.args.self.now.store.state c.args.self.now.publisher.told c.told-in-Some.result.now c.args.self.now.publisher.unpublished
+    c.in-Some.batch.commands c.batch.result.now c.made-made.result.now c.is_start.ensures c.told-in-Some.ensures same c.args.self.now.kept
     (c.args.self.now.fits c.in-Some.batch held).alone c.made-made.ensures
 
 pub committed-made-requires-clause-place : goal.committed-made-requires-clause-place
 committed-made-requires-clause-place g c =
     let held : c.args.self.now.waiting ≡ Some c.in-Some.batch = cc in
-    c.args.self.now.placed c.in-Some.batch held ∙ ap (λ (l : List (List Taken)). length (commands_of l)) (sym c.told-3.ensures)
+    c.args.self.now.placed c.in-Some.batch held ∙ ap (λ (l : List (List Taken)). length (commands_of l)) (sym c.told-in-Ok.ensures)
 
 pub accept-requires-clause-made : goal.accept-requires-clause-made
 accept-requires-clause-made g c =
     let same : c.batch.result.now ≡ c.in-Some.batch.commands = cc in
-    made_on g.J.Site.start c.args.self.now.publisher.told c.told-3.result.now c.in-Some.batch.commands c.in-Ok.receipt c.committed-made.result.items c.told-3.ensures
+    made_on g.J.Site.start c.args.self.now.publisher.told c.told-in-Ok.result.now c.in-Some.batch.commands c.in-Ok.receipt c.committed-made.result.items c.told-in-Ok.ensures
     (c.in-Ok.ensures.receipt ∙ same) c.committed-made.ensures
