@@ -7,6 +7,7 @@ use denote.Struct.Struct.{Struct}
 use Rattle.std.proofs.Crossing.{crosses, frees}
 use Rattle.core.specs.declared.ledger.Ledger as ledger
 use Rattle.ownlog.proofs.CallerLemmas.{owner_send}
+use Rattle.left_right.specs.declared.Absorb as absorb
 use Rattle.left_right.proofs.part.Part.TheSendSync as part
 use Rattle.left_right.proofs.part.Deed.TheSendSync as deed
 use Rattle.atomic_table.proofs.shared.Seat.TheSendSync as place
@@ -19,6 +20,9 @@ use Rattle.published.specs.contracts.log.Log as log
 use Rattle.milestone.specs.contracts.cells.Cells as cells
 use Rattle.milestone.specs.contracts.job.Job as job
 use Rattle.recovery.specs.contracts.receipt.Receipt as receipt
+use Rattle.view.specs.News.{News}
+use Rattle.view.specs.Shown.{Seen}
+use Rattle.view.specs.declared.shown.Basis.{Basis}
 use Rattle.view.specs.contracts.shown.News as news
 use Rattle.view.specs.contracts.publisher.Stage as stage
 use Rattle.view.specs.contracts.publisher.Publisher as publisher
@@ -53,19 +57,20 @@ log_send D T s l =
     let owner = owner_send batch.the_row batch_send in
     search (sendable, crosses) depth 60 fits 20000
 
-pub publisher_send : (D T : RattleType) (s : site.Ghosts T.Denot) (l : ledger.Ghosts T.Denot) → IsSend D → IsSend T → IsSync T → IsSend (publisher.the_row D T s l)
-publisher_send D T s l a b c =
+pub publisher_send : (D T : RattleType) (s : site.Ghosts T.Denot) (l : ledger.Ghosts T.Denot) (shows : absorb.Ghosts Seen News Basis) → IsSend D → IsSend T → IsSync T
+    → IsSend (publisher.the_row D T shows s l)
+publisher_send D T s l shows a b c =
     let x = shown_sync T s l c in
     let y = shown_send T s l b in
     let news = news_send T s l b in
     let told = told_send D T s l b in
     let ordered = ordered_send T s l b in
-    let all : AllSend (shape (inside.the_type D T s l)).fields = (
+    let all : AllSend (shape (inside.the_type D T shows s l)).fields = (
       search (part.the_send, deed.the_send, place.the_send, table.the_send, table.the_sync, lease.the_send, lease.the_sync, frees, sendable, crosses) depth 40 fits 20000,
       (log_send D T s l, (told, (search (receipt_send, document_send, sendable, crosses) depth 60 fits 20000, tt))),
     ) in
-    let fields : IsSend (inside.the_row D T s l) =
-    recorded_send (Struct (shape (inside.the_type D T s l))) _ _ (inside.the_type D T s l).to_one (struct_send (shape (inside.the_type D T s l)) all) in
+    let fields : IsSend (inside.the_row D T shows s l) =
+    recorded_send (Struct (shape (inside.the_type D T shows s l))) _ _ (inside.the_type D T shows s l).to_one (struct_send (shape (inside.the_type D T shows s l)) all) in
     search sendable depth 3
 
 flusher_fields : (D T : RattleType) (d : disk.Ghosts D.Denot) (s : site.Ghosts T.Denot) (l : ledger.Ghosts T.Denot) → IsSend D → IsSend T → IsSync T
@@ -74,7 +79,7 @@ flusher_fields D T d s l a b c =
     let ordered = ordered_send T s l b in (
       search (cells_send, job_send, state_send, sendable, crosses) depth 60 fits 20000,
       (
-        publisher_send D T s l a b c,
+        publisher_send D T s l _ a b c,
         (search (commands_send, document_send, sendable, crosses) depth 60 fits 20000, (search (sendable, crosses) depth 60 fits 20000, tt)),
       ),
     )
