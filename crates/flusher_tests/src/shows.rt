@@ -12,6 +12,7 @@ use hub::{Hub, Seat, Writer};
 use published::{Opened, Site, Told};
 use recovery::Store;
 use refusal::Refusal;
+use revision::Name;
 use std::marker::Brand;
 use std::process::Abort;
 use std::sync::Wait;
@@ -91,19 +92,18 @@ fn learns<J: Site>(
     told: Told<MemDisk, J>,
     number: u64,
 ) {
-    gate.learner.learn(told);
+    gate.learner.learn(&told);
     assert!(rt; gate.learner.read(newest) == Ok(number));
     assert!(rt; gate.learner.read(newest) == Ok(number));
     assert!(rt; gate.viewer.read(newest) == Ok(number));
     if number != 2 {
         return;
     }
-    let document = gate.learner.at(rt.alloc(), 0, 1).expect(rt, "revision 1");
+    let learner = &mut gate.learner;
+    let name = Name::doc(rt.alloc(), "z").expect(rt, "a name");
+    let document = learner.at(rt.alloc(), &name, 1).expect(rt, "revision 1");
     assert_eq!(rt; document.len16(), 1);
-    let deltas = gate
-        .learner
-        .since(rt.alloc(), 0, 1)
-        .expect(rt, "what came after it");
+    let deltas = learner.since(rt.alloc(), &name, 1).expect(rt, "its deltas");
     assert_eq!(rt; deltas.len(), 1);
 }
 
