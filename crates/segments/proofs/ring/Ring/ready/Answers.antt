@@ -12,12 +12,12 @@ returns-in-Some-clause-any_moment g c table synced fits = begins (history_of g.D
 pub returns-in_err-area-clause-any_moment : goal.returns-in_err-area-clause-any_moment
 returns-in_err-area-clause-any_moment g c table synced fits =
     let full : fits_newest c.args.self.now c.args.len ≡ false = search rules in
-    leaves_map (opening_ready _ c.args.self.now c.args.len table full) (c.open_next.ensures.any_moment table synced fits)
+    leaves_map (opening_ready _ c.args.self.now c.args.len table full) (c.open_slot.ensures.any_moment table synced fits)
 
 pub returns-clause-any_moment : goal.returns-clause-any_moment
 returns-clause-any_moment g c table synced fits =
     let full : fits_newest c.args.self.now c.args.len ≡ false = search rules in
-    leaves_map (opening_ready _ c.args.self.now c.args.len table full) (c.open_next.ensures.any_moment table synced fits)
+    leaves_map (opening_ready _ c.args.self.now c.args.len table full) (c.open_slot.ensures.any_moment table synced fits)
 
 pub returns-clause-done : goal.returns-clause-done
 returns-clause-done g c table fits =

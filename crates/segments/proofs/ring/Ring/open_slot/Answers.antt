@@ -6,7 +6,7 @@ use Rattle.journal.specs.Area.{Place, open_gate, IsGated}
 use Rattle.segments.specs.Table.{slot_place}
 use Rattle.segments.proofs.Slots.{head_of}
 use Rattle.segments.proofs.Rings.{same_ring, opening, opened_ring}
-use Rattle.segments.proofs.ring.Ring.open_next.Goals as goal
+use Rattle.segments.proofs.ring.Ring.open_slot.Goals as goal
 
 -- nothing was called
 pub returns-in_default-clause-any_moment : goal.returns-in_default-clause-any_moment
