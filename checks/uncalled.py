@@ -14,12 +14,16 @@ a dot or its type's name. What type stands before a dot isn't known. So where se
 it has to name the type too, or none of these types. A law is a function of a file laws.rt: its contract is what it is there for.
 """
 import collections
+import functools
 import pathlib
 import re
 import sys
 
 # What nobody calls, and why it is there.
-ALLOWED = {}
+ALLOWED = {
+    "Ticket::order": "tells who has a ticket where its command stands in the order",
+    "Unsettled::shows": "its contract says what the token shows, as that of a law does",
+}
 
 CRATES = pathlib.Path(__file__).resolve().parent.parent / "crates"
 
@@ -76,17 +80,29 @@ texts = {it: code(it.read_text()) for it in paths}
 words = {it: set(re.findall(r"\w+", text)) for it, text in texts.items()}
 functions = [it for path in paths for it in functions_of(path)]
 named = collections.defaultdict(list)
+owners = collections.defaultdict(set)
 for it in functions:
     named[it.name].append(it)
+    owners[it.name].add(it.owner)
+
+
+@functools.cache
+def body_of(function):
+    return code(function.body)
 
 
 # What a text in this file, within what belongs to this type, may call.
+@functools.cache
 def called(path, text, owner):
+    return list(calls_in(path, text, owner))
+
+
+def calls_in(path, text, owner):
     for before, name in re.findall(r"((?:\w+::)+(?:<[^()]*>::)?|\.)?\b(\w+)(?:::<[^()]*>)?\(", text):
         for function in named[name]:
-            is_only = len({it.owner for it in named[name]}) == 1
+            is_only = len(owners[name]) == 1
             if before == ".":
-                near = {it.owner for it in named[name] if it.owner in words[path]}
+                near = owners[name] & words[path]
                 is_it = function.owner and (is_only or not near or function.owner in near)
             elif before and re.split("::", before.rstrip(":").split("::<")[0])[-1][0].isupper():
                 it = before.rstrip(":").split("::<")[0].split("::")[-1]
@@ -121,7 +137,7 @@ def reached_from(begin):
         if function not in reached:
             reached.add(function)
             if "--direct" not in sys.argv:
-                todo.extend(called(function.path, code(function.body), function.owner))
+                todo.extend(called(function.path, body_of(function), function.owner))
     return reached
 
 
