@@ -101,8 +101,7 @@ fn runs<
 
 /// What is told of a fault: what was tried, with which file or address, and the system's reason.
 fn fault(rt: &(impl Abort + AllocGlobal), tried: &str, what: &str, reason: &str) -> String {
-    format!(in rt.alloc(); "error 34 Fault\nrichd: {tried} {what}: {reason}\n")
-        .expect(rt, "memory")
+    format!(in rt.alloc(); "error 34 Fault\nrichd: {tried} {what}: {reason}\n").expect(rt, "memory")
 }
 
 /// A path of its own for a test.

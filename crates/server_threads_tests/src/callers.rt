@@ -71,14 +71,7 @@ pub fn serve_session<
     O: Output + Drop,
     D: Disk + Send + Drop,
     W: Watch<D>,
->(
-    rt: &R,
-    alloc: Global,
-    store: Store<D>,
-    input: I,
-    output: O,
-    watch: &W,
-) -> Streamed<I, O, D>
+>(rt: &R, alloc: Global, store: Store<D>, input: I, output: O, watch: &W) -> Streamed<I, O, D>
     ensures { WasServed (ByOne (EndsAtHub result.served (state_of store)
         (I.remaining input) (I.remaining result.input) (O.contents output) (O.contents result.output)
         (O.has_failed result.output))) (is_ok result.served) store result.store }

@@ -40,8 +40,8 @@
 //! # What is proved
 //!
 //! A conversation is a session over any reader and writer: what it writes is the replies to what it read, in order, and the news after
-//! each piece of it and after each wait for one; and where a write fails, what was due before and a prefix of what that write was to write
-//! (`specs/Conversation.antt`, `converse`). `serve_desks` gives its desks back in their order, each with what it exchanged: what is asked in
+//! each piece of it; and where a write fails, what was due before and a prefix of what that write was to write
+//! (`specs/Conversation.antt`, `converse`). That the news are told after a wait too in which nothing came is tested. `serve_desks` gives its desks back in their order, each with what it exchanged: what is asked in
 //! conversations, one after another (`specs/Desks.antt`). No connection waits for a thread that isn't free (the hall's own invariant), and a
 //! shelf stays right of what its desk shows.
 //!

@@ -1,6 +1,6 @@
 use super::HELLO;
-use super::unwatched::Nobody;
 use super::going_on::{edits, letter};
+use super::unwatched::Nobody;
 use disk::{Call, Disk, FaultDisk, FaultPlan, Left, MemDisk};
 use recovery::{OpenFault, Pick, Shape, Store, format_device};
 use refusal::Refusal;

@@ -72,8 +72,19 @@ fn answered<R: Threads + Wait + Abort + AllocGlobal + Sync, D: Disk + Send + Dro
 ) -> (Store<D>, Result<(), Failure>, String) {
     let output = Stream::new(Vec::new(rt.alloc()));
     let seen = Seen::new();
-    let streamed = serve_streams(rt, rt.alloc(), store, lines.as_bytes(), output, EVERY, &seen);
-    assert_eq!(rt; seen.failures(), if streamed.served.is_err() { 1 } else { 0 });
+    let streamed = serve_streams(
+        rt,
+        rt.alloc(),
+        store,
+        lines.as_bytes(),
+        output,
+        EVERY,
+        &seen,
+    );
+    assert_eq!(rt;
+        seen.failures(),
+        if streamed.served.is_err() { 1 } else { 0 }
+    );
     let written = String::from_utf8(streamed.output.into_writer()).expect(rt, "a text");
     (streamed.store, streamed.served, written)
 }

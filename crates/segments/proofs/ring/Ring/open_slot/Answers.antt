@@ -45,6 +45,6 @@ returns-clause-done g c table fits =
     c.in_ok-write_gated.ensures.seen
     ∙ ap (λ k. overwritten (overwritten old (k + 1) c.head.result) k (open_gate ∷ [])) c.place-place.ensures.place
     ∙ ap (λ (l : List ℕ). overwritten (overwritten old (place + 1) l) place (open_gate ∷ [])) head in
-    let begins : c.empty-area.result.at ≡ place + 9 = ap (λ (p : Place). p.at) c.empty-area.ensures ∙ ap (λ k. k + 9) c.place-place.ensures.place in
-    opened_ring old ring table fits c.requires.within slot number (search rules) (search rules) new _ c.empty-area.result seen refl refl refl refl
-    begins (ap (λ (p : Place). p.size) c.empty-area.ensures) (ap (λ (p : Place). p.next) c.empty-area.ensures)
+    let begins : c.empty.result.at ≡ place + 9 = ap (λ (p : Place). p.at) c.empty.ensures ∙ ap (λ k. k + 9) c.place-place.ensures.place in
+    opened_ring old ring table fits c.requires.within slot number (search rules) (search rules) new _ c.empty.result seen refl refl refl refl
+    begins (ap (λ (p : Place). p.size) c.empty.ensures) (ap (λ (p : Place). p.next) c.empty.ensures)
