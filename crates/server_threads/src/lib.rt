@@ -16,9 +16,9 @@
 //! nobody is, and the store comes back unchanged.
 //!
 //! `serve_on` holds sessions over the connections of a listener, by `serve_desks` of `sockets`, and `serve_streams` one over a pair of streams,
-//! by `serve_session` of `serving`. A `Watch` is told when somebody can be served, and of a store that fails, when it does. Of streams `specs/Streams.antt` says what was written. Of sockets nothing can be said: so the desks of
-//! `serve_on` are some desks; that they are those of its sessions is in `serve_all` and `hold_at`, and no clause says it, nor which bytes went
-//! through which of them.
+//! by `serve_session` of `serving`. A `Watch` is told when somebody can be served, and of a store that fails, when it does. Of streams
+//! `specs/Streams.antt` says what was written. Of sockets nothing can be said: so the desks of `serve_on` are some desks; that they are those
+//! of its sessions is in `serve_all` and `hold_at`, and no clause says it, nor which bytes went through which of them.
 //!
 //! Callers, which `server_threads_tests` proves:
 //!
