@@ -30,7 +30,7 @@ from first_format import in_first_format
 from refusing import FAULT, PATIENCE, STORE_FAILED, S, Disagreement, Refusal, agree, content_of, library_in, richd, undisturbed
 
 MISSING, IS_FOLDER, NO_LEAVE = "no such file or directory|not found", "is a directory", "permission denied"
-LOCKED, NO_ROOM = "would block|temporarily unavailable|in use|locked", "no space left"
+LOCKED, NO_ROOM = "another program has it open|would block|temporarily unavailable", "no space left"
 NO_ADDRESS = "cannot assign|not available|invalid|no such host|not known|name resolution|lookup"
 TAKEN = "address (already )?in use"
 IS_SUPERUSER = os.geteuid() == 0
@@ -187,7 +187,9 @@ class Served:
 
     def ask(self, message):
         self.sends(json.dumps(message).encode() + b"\n")
-        return json.loads(self.replies.readline())
+        reply = self.replies.readline()
+        agree(reply.endswith(b"\n"), f"{message['do']} gets {reply}")
+        return json.loads(reply)
 
     def hears(self, seconds):
         """What has come on standard error within so many seconds, since the last time."""
@@ -240,14 +242,16 @@ def failing_store():
     """A write, or a sync, of a store that is served fails."""
     for kind, how in (("write", "none"), ("write", "half"), ("sync", "none")):
         for is_listening in (False, True):
-            for at in (1, 4):
+            for later in (1, 4):
                 place = tempfile.mkdtemp(dir=folder)
-                refusal = Refusal(library, place, kind, at, how)
-                undisturbed("format", refusal.store)
+                opening = Refusal(library, place, kind, 0, how)
+                undisturbed("format", opening.store)
+                opening.run(["dump", opening.store])
+                refusal = Refusal(library, place, kind, opening.count() + later, how)
                 try:
                     fails(is_listening, refusal.store, refusal, "input/output error|i/o error")
                 except Disagreement as disagreement:
-                    raise Disagreement(f"{kind} {at} ({how}), {'over TCP' if is_listening else 'over pipes'}: {disagreement}") from None
+                    raise Disagreement(f"{kind} {later} ({how}), {'over TCP' if is_listening else 'over pipes'}: {disagreement}") from None
 
 
 class Skipped(Exception):
@@ -266,6 +270,7 @@ with tempfile.TemporaryDirectory() as folder:
     made = content_of(store)
     with open(old, "wb") as file:
         file.write(in_first_format(made))
+    os.chmod(old, 0o666)
     for row in ROWS:
         try:
             row()

@@ -9,9 +9,6 @@ use std::{io, thread};
 /// How long an error that may pass is waited out, in milliseconds.
 const ERROR_WAIT: u64 = 100;
 
-/// A signal cut the call short.
-const EINTR: i32 = 4;
-
 /// The listener isn't open.
 const EBADF: i32 = 9;
 
@@ -24,12 +21,8 @@ const EINVAL: i32 = 22;
 /// The listener is no socket.
 const ENOTSOCK: i32 = 88;
 
-/// The peer gave its connection up before it was taken.
-const ECONNABORTED: i32 = 103;
-
 /// Takes connections until the listener can't work any more, where there are threads that serve them and the watch asks for it. Each other
-/// error of the listener concerns one connection or may pass: after a call that a signal cut short and a connection that its peer gave up
-/// the next one is taken at once, and after any other error in a while.
+/// error of the listener concerns one connection or may pass: it is waited out, and the next connection is taken then.
 pub fn accept_all<R: Wait + Clock, N: OpenListener<Stream = TcpStream>, W: ListenerWatch>(
     rt: &R,
     hall: &Hall,
@@ -47,7 +40,6 @@ pub fn accept_all<R: Wait + Clock, N: OpenListener<Stream = TcpStream>, W: Liste
                 watch.failed(reason);
                 return;
             }
-            Err(reason) if is_over(reason) => {}
             Err(_) => thread::sleep(rt, Duration::from_millis(ERROR_WAIT)),
         }
     }
@@ -59,9 +51,4 @@ fn ends_listener(reason: io::Error) -> bool {
         reason.raw_os_error(),
         Some(EBADF | EFAULT | EINVAL | ENOTSOCK)
     )
-}
-
-// Whether the next call needn't wait.
-fn is_over(reason: io::Error) -> bool {
-    matches!(reason.raw_os_error(), Some(EINTR | ECONNABORTED))
 }
