@@ -415,6 +415,45 @@ class Typing(Served):
             self.assertEqual(shown[place], wanted.ops)
         self.assertGreater(len(links), 3)
 
+    def test_what_was_typed_on_a_revision_that_is_no_longer_held_is_moved(self):
+        self.server.kill()
+        self.server = Server(self.store, "--every", "1")
+        may_connect, links = threading.Event(), []
+        may_connect.set()
+
+        def linked():
+            may_connect.wait(SECONDS)
+            return CutLink(*self.server.address, links)
+
+        bob = self.connect("bob")
+        bob.create("d", [{"insert": "one two\nthree\n"}])
+        ann = richd.connect(link=linked, source="ann", timeout=SECONDS)
+        self.addCleanup(ann.close)
+        document, changes, moved = ann.open("d"), [], []
+        document.on_change(changes.append)
+        document.on_rebase(moved.append)
+        may_connect.clear()
+        links[-1].cut()
+        wait_until(lambda: not ann.is_connected)
+        typed = [{"retain": 4, "attributes": {"bold": True}}, {"insert": "and "}]
+        document.apply(typed)
+        for number in range(20):
+            bob.edit("d", [{"insert": f"{number}\n"}], base=1)
+        port = self.server.address[1]
+        self.server.kill()
+        self.server = Server(self.store, port=port)
+        with self.assertRaises(richd.Refused) as caught:
+            bob.since("d", 1)
+        self.assertEqual(caught.exception.name, "TooOld")
+        may_connect.set()
+        document.flush()
+        lines = "".join(f"{number}\n" for number in range(20))
+        self.assertEqual((document.text, len(moved)), (f"{lines}one and two\nthree\n", 1))
+        wanted = [{"insert": lines}, {"attributes": {"bold": True}, "insert": "one "}, {"insert": "and two\nthree\n"}]
+        self.assertEqual(bob.fetch("d").ops, wanted)
+        self.assertEqual(document.contents, wanted)
+        self.assertEqual(changes, [[{"insert": lines}]])
+
     def test_a_text_that_is_longer_than_a_line(self):
         ann = self.connect("ann")
         ann.create("d", [])
