@@ -5,8 +5,8 @@ asyncio. Any number of requests may be on their way; of one document at most 16 
 last numbers as taken before. What has no answer when the connection is cut is sent again on the next one, a command with the number
 that it had, and the commands of a document in the order of their numbers.
 
-The next number of a document is known where the source is new, or was kept; else the server is asked for it. A first command under such
-a number goes alone: where its answer shows that the number was used by another run, the command wasn't taken, and gets a new one.
+The next number of a document is known where the source is new; else the server is asked for it. The first command under such a number
+goes alone: where its answer shows that a late command of an earlier run has used the number, it wasn't taken, and gets a new one.
 
 A request is given a function that is called with its answer: `done(value, None)`, or `done(None, error)`.
 """
@@ -55,6 +55,7 @@ class Request:
         messages.spelled(message)  # raises where it can't be
         self.message, self.done = message, done
         self.sent = 0  # how often
+        self.as_sent = message  # the last time: a command that is on its way may get another number
         self.pauses = Pauses()
 
     def answer(self, reply: Message) -> Any:
@@ -85,10 +86,11 @@ class Command(Request):
 class Commands:
     """The commands of one document: those that are on their way, in the order of their numbers, and those that wait for them."""
 
-    def __init__(self, doc: str, number: Optional[int], is_sure: bool):
+    def __init__(self, doc: str, is_new: bool, likely: Optional[int] = None):
         self.doc = doc
-        self.next = number  # of the command that is sent next for the first time, where it is known
-        self.is_sure = is_sure  # that nobody else has used it, as that of a new source, or behind one that was taken
+        self.next = 1 if is_new else None  # the number of the command that is sent next for the first time, where it is known
+        self.is_sure = is_new  # that nobody else has used it, as that of a new source, or behind one that was taken
+        self.likely = likely  # where it isn't known
         self.search: Optional[Search] = None
         self.askers: List[Done] = []  # who want to know the next number
         self.count = 0  # of all commands
@@ -100,7 +102,7 @@ class Commands:
         """That of the first command on its way that was sent under a new one, or else of the next one."""
         if self.current and not self.current[0].is_numbered:
             return int(self.current[0].message["n"])
-        return self.next
+        return self.next or self.likely
 
     @property
     def may_send(self) -> bool:
@@ -110,7 +112,11 @@ class Commands:
             return False  # where one is refused the numbers of its owner don't move up
         if command.is_numbered:
             return len(self.current) < MOST_COMMANDS
-        return self.next is not None and len(self.current) < (MOST_COMMANDS if self.is_sure else 1)
+        if self.next is None:
+            return False
+        # The oldest may be answered only after the others, as where there was no memory for its reply.
+        oldest: int = self.current[0].message["n"] if self.current else self.next
+        return self.next - oldest < (MOST_COMMANDS if self.is_sure else 1)
 
     def add(self, command: Command) -> None:
         command.place, self.count = self.count, self.count + 1
@@ -146,7 +152,7 @@ class Commands:
         elif not again:
             self.next, self.is_sure = number + 1, True
         elif self.next is None or self.next <= number:
-            self.next, self.is_sure = number + 1, False  # there may be more of that earlier run
+            self.next, self.is_sure, self.likely = None, False, number + 1  # there may be more of that earlier run
 
 
 class Follower:
@@ -178,7 +184,7 @@ class Core:
         self.failure: Optional[Exception] = None  # why nothing is sent any more
         self.later, self._trace = later, trace
         self._is_new = likely is None
-        self._commands = {doc: Commands(doc, number, False) for doc, number in (likely or {}).items()}
+        self._commands = {doc: Commands(doc, False, number) for doc, number in (likely or {}).items()}
         self._requests: Deque[Request] = deque()  # those on their way, in the order in which they were sent
         self._postponed: List[Request] = []  # those that found the server without memory, or its store failed
         self._followers: Dict[str, List[Follower]] = {}
@@ -315,7 +321,8 @@ class Core:
         self._out.append(line)
 
     def _send(self, request: Request) -> None:
-        self._write(request.message)
+        request.as_sent = dict(request.message)
+        self._write(request.as_sent)
         request.sent += 1
         self._requests.append(request)
 
@@ -330,7 +337,7 @@ class Core:
         return request
 
     def _commands_of(self, doc: str) -> Commands:
-        return self._commands.setdefault(doc, Commands(doc, 1 if self._is_new else None, self._is_new))
+        return self._commands.setdefault(doc, Commands(doc, self._is_new))
 
     def _command(self, command: Command) -> Command:
         commands = self._commands_of(command.message["doc"])
@@ -365,7 +372,7 @@ class Core:
         if commands.askers and not (commands.is_sure or commands.current):
             commands.next = None  # what an earlier run left says too little
         if commands.next is None and not commands.current and (commands.waiting or commands.askers):
-            commands.search = Search()
+            commands.search = Search(commands.likely)
             self._probe(commands, commands.search)
 
     def _probe(self, commands: Commands, search: Search) -> None:
@@ -383,7 +390,7 @@ class Core:
             if search.found is None:
                 self._probe(commands, search)
             else:
-                commands.search, commands.next, commands.is_sure = None, search.found, False
+                commands.search, commands.next, commands.is_sure, commands.likely = None, search.found, False, None
                 self._tell_number(commands)
                 self._go_on(commands)
 
@@ -430,7 +437,7 @@ class Core:
         elif not self._requests:
             raise Unexpected(f"a reply to nothing: {line[:100]!r}")
         else:
-            messages.check_reply(self._requests[0].message, message)
+            messages.check_reply(self._requests[0].as_sent, message)
             self._reply(self._requests.popleft(), message)
 
     def _greet(self, reply: Message) -> None:

@@ -12,6 +12,7 @@ from . import messages
 from .messages import Message, Refused
 
 UNREACHED = 2**53 - 1  # a revision that no document has
+BEYOND = 2**53  # above each number
 PROBES = 15  # that are asked at once
 
 
@@ -24,13 +25,14 @@ class Finding(enum.Enum):
 
 
 class Search:
-    """Looks for the lowest number from 1 on that isn't used, where none above it is. It takes some rounds of probes."""
+    """Looks for the lowest number from 1 on that isn't used, where none above it is. It takes some rounds of probes; one, where a likely
+    number is given and is the right one."""
 
-    def __init__(self) -> None:
+    def __init__(self, likely: Optional[int] = None) -> None:
         self.found: Optional[int] = None
-        self.probes: List[int] = [2**exponent for exponent in range(53)]  # the numbers of this round
+        self._used, self._unused = 0, BEYOND
         self._findings: Dict[int, Finding] = {}
-        self._used, self._unused = 0, 2**53
+        self.probes = self._spread() if likely is None else [likely]  # the numbers of this round
 
     def tell(self, number: int, error: Optional[Exception]) -> bool:
         """What the probe of a number was refused with. Gives whether the round is over: then there are other probes, or the number is
@@ -48,10 +50,15 @@ class Search:
             break
         if self._unused - self._used == 1:
             self.found = self._unused
-        step = -(-(self._unused - self._used) // (PROBES + 1))
-        self.probes = list(range(self._used + step, self._unused, step))
-        self._findings = {}
+        self.probes, self._findings = self._spread(), {}
         return True
+
+    def _spread(self) -> List[int]:
+        """The numbers of the next round."""
+        if self._unused == BEYOND:
+            return [self._used + 2**exponent for exponent in range(53) if self._used + 2**exponent < BEYOND]
+        step = -(-(self._unused - self._used) // (PROBES + 1))
+        return list(range(self._used + step, self._unused, step))
 
 
 def probe(doc: str, number: int) -> Message:

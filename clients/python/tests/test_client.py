@@ -333,7 +333,7 @@ class Keeping(Served):
                 names.add(client.source)
                 taken = client.edit("d", [{"insert": "a"}], base=1) if number > 1 else client.create("d", [])
                 self.assertEqual(taken, richd.Taken(number))
-                self.assertEqual(len(lines), 4)  # hello and the command: nothing was asked
+                self.assertLessEqual(len(lines), 6 if number > 1 else 4)  # hello, the command, and whether its number is right
         self.assertEqual(len(names), 1)
 
     def test_a_run_that_ended_before_it_wrote_its_numbers(self):

@@ -384,7 +384,7 @@ class Asking(CoreTest):
             self.comes(*[self.answer_for(probe["n"], last) for probe in probes])
 
     def test_it_is_found_in_a_few_rounds(self):
-        for last in (0, 1, 2, 3, 4, 14, 15, 16, 17, 100, 2_500, 2**20 + 7, 2**53 - 2):
+        for last in (0, 1, 2, 3, 4, 14, 15, 16, 17, 100, 2_500, 2**20 + 7, 2**52 + 5):
             self.begin({})
             self.core.edit("d", [{"insert": "x"}], 1, Answer())
             rounds = self.answers(last)
@@ -430,33 +430,26 @@ class Asking(CoreTest):
         self.comes(self.taken(6, 10))
         self.assertEqual(answer.only, Taken(10))
 
-    def test_likely_numbers_that_are_too_low_or_too_high(self):
-        for likely, reply in ((3, self.refusal(10, "OldNumber")), (25, self.taken(25, 7, how="again")), (40, self.refusal(9, "Gap"))):
+    def test_a_likely_number_is_asked_for_first(self):
+        for likely in (1, 3, 25, 30, 31, 32, 40, 2**40):
             self.begin({"d": likely})
+            self.assertEqual(self.core.likely_numbers(), {"d": likely})
             one, two = Answer(), Answer()
             self.core.edit("d", [{"insert": "x"}], 1, one)
             self.core.edit("d", [{"insert": "y"}], 1, two)
-            self.sends(self.edit(likely))
-            self.comes(reply)
-            self.answers(30)
+            rounds = self.answers(30)
+            self.assertTrue(rounds == 1 if likely == 31 else rounds < 14)
             self.assertEqual(self.rest, [self.edit(31)])
             self.comes(self.taken(31, 50))
             self.sends(self.edit(32, text="y"))
             self.comes(self.taken(32, 51))
             self.assertEqual((one.only, two.only), (Taken(50), Taken(51)))
-
-    def test_a_likely_number_that_is_right_isnt_asked_for(self):
-        self.begin({"d": 7})
-        answer = Answer()
-        self.core.edit("d", [{"insert": "x"}], 1, answer)
-        self.sends(self.edit(7))
-        self.comes(self.taken(7, 20))
-        self.assertEqual((answer.only, self.core.likely_numbers()), (Taken(20), {"d": 8}))
+            self.assertEqual(self.core.likely_numbers(), {"d": 33})
 
     def test_a_name_that_two_use_at_a_time_is_told_and_its_number_asked_for(self):
-        self.begin({"d": 7})
         one, two, three = Answer(), Answer(), Answer()
         self.core.edit("d", [{"insert": "x"}], 1, one)
+        self.answers(6)
         self.comes(self.taken(7, 20))
         self.core.edit("d", [{"insert": "y"}], 1, two)
         self.core.to_send()
