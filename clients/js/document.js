@@ -3,11 +3,14 @@
 import { Delta as OwnDelta } from "./delta.js";
 import { difference } from "./difference.js";
 import { Refusal, RichdError } from "./errors.js";
+import { ChangeEvent, TroubleEvent } from "./events.js";
+import { cutsPair, reachOf, takenOver } from "./operations.js";
 import { parted } from "./parting.js";
 import { Pauses } from "./pauses.js";
 
 const ROOM = 48 * 1024; // bytes of an edit's operations, in a line that may have 65,536
 const LEAST_ROOM = 64;
+const MOST_PAST_ENDS = 4;
 const NEVER = { timeout: Infinity }; // an edit is sent until it is answered
 
 /**
@@ -19,24 +22,6 @@ const NEVER = { timeout: Infinity }; // an edit is sent until it is answered
  * @property {typeof OwnDelta} [Delta]  what composes and transforms: quill-delta's class, by default that of the page's Quill or of the
  *     package where there is one
  */
-
-/** What others did: `delta` changes what was shown before to `contents`. */
-export class ChangeEvent extends Event {
-  /** @param {Delta} delta */
-  constructor(delta) {
-    super("change");
-    this.delta = delta;
-  }
-}
-
-/** Something typed was refused for good, or the document can't be followed any more: `error` says why. */
-export class TroubleEvent extends Event {
-  /** @param {Error} error */
-  constructor(error) {
-    super("trouble");
-    this.error = error;
-  }
-}
 
 /** @returns {Promise<typeof OwnDelta>} */
 async function deltaClass() {
@@ -105,6 +90,9 @@ export class Document extends EventTarget {
   #isStale = false; // the next revision isn't held any more, so the document has to be fetched anew
   #isClosed = false;
   #room = ROOM;
+  #strays = 0; // how often in a row it was fetched anew, and nothing was taken or told meanwhile
+  #pastEnds = 0; // how often in a row an edit was refused by PastEnd, though the document was fetched anew
+  #pauses = new Pauses();
   #leave = () => {};
   /** @type {{ resolve: (revision: number) => void, reject: (error: Error) => void }[]} those who wait in `flush` */
   #waiting = [];
@@ -149,16 +137,31 @@ export class Document extends EventTarget {
   }
 
   /**
-   * Changes what is shown by something that was typed.
+   * Changes what is shown by something that was typed. Throws what a server would refuse it by, as BadOps, LineTooLong or PastEnd: then it
+   * isn't shown, and "trouble" tells of it too.
    * @param {Op[] | { ops: Op[] }} ops
    */
   apply(ops) {
     if (this.#isClosed) throw new RichdError(0, "Closed");
-    const delta = new this.#Delta(ops);
+    let delta;
+    try {
+      delta = this.#readTyped(ops);
+    } catch (error) {
+      this.dispatchEvent(new TroubleEvent(error, new this.#Delta(ops), false));
+      throw error;
+    }
     this.#contents = this.#contents.compose(delta);
     this.#typed = this.#typed.compose(delta);
     queueMicrotask(() => this.#send()); // what is typed in one go is sent in one edit
     this.dispatchEvent(new Event("progress"));
+  }
+
+  /** @param {Op[] | { ops: Op[] }} ops */
+  #readTyped(ops) {
+    const delta = takenOver(Array.isArray(ops) ? ops : ops.ops);
+    if (reachOf(delta) > this.#contents.length()) throw new RichdError(Refusal.PastEnd, "PastEnd");
+    if (cutsPair(delta, this.#contents)) throw new RichdError(Refusal.CutsPair, "CutsPair");
+    return new this.#Delta(delta.ops);
   }
 
   /**
@@ -211,6 +214,7 @@ export class Document extends EventTarget {
     this.#client.edit(this.#name, first.ops, this.#revision, NEVER).then(
       ({ rev }) => {
         this.#taken = rev;
+        this.#strays = this.#pastEnds = 0;
         this.#goOn();
       },
       (error) => this.#onRefusal(error),
@@ -253,6 +257,7 @@ export class Document extends EventTarget {
   #takeOver(change, revision) {
     this.#base = this.#base.compose(change);
     this.#revision = revision;
+    this.#strays = 0;
     if (this.#sent !== null) {
       const sent = change.transform(this.#sent, true);
       change = this.#sent.transform(change, false);
@@ -277,13 +282,15 @@ export class Document extends EventTarget {
   #onRefusal(error) {
     if (error.name === "Closed") return this.#stop(error);
     const isTooLong = [Refusal.TooManyOps, Refusal.TooWide, Refusal.LineTooLong].includes(error.code);
-    const isElsewhere = [Refusal.Future, Refusal.TooOld, Refusal.PastEnd].includes(error.code);
+    const isElsewhere = [Refusal.Future, Refusal.TooOld].includes(error.code) || (error.code === Refusal.PastEnd && this.#pastEnds < MOST_PAST_ENDS);
     const typed = this.#sent.compose(this.#typed);
+    const isOnePart = parted(this.#sent, LEAST_ROOM)[1].ops.length === 0;
     this.#sent = null;
-    if (isTooLong && this.#room > LEAST_ROOM) {
+    if (isTooLong && !isOnePart && this.#room > LEAST_ROOM) {
       this.#typed = typed;
       this.#room /= 2;
     } else if (isElsewhere) {
+      if (error.code === Refusal.PastEnd) this.#pastEnds += 1;
       this.#typed = typed;
       this.#isStale = true;
     } else {
@@ -301,9 +308,10 @@ export class Document extends EventTarget {
     const shown = typed.invert(this.#base);
     this.#typed = new this.#Delta();
     this.#contents = this.#base;
+    this.#strays = this.#pastEnds = 0;
     for (const { reject } of this.#waiting.splice(0)) reject(error);
     this.dispatchEvent(new ChangeEvent(shown));
-    this.dispatchEvent(new TroubleEvent(error));
+    this.dispatchEvent(new TroubleEvent(error, typed, false));
   }
 
   // Fetches the newest revision, and moves what was typed onto it as if one change had come.
@@ -311,6 +319,10 @@ export class Document extends EventTarget {
     this.#leave();
     if (this.#sent !== null) this.#base = this.#base.compose(this.#sent);
     this.#sent = this.#taken = null;
+    this.#strays += 1;
+    if (this.#strays === 1) this.#pauses.reset();
+    else await new Promise((resolve) => setTimeout(resolve, this.#pauses.next()));
+    if (this.#isClosed) return;
     try {
       const { rev, ops } = await this.#client.fetch(this.#name, undefined, NEVER);
       if (this.#isClosed) return;
@@ -327,7 +339,9 @@ export class Document extends EventTarget {
   /** @param {any} error */
   #fail(error) {
     this.#stop(error);
-    if (error.name !== "Closed") this.dispatchEvent(new TroubleEvent(error));
+    if (error.name === "Closed") return;
+    const lost = this.#isInDoubt ? this.#sent.compose(this.#typed) : this.#typed;
+    this.dispatchEvent(new TroubleEvent(error, lost, true));
   }
 
   /** @param {any} error */

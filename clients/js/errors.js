@@ -19,6 +19,7 @@ export class RichdError extends Error {
 
 /** The numbers of the refusals that the client itself answers in some way. */
 export const Refusal = {
+  BadOps: 3,
   TooManyOps: 4,
   NoDocument: 6,
   Exists: 7,
@@ -27,6 +28,7 @@ export const Refusal = {
   Future: 12,
   TooOld: 13,
   PastEnd: 14,
+  CutsPair: 15,
   TooWide: 17,
   StoreFailed: 21,
   NoMemory: 22,
