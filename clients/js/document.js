@@ -131,6 +131,11 @@ export class Document extends EventTarget {
     return this.#contents;
   }
 
+  /** Whether it is followed no longer: it was closed, or trouble came that is final. */
+  get isClosed() {
+    return this.#isClosed;
+  }
+
   /** Whether all that was typed is on the server's disk. */
   get isSaved() {
     return this.#sent === null && this.#typed.ops.length === 0;
