@@ -4,6 +4,7 @@ import { Delta as OwnDelta } from "./delta.js";
 import { difference } from "./difference.js";
 import { Refusal, RichdError } from "./errors.js";
 import { ChangeEvent, TroubleEvent } from "./events.js";
+import { History, Steps } from "./history.js";
 import { cutsPair, reachOf, takenOver } from "./operations.js";
 import { parted } from "./parting.js";
 import { Pauses } from "./pauses.js";
@@ -94,6 +95,8 @@ export class Document extends EventTarget {
   #pastEnds = 0; // how often in a row an edit was refused by PastEnd, though the document was fetched anew
   #pauses = new Pauses();
   #leave = () => {};
+  #steps = new Steps();
+  #history = new History(this.#steps, (way) => this.#turn(way));
   /** @type {{ resolve: (revision: number) => void, reject: (error: Error) => void }[]} those who wait in `flush` */
   #waiting = [];
 
@@ -131,6 +134,11 @@ export class Document extends EventTarget {
     return this.#contents;
   }
 
+  /** Undo and redo of what was typed here. */
+  get history() {
+    return this.#history;
+  }
+
   /** Whether it is followed no longer: it was closed, or trouble came that is final. */
   get isClosed() {
     return this.#isClosed;
@@ -155,10 +163,26 @@ export class Document extends EventTarget {
       this.dispatchEvent(new TroubleEvent(error, new this.#Delta(ops), false));
       throw error;
     }
+    this.#steps.record(delta.invert(this.#contents));
+    this.#type(delta);
+  }
+
+  /** @param {Delta} delta */
+  #type(delta) {
     this.#contents = this.#contents.compose(delta);
     this.#typed = this.#typed.compose(delta);
     queueMicrotask(() => this.#send()); // what is typed in one go is sent in one edit
     this.dispatchEvent(new Event("progress"));
+  }
+
+  /** @param {"undo" | "redo"} way */
+  #turn(way) {
+    if (this.#isClosed) throw new RichdError(0, "Closed");
+    const step = this.#steps.take(way, this.#contents);
+    if (step === undefined) return false;
+    this.#type(step);
+    this.dispatchEvent(new ChangeEvent(step));
+    return true;
   }
 
   /** @param {Op[] | { ops: Op[] }} ops */
@@ -279,6 +303,7 @@ export class Document extends EventTarget {
     const shown = this.#typed.transform(change, false);
     this.#typed = change.transform(this.#typed, true);
     if (shown.ops.length === 0) return;
+    this.#steps.move(shown);
     this.#contents = this.#contents.compose(shown);
     this.dispatchEvent(new ChangeEvent(shown));
   }
@@ -312,6 +337,7 @@ export class Document extends EventTarget {
   #drop(typed, error) {
     const shown = typed.invert(this.#base);
     this.#typed = new this.#Delta();
+    this.#steps.clear();
     this.#contents = this.#base;
     this.#strays = this.#pastEnds = 0;
     for (const { reject } of this.#waiting.splice(0)) reject(error);
@@ -333,6 +359,7 @@ export class Document extends EventTarget {
       if (this.#isClosed) return;
       const fetched = new this.#Delta(ops);
       const change = new this.#Delta(difference(this.#base, fetched).ops);
+      this.#steps.clear();
       this.#begin(rev, fetched);
       this.#show(change);
       this.#goOn();
