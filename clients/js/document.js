@@ -56,7 +56,7 @@ async function fetchCreated(client, name, ops) {
     } catch (error) {
       if (error.code !== Refusal.NoDocument && error.code !== Refusal.Deleted) throw error;
     }
-    await new Promise((resolve) => setTimeout(resolve, pauses.next()));
+    await pauses.wait();
   }
 }
 
@@ -352,7 +352,7 @@ export class Document extends EventTarget {
     this.#sent = this.#taken = null;
     this.#strays += 1;
     if (this.#strays === 1) this.#pauses.reset();
-    else await new Promise((resolve) => setTimeout(resolve, this.#pauses.next()));
+    else await this.#pauses.wait();
     if (this.#isClosed) return;
     try {
       const { rev, ops } = await this.#client.fetch(this.#name, undefined, NEVER);

@@ -2,7 +2,7 @@
 
 /**
  * A refusal of the server, with its number and name (13 and "TooOld"), or one of the client itself, with 0 for its number:
- * "Timeout", "Closed", or "Cut", the cause of a call that had no connection.
+ * "Timeout", "Closed", "Cut" and "Full" as causes of a call that had no connection, and "Parted" of an editor that showed something else.
  */
 export class RichdError extends Error {
   /**

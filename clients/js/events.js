@@ -27,3 +27,15 @@ export class TroubleEvent extends Event {
     this.isFinal = isFinal;
   }
 }
+
+/**
+ * How it stands, `state`, is another than before.
+ * @template {string} State
+ */
+export class StateEvent extends Event {
+  /** @param {State} state */
+  constructor(state) {
+    super("state");
+    this.state = state;
+  }
+}

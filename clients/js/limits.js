@@ -31,21 +31,3 @@ export function within(promise, { signal, timeout }, late) {
     signal?.removeEventListener("abort", abort);
   });
 }
-
-/**
- * Waits so many milliseconds, or until the signal comes.
- * @param {number} milliseconds
- * @param {AbortSignal} signal
- * @returns {Promise<void>}
- */
-export function pause(milliseconds, signal) {
-  return new Promise((resolve) => {
-    const done = () => {
-      clearTimeout(timer);
-      signal.removeEventListener("abort", done);
-      resolve();
-    };
-    const timer = setTimeout(done, milliseconds);
-    signal.addEventListener("abort", done);
-  });
-}

@@ -2,12 +2,14 @@
 
 import { Document } from "./document.js";
 import { Refusal, RichdError } from "./errors.js";
+import { StateEvent } from "./events.js";
 import { follow } from "./follow.js";
-import { pause, within } from "./limits.js";
+import { within } from "./limits.js";
 import { Line } from "./line.js";
 import { News } from "./news.js";
 import { Pauses } from "./pauses.js";
 import { Session } from "./session.js";
+import { onWaking } from "./waking.js";
 
 export { Document, RichdError };
 
@@ -17,20 +19,25 @@ const PATIENCE = 30_000; // milliseconds
  * @typedef {import("./delta.js").Op} Op
  * @typedef {import("./limits.js").Limits} Limits
  *
+ * @typedef {"connected" | "offline" | "full" | "closed"} ClientState  "full" is "offline" where the server has no place
+ *
  * @typedef {object} Options
  * @property {string} [source]  the name of whoever makes the changes, which one program has at a time. Without it, a new one
  * @property {boolean} [isNew]  the source was never used before, so its numbers needn't be asked for
- * @property {number} [timeout]  how many milliseconds a call may take that names no other, and `connect`: 30,000 if it isn't given
+ * @property {number} [timeout]  how many milliseconds a call may take that names no other: 30,000 if it isn't given. Where it is given,
+ *     `connect` ends by it too
+ * @property {number} [patience]  after so many milliseconds without a byte the connection is cut, and begun again; after half of them the
+ *     server is asked whether it is there. 30,000 if it isn't given
  * @property {AbortSignal} [signal]  closes the client
  */
 
 /**
- * Connects to a server: `{ host, port }`, `{ command, args }` for a program of one's own, or `{ url }` for a WebSocket.
+ * Connects to a server: `{ host, port }`, `{ command, args }` for a program of one's own, or `{ url }` for a WebSocket. It waits until a
+ * server is there, however long that takes; who shows a state meanwhile makes a `Client`, and waits for its `connected`.
  * @param {import("./links.js").Address & Options} options
  */
 export async function connect(options) {
-  const made = options.source === undefined ? { source: await newSource(), isNew: true } : {};
-  const client = new Client({ timeout: PATIENCE, ...options, ...made });
+  const client = new Client(options);
   await client.connected();
   return client;
 }
@@ -41,9 +48,16 @@ async function newSource() {
   return "js-" + [...bytes].map((byte) => byte.toString(16).padStart(2, "0")).join("");
 }
 
-/** Sends the events "connected" and "cut". */
+/**
+ * Connects by itself, and again after each cut. It sends "state" where its state is another than before, "connected" as a session begins, and
+ * "cut" as one ends by itself.
+ */
 export class Client extends EventTarget {
   #options;
+  /** @type {string | undefined} */
+  #source;
+  /** @type {ClientState} */
+  #state = "offline";
   /** @type {Session | null} */
   #session = null;
   /** @type {Promise<void>} */
@@ -59,16 +73,24 @@ export class Client extends EventTarget {
   constructor(options) {
     super();
     this.#options = options;
+    this.#source = options.source;
     options.signal?.addEventListener("abort", () => this.#shut(options.signal.reason));
+    const endWaking = onWaking(() => this.#wake());
+    this.#closing.signal.addEventListener("abort", endWaking);
     this.#begin();
   }
 
-  /** The source's name. */
+  /** The source's name: where a new one is made up, once the first session begins. */
   get source() {
-    return this.#options.source;
+    return this.#source;
   }
 
-  /** Waits for the first session. */
+  /** @returns {ClientState} */
+  get state() {
+    return this.#state;
+  }
+
+  /** Waits until it is connected. */
   async connected() {
     try {
       await within(this.#beginning, this.#options, () => new RichdError(0, "Timeout", this.#trouble));
@@ -206,7 +228,7 @@ export class Client extends EventTarget {
     line.add(item);
     try {
       const late = () => item.trouble ?? new RichdError(0, "Timeout");
-      return await within(answer, { timeout: this.#options.timeout, ...limits }, late);
+      return await within(answer, { timeout: this.#options.timeout ?? PATIENCE, ...limits }, late);
     } catch (error) {
       line.remove(item);
       throw error;
@@ -216,7 +238,7 @@ export class Client extends EventTarget {
   /** @param {string} doc */
   #of(doc) {
     if (!this.#docs.has(doc)) {
-      const line = new Line(doc, this.#options.isNew);
+      const line = new Line(doc, this.#options.isNew || this.#options.source === undefined);
       const news = new News((message, settle) => line.add({ message: { ...message, doc }, isCommand: false, settle }));
       line.session = this.#session;
       this.#docs.set(doc, { line, news });
@@ -233,13 +255,14 @@ export class Client extends EventTarget {
   async #tryToBegin(isAgain) {
     const { signal } = this.#closing;
     for (; ; isAgain = true) {
-      if (isAgain) await pause(this.#pauses.next(), signal);
+      if (isAgain && !signal.aborted) await this.#pauses.wait();
       signal.throwIfAborted();
+      this.#source ??= await newSource();
       try {
-        this.#session = await Session.begin(this.#options, this.source, {
+        this.#session = await Session.begin(this.#options, this.#source, {
           onNews: (line) => this.#docs.get(line.doc)?.news.take(line),
           onEnd: () => this.#onCut(),
-          patience: PATIENCE,
+          patience: this.#options.patience ?? PATIENCE,
           signal,
         });
         if (!signal.aborted) break;
@@ -249,13 +272,29 @@ export class Client extends EventTarget {
         if (error.code === "ENOENT") throw error; // there is no such program
         if (error.code > 0 && error.code !== Refusal.NoMemory) throw error; // the name is none
         this.#trouble = error;
+        this.#tell(error.cause?.name === "Full" ? "full" : "offline");
       }
     }
     for (const { line, news } of this.#docs.values()) {
       line.session = this.#session;
       news.renew();
     }
+    this.#tell("connected");
     this.dispatchEvent(new Event("connected"));
+  }
+
+  // The network may be back: it connects at once, or looks whether the connection that there is still is one.
+  #wake() {
+    this.#pauses.reset();
+    this.#pauses.end();
+    this.#session?.check();
+  }
+
+  /** @param {ClientState} state */
+  #tell(state) {
+    if (state === this.#state || this.#state === "closed") return;
+    this.#state = state;
+    this.dispatchEvent(new StateEvent(state));
   }
 
   #onCut() {
@@ -263,6 +302,7 @@ export class Client extends EventTarget {
     this.#session = null;
     for (const { line } of this.#docs.values()) line.session = null;
     if (this.#closing.signal.aborted) return this.#stop(this.#closing.signal.reason);
+    this.#tell("offline");
     this.dispatchEvent(new Event("cut"));
     this.#begin(true);
   }
@@ -273,11 +313,13 @@ export class Client extends EventTarget {
    */
   #stop(error) {
     this.#closing.abort(error);
+    this.#pauses.end();
     for (const { line, news } of this.#docs.values()) {
       line.session = null;
       line.refuse(error);
       news.end(error);
     }
+    this.#tell("closed");
   }
 
   /** @param {any} error */
