@@ -3,7 +3,7 @@
 import { Delta as OwnDelta } from "./delta.js";
 import { difference } from "./difference.js";
 import { Refusal, RichdError } from "./errors.js";
-import { ChangeEvent, TroubleEvent } from "./events.js";
+import { ChangeEvent, StateEvent, TroubleEvent } from "./events.js";
 import { History, Steps } from "./history.js";
 import { cutsPair, reachOf, takenOver } from "./operations.js";
 import { parted } from "./parting.js";
@@ -15,6 +15,15 @@ const MOST_PAST_ENDS = 4;
 const NEVER = { timeout: Infinity }; // an edit is sent until it is answered
 
 /**
+ * How a document stands, the first of these that holds:
+ * - `closed`: nothing more is taken, as trouble said that was final, or `close` was called;
+ * - `offline`: there is no connection, `full`: because the server has no place; what is typed is sent once there is one;
+ * - `storeFailed`: the server's store has failed; what was typed is sent until the server is started anew;
+ * - `refused`: what was typed last was refused, and is no longer shown, as trouble said;
+ * - `saving`: something typed isn't on the server's disk yet;
+ * - `saved`: all is.
+ * @typedef {"closed" | "offline" | "full" | "storeFailed" | "refused" | "saving" | "saved"} DocumentState
+ *
  * @typedef {import("./delta.js").Op} Op
  * @typedef {import("./delta.js").Delta} Delta
  *
@@ -61,8 +70,8 @@ async function fetchCreated(client, name, ops) {
 }
 
 /**
- * Sends "change" for what others did, "trouble" where something typed is lost, and "progress" where `revision` or `isSaved` may have
- * changed.
+ * Sends "change" for what others did, "trouble" where something typed is lost, "state" where its state is another than before, and "progress"
+ * where `revision` or `isSaved` may have changed.
  *
  * `base` is the document at `revision`. What is shown is `base`, with `sent` behind it, and `typed` behind that. News that comes while
  * `sent` has no answer is held until it has one: only then is it known which revision is its own.
@@ -90,6 +99,10 @@ export class Document extends EventTarget {
   #news = [];
   #isStale = false; // the next revision isn't held any more, so the document has to be fetched anew
   #isClosed = false;
+  #isRefused = false; // what was typed last
+  #hasStoreFailed = false;
+  /** @type {DocumentState} */
+  #state = "saved"; // that was told last
   #room = ROOM;
   #strays = 0; // how often in a row it was fetched anew, and nothing was taken or told meanwhile
   #pastEnds = 0; // how often in a row an edit was refused by PastEnd, though the document was fetched anew
@@ -114,6 +127,8 @@ export class Document extends EventTarget {
     const { rev, ops } = options?.create === undefined ? await client.fetch(name) : await fetchCreated(client, name, options.create);
     document.#begin(rev, new document.#Delta(ops));
     document.#contents = document.#base;
+    client.addEventListener("state", document.#tell);
+    document.#state = document.state;
     return document;
   }
 
@@ -144,6 +159,15 @@ export class Document extends EventTarget {
     return this.#isClosed;
   }
 
+  /** @returns {DocumentState} */
+  get state() {
+    if (this.#isClosed) return "closed";
+    if (this.#client.state !== "connected") return this.#client.state;
+    if (this.#hasStoreFailed) return "storeFailed";
+    if (this.#isRefused) return "refused";
+    return this.isSaved ? "saved" : "saving";
+  }
+
   /** Whether all that was typed is on the server's disk. */
   get isSaved() {
     return this.#sent === null && this.#typed.ops.length === 0;
@@ -160,6 +184,8 @@ export class Document extends EventTarget {
     try {
       delta = this.#readTyped(ops);
     } catch (error) {
+      this.#isRefused = true;
+      this.#tell();
       this.dispatchEvent(new TroubleEvent(error, new this.#Delta(ops), false));
       throw error;
     }
@@ -171,9 +197,19 @@ export class Document extends EventTarget {
   #type(delta) {
     this.#contents = this.#contents.compose(delta);
     this.#typed = this.#typed.compose(delta);
+    this.#isRefused = false;
     queueMicrotask(() => this.#send()); // what is typed in one go is sent in one edit
-    this.dispatchEvent(new Event("progress"));
+    this.#tell();
   }
+
+  // Tells that it may stand otherwise than before.
+  #tell = () => {
+    this.dispatchEvent(new Event("progress"));
+    const { state } = this;
+    if (state === this.#state) return;
+    this.#state = state;
+    this.dispatchEvent(new StateEvent(state));
+  };
 
   /** @param {"undo" | "redo"} way */
   #turn(way) {
@@ -240,8 +276,9 @@ export class Document extends EventTarget {
     const [first, rest] = parted(this.#typed, this.#room);
     this.#sent = new this.#Delta(first.ops);
     this.#typed = new this.#Delta(rest.ops);
-    this.#client.edit(this.#name, first.ops, this.#revision, NEVER).then(
+    this.#client.edit(this.#name, first.ops, this.#revision, { ...NEVER, onRetry: (error) => this.#onRetry(error) }).then(
       ({ rev }) => {
+        this.#hasStoreFailed = false;
         this.#taken = rev;
         this.#strays = this.#pastEnds = 0;
         this.#goOn();
@@ -264,7 +301,7 @@ export class Document extends EventTarget {
     if (this.#isStale && !this.#isInDoubt) this.#fetchAnew();
     else this.#send();
     if (this.isSaved) for (const { resolve } of this.#waiting.splice(0)) resolve(this.#revision);
-    this.dispatchEvent(new Event("progress"));
+    this.#tell();
   }
 
   // Takes over what was sent. Where its number made an older revision, somebody else had used it before, and it is sent anew.
@@ -309,7 +346,14 @@ export class Document extends EventTarget {
   }
 
   /** @param {RichdError} error */
+  #onRetry(error) {
+    this.#hasStoreFailed = error.code === Refusal.StoreFailed;
+    this.#tell();
+  }
+
+  /** @param {RichdError} error */
   #onRefusal(error) {
+    this.#hasStoreFailed = false;
     if (error.name === "Closed") return this.#stop(error);
     const isTooLong = [Refusal.TooManyOps, Refusal.TooWide, Refusal.LineTooLong].includes(error.code);
     const isElsewhere = [Refusal.Future, Refusal.TooOld].includes(error.code) || (error.code === Refusal.PastEnd && this.#pastEnds < MOST_PAST_ENDS);
@@ -340,6 +384,7 @@ export class Document extends EventTarget {
     this.#steps.clear();
     this.#contents = this.#base;
     this.#strays = this.#pastEnds = 0;
+    this.#isRefused = true;
     for (const { reject } of this.#waiting.splice(0)) reject(error);
     this.dispatchEvent(new ChangeEvent(shown));
     this.dispatchEvent(new TroubleEvent(error, typed, false));
@@ -381,6 +426,9 @@ export class Document extends EventTarget {
     if (this.#isClosed) return;
     this.#isClosed = true;
     this.#leave();
+    this.#pauses.end();
+    this.#client.removeEventListener("state", this.#tell);
     for (const { reject } of this.#waiting.splice(0)) reject(error);
+    this.#tell();
   }
 }

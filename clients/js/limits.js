@@ -4,6 +4,8 @@
  * @typedef {object} Limits
  * @property {AbortSignal} [signal]  ends the call with the signal's reason
  * @property {number} [timeout]  milliseconds, `Infinity` for no end
+ * @property {(error: import("./errors.js").RichdError) => void} [onRetry]  is called each time that the server had failed or had no memory, and
+ *     what was asked will be sent again
  */
 
 /**

@@ -221,7 +221,7 @@ export class Client extends EventTarget {
     this.#closing.signal.throwIfAborted();
     const { line } = this.#of(doc);
     /** @type {any} */
-    const item = { message: { ...message, doc }, isCommand };
+    const item = { message: { ...message, doc }, isCommand, onRetry: limits?.onRetry };
     const answer = new Promise((resolve, reject) => {
       item.settle = (/** @type {any} */ error, /** @type {any} */ reply) => (error ? reject(error) : resolve(reply));
     });
