@@ -36,7 +36,7 @@ function without(attributes, drops) {
 }
 
 /** @param {Attributes} [one] @param {Attributes} [other] */
-function areAlike(one = {}, other = {}) {
+export function areAlike(one = {}, other = {}) {
   const names = Object.keys(one);
   return names.length === Object.keys(other).length && names.every((name) => one[name] === other[name]);
 }

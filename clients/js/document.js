@@ -3,7 +3,7 @@
 import { Delta as OwnDelta } from "./delta.js";
 import { difference } from "./difference.js";
 import { Refusal, RichdError } from "./errors.js";
-import { ChangeEvent, StateEvent, TroubleEvent } from "./events.js";
+import { ChangeEvent, RebasedEvent, StateEvent, TroubleEvent } from "./events.js";
 import { History, Steps } from "./history.js";
 import { cutsPair, reachOf, takenOver } from "./operations.js";
 import { parted } from "./parting.js";
@@ -12,6 +12,7 @@ import { Pauses } from "./pauses.js";
 const ROOM = 48 * 1024; // bytes of an edit's operations, in a line that may have 65,536
 const LEAST_ROOM = 64;
 const MOST_PAST_ENDS = 4;
+const MOST_DIFF = 10_000; // units of documents that quill-delta compares, character by character
 const NEVER = { timeout: Infinity }; // an edit is sent until it is answered
 
 /**
@@ -70,8 +71,8 @@ async function fetchCreated(client, name, ops) {
 }
 
 /**
- * Sends "change" for what others did, "trouble" where something typed is lost, "state" where its state is another than before, and "progress"
- * where `revision` or `isSaved` may have changed.
+ * Sends "change" for what others did, "trouble" where something typed is lost, "rebased" where it was fetched anew, "state" where its state is
+ * another than before, and "progress" where `revision` or `isSaved` may have changed.
  *
  * `base` is the document at `revision`. What is shown is `base`, with `sent` behind it, and `typed` behind that. News that comes while
  * `sent` has no answer is held until it has one: only then is it known which revision is its own.
@@ -403,14 +404,28 @@ export class Document extends EventTarget {
       const { rev, ops } = await this.#client.fetch(this.#name, undefined, NEVER);
       if (this.#isClosed) return;
       const fetched = new this.#Delta(ops);
-      const change = new this.#Delta(difference(this.#base, fetched).ops);
+      const change = this.#differenceTo(fetched);
+      const from = this.#revision;
       this.#steps.clear();
       this.#begin(rev, fetched);
       this.#show(change);
+      this.dispatchEvent(new RebasedEvent(from, rev));
       this.#goOn();
     } catch (error) {
       this.#fail(error);
     }
+  }
+
+  /**
+   * What makes a later revision of `base`.
+   * @param {Delta} fetched
+   * @returns {Delta}
+   */
+  #differenceTo(fetched) {
+    const { diff } = /** @type {any} */ (this.#base);
+    const isSmall = Math.max(this.#base.length(), fetched.length()) <= MOST_DIFF;
+    if (typeof diff === "function" && isSmall) return diff.call(this.#base, fetched);
+    return new this.#Delta(difference(this.#base, fetched).ops);
   }
 
   /** @param {any} error */

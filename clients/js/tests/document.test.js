@@ -3,6 +3,7 @@
 import assert from "node:assert/strict";
 import test from "node:test";
 import { Delta } from "../delta.js";
+import { difference } from "../difference.js";
 import { connect } from "../richd.js";
 import { Draw } from "./draw.js";
 import { served, until } from "./fake.js";
@@ -101,6 +102,53 @@ test("where the past is no longer held, what was typed is moved onto what is fet
   server.documents.raise("d", 5);
   await until(() => isAt(document, 5));
   for (const { contents } of [document, shown]) assert.deepEqual(contents.ops, newest());
+});
+
+const PAGE = "Title\nFirst paragraph, about tea.\nSecond paragraph, about milk.\nThird paragraph, about bread.\nEnd\n";
+
+/** What two did at the same time to a page, the first while the second was away, and the past is no longer held. */
+async function awayed(t, options) {
+  const { open, newest, server, creator } = await prepared(t, {}, [{ insert: PAGE }]);
+  const document = await (await open()).client.open("d", options);
+  const shown = shownBy(document);
+  const rebased = [];
+  document.addEventListener("rebased", ({ from, to }) => rebased.push([from, to]));
+  server.sessions.at(-1).cut();
+  const at = (text) => PAGE.indexOf(text);
+  shown.type([{ retain: at("First") }, { retain: 5, attributes: { bold: true } }]);
+  shown.type([{ retain: at("milk") }, { insert: "oat " }]);
+  shown.type([{ retain: at("Third") + 4 }, { delete: "Third paragraph, about bread.\n".length }]);
+  const edits = [
+    [{ retain: PAGE.length - 1 }, { insert: "ing" }],
+    [{ retain: at("paragraph, about tea"), attributes: { size: 2 } }],
+    [{ insert: "A new " }],
+    [{ retain: 6 + at("milk.") + 4 }, { insert: ", cold" }],
+  ];
+  for (const [index, ops] of edits.entries()) await creator.edit("d", ops, index + 1);
+  server.documents.raise("d", 5);
+  await document.flush();
+  for (const { contents } of [document, shown]) assert.deepEqual(contents.ops, newest());
+  assert.deepEqual(rebased, [[1, 5]]);
+  return newest();
+}
+
+test("what was typed while away keeps its place, its deletions and its formats", async (t) => {
+  const merged = await awayed(t);
+  assert.equal(merged.map(({ insert }) => insert).join(""), "A new Title\nFirst paragraph, about tea.\nSecond paragraph, about oat milk, cold.\nEnding\n");
+  const first = merged.find(({ insert }) => insert === "First");
+  assert.deepEqual(first.attributes, { size: 2, bold: true });
+});
+
+test("where the page's deltas have a `diff` it is asked", async (t) => {
+  let asked = 0;
+  class Other extends Delta {
+    diff(other) {
+      asked += 1;
+      return new Other(difference(this, other).ops);
+    }
+  }
+  await awayed(t, { Delta: Other });
+  assert.equal(asked, 1);
 });
 
 test("an edit that was taken, but behind what is no longer held, is shown once", async (t) => {
