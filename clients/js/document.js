@@ -5,13 +5,14 @@ import { difference } from "./difference.js";
 import { Refusal, RichdError } from "./errors.js";
 import { ChangeEvent, RebasedEvent, StateEvent, TroubleEvent } from "./events.js";
 import { History, Steps } from "./history.js";
-import { cutsPair, reachOf, takenOver } from "./operations.js";
+import { cutsPair, growthOf, reachOf, takenOver } from "./operations.js";
 import { parted } from "./parting.js";
 import { Pauses } from "./pauses.js";
 
 const ROOM = 48 * 1024; // bytes of an edit's operations, in a line that may have 65,536
 const LEAST_ROOM = 64;
 const MOST_PAST_ENDS = 4;
+const MOST_NEWS = 1_000; // revisions that wait for the answer to an edit; then it follows anew once that is there
 const MOST_DIFF = 10_000; // units of documents that quill-delta compares, character by character
 const NEVER = { timeout: Infinity }; // an edit is sent until it is answered
 
@@ -45,6 +46,22 @@ async function deltaClass() {
   } catch {
     return OwnDelta;
   }
+}
+
+/** @param {Op} op @returns {Op} */
+function copied(op) {
+  const copy = { ...op };
+  if (op.attributes !== undefined) copy.attributes = { ...op.attributes };
+  if (typeof op.insert === "object") copy.insert = { ...op.insert };
+  return copy;
+}
+
+/** @param {Op} op */
+function frozen(op) {
+  if (Object.isFrozen(op)) return op;
+  if (op.attributes !== undefined) Object.freeze(op.attributes);
+  if (typeof op.insert === "object") Object.freeze(op.insert);
+  return Object.freeze(op);
 }
 
 /**
@@ -90,6 +107,7 @@ export class Document extends EventTarget {
   #revision;
   /** @type {Delta} */
   #contents;
+  #length = 0; // of it
   /** @type {Delta | null} */
   #sent = null;
   /** @type {number | null} the revision that `sent` made, once it is answered */
@@ -99,6 +117,7 @@ export class Document extends EventTarget {
   /** @type {{ ops: Op[], rev: number }[]} */
   #news = [];
   #isStale = false; // the next revision isn't held any more, so the document has to be fetched anew
+  #isBehind = false; // it isn't followed, until the edit that is on its way is answered
   #isClosed = false;
   #isRefused = false; // what was typed last
   #hasStoreFailed = false;
@@ -128,6 +147,7 @@ export class Document extends EventTarget {
     const { rev, ops } = options?.create === undefined ? await client.fetch(name) : await fetchCreated(client, name, options.create);
     document.#begin(rev, new document.#Delta(ops));
     document.#contents = document.#base;
+    document.#length = document.#base.length();
     client.addEventListener("state", document.#tell);
     document.#state = document.state;
     return document;
@@ -143,11 +163,16 @@ export class Document extends EventTarget {
   }
 
   /**
-   * What is shown.
+   * What is shown: a delta of the reader's own, of operations that are frozen.
    * @returns {Delta}
    */
   get contents() {
-    return this.#contents;
+    return new this.#Delta(this.#contents.ops.map(frozen));
+  }
+
+  /** How many units are shown: UTF-16 code units, and embeds. */
+  get length() {
+    return this.#length;
   }
 
   /** Undo and redo of what was typed here. */
@@ -196,11 +221,23 @@ export class Document extends EventTarget {
 
   /** @param {Delta} delta */
   #type(delta) {
-    this.#contents = this.#contents.compose(delta);
+    this.#change(delta);
     this.#typed = this.#typed.compose(delta);
     this.#isRefused = false;
     queueMicrotask(() => this.#send()); // what is typed in one go is sent in one edit
     this.#tell();
+  }
+
+  /** @param {Delta} delta  what is shown otherwise */
+  #change(delta) {
+    this.#contents = this.#contents.compose(delta);
+    this.#length += growthOf(delta);
+  }
+
+  // The event has operations of its own, since whoever is told may keep and change them.
+  /** @param {Delta} delta */
+  #changeEvent({ ops }) {
+    return new ChangeEvent(new this.#Delta(ops.map(copied)));
   }
 
   // Tells that it may stand otherwise than before.
@@ -218,14 +255,14 @@ export class Document extends EventTarget {
     const step = this.#steps.take(way, this.#contents);
     if (step === undefined) return false;
     this.#type(step);
-    this.dispatchEvent(new ChangeEvent(step));
+    this.dispatchEvent(this.#changeEvent(step));
     return true;
   }
 
   /** @param {Op[] | { ops: Op[] }} ops */
   #readTyped(ops) {
     const delta = takenOver(Array.isArray(ops) ? ops : ops.ops);
-    if (reachOf(delta) > this.#contents.length()) throw new RichdError(Refusal.PastEnd, "PastEnd");
+    if (reachOf(delta) > this.#length) throw new RichdError(Refusal.PastEnd, "PastEnd");
     if (cutsPair(delta, this.#contents)) throw new RichdError(Refusal.CutsPair, "CutsPair");
     return new this.#Delta(delta.ops);
   }
@@ -253,16 +290,28 @@ export class Document extends EventTarget {
   #begin(revision, base) {
     this.#revision = revision;
     this.#base = base;
-    this.#news = [];
     this.#isStale = false;
+    this.#follow();
+  }
+
+  #follow() {
+    this.#isBehind = false;
+    this.#news = [];
     this.#leave = this.#client.onNews(this.#name, {
-      rev: revision,
+      rev: this.#revision,
       onNews: (ops, rev) => {
         this.#news.push({ ops, rev });
+        if (this.#news.length > MOST_NEWS) this.#fallBehind();
         this.#goOn();
       },
       onEnd: (error) => this.#onEnd(error),
     });
+  }
+
+  #fallBehind() {
+    this.#leave();
+    this.#news = [];
+    this.#isBehind = true;
   }
 
   /** @param {RichdError} error */
@@ -280,6 +329,7 @@ export class Document extends EventTarget {
     this.#client.edit(this.#name, first.ops, this.#revision, { ...NEVER, onRetry: (error) => this.#onRetry(error) }).then(
       ({ rev }) => {
         this.#hasStoreFailed = false;
+        if (this.#typed.ops.length === 0) this.#room = Math.min(ROOM, 2 * this.#room);
         this.#taken = rev;
         this.#strays = this.#pastEnds = 0;
         this.#goOn();
@@ -297,8 +347,12 @@ export class Document extends EventTarget {
       }
       const next = this.#news.shift();
       if (next === undefined) break;
-      if (next.rev === this.#revision + 1) this.#takeOver(new this.#Delta(next.ops), next.rev);
+      if (next.rev !== this.#revision + 1) continue;
+      if (reachOf(next) <= this.#base.length()) this.#takeOver(new this.#Delta(next.ops), next.rev);
+      else this.#isStale = true; // this copy isn't the server's
     }
+    if (this.#isClosed) return;
+    if (this.#isBehind && !this.#isStale && !this.#isInDoubt) this.#follow();
     if (this.#isStale && !this.#isInDoubt) this.#fetchAnew();
     else this.#send();
     if (this.isSaved) for (const { resolve } of this.#waiting.splice(0)) resolve(this.#revision);
@@ -342,8 +396,8 @@ export class Document extends EventTarget {
     this.#typed = change.transform(this.#typed, true);
     if (shown.ops.length === 0) return;
     this.#steps.move(shown);
-    this.#contents = this.#contents.compose(shown);
-    this.dispatchEvent(new ChangeEvent(shown));
+    this.#change(shown);
+    this.dispatchEvent(this.#changeEvent(shown));
   }
 
   /** @param {RichdError} error */
@@ -383,11 +437,13 @@ export class Document extends EventTarget {
     const shown = typed.invert(this.#base);
     this.#typed = new this.#Delta();
     this.#steps.clear();
+    this.#room = ROOM;
     this.#contents = this.#base;
+    this.#length = this.#base.length();
     this.#strays = this.#pastEnds = 0;
     this.#isRefused = true;
     for (const { reject } of this.#waiting.splice(0)) reject(error);
-    this.dispatchEvent(new ChangeEvent(shown));
+    this.dispatchEvent(this.#changeEvent(shown));
     this.dispatchEvent(new TroubleEvent(error, typed, false));
   }
 

@@ -52,6 +52,11 @@ export class Line {
     if (isNew) this.#number = 1;
   }
 
+  /** Whether nothing of it is asked, or waits. */
+  get isIdle() {
+    return this.#items.length === 0 && this.#pause === undefined && !this.#isLearning;
+  }
+
   /** @param {Item} item */
   add(item) {
     this.#items.push(item);

@@ -108,7 +108,7 @@ const PAGE = "Title\nFirst paragraph, about tea.\nSecond paragraph, about milk.\
 
 /** What two did at the same time to a page, the first while the second was away, and the past is no longer held. */
 async function awayed(t, options) {
-  const { open, newest, server, creator } = await prepared(t, {}, [{ insert: PAGE }]);
+  const { open, newest, server } = await prepared(t, {}, [{ insert: PAGE }]);
   const document = await (await open()).client.open("d", options);
   const shown = shownBy(document);
   const rebased = [];
@@ -124,7 +124,7 @@ async function awayed(t, options) {
     [{ insert: "A new " }],
     [{ retain: 6 + at("milk.") + 4 }, { insert: ", cold" }],
   ];
-  for (const [index, ops] of edits.entries()) await creator.edit("d", ops, index + 1);
+  for (const [index, ops] of edits.entries()) server.documents.answer({ do: "edit", doc: "d", n: index + 1, base: index + 1, ops }, "other");
   server.documents.raise("d", 5);
   await document.flush();
   for (const { contents } of [document, shown]) assert.deepEqual(contents.ops, newest());
@@ -337,6 +337,24 @@ test("a store that failed is told, and the edit is sent until it is taken", asyn
   await document.flush();
   assert.deepEqual(states, ["saved", "saving", "storeFailed", "saved"]);
   assert.deepEqual(newest(), [{ insert: "xHello\n" }]);
+});
+
+test("whoever reads what is shown, or is told of a change, or typed something, can't change the document by it", async (t) => {
+  const { open, newest, creator } = await prepared(t, {}, [{ insert: "Hello", attributes: { bold: true } }, { insert: { image: "p" } }]);
+  const document = await open();
+  const { contents } = document;
+  contents.insert("x").ops.splice(0, 1);
+  assert.throws(() => (document.contents.ops[0].insert = "x"), TypeError);
+  assert.throws(() => (document.contents.ops[0].attributes.bold = false), TypeError);
+  assert.throws(() => (document.contents.ops[1].insert.image = "q"), TypeError);
+  const typed = [{ insert: "typed", attributes: { size: 1 } }];
+  document.apply(typed);
+  typed[0].attributes.size = 2;
+  document.addEventListener("change", ({ delta }) => (delta.ops[0].attributes.size = 2));
+  await document.flush();
+  await creator.edit("d", [{ insert: "told", attributes: { size: 1 } }], 2);
+  await until(() => document.revision === 3);
+  assert.deepEqual(document.contents.ops, newest());
 });
 
 test("a deletion ends a document that is open, and says so", async (t) => {
