@@ -105,7 +105,7 @@ class Person {
     if (this.document.isClosed) return this.open();
     const { quill } = this;
     const what = draw.below(kind === "characters" ? 12 : 30);
-    if (this.isComposing && (what < 6 || what > 11)) return this.compose(what);
+    if (this.isComposing && what !== 6) return this.compose(what);
     if (what < 6) return quill.press(this.place(), this.character());
     if (what < 8) return this.format();
     if (what < 9) return quill.type(this.place(), this.character()), pause(draw.below(5)), quill.update();
