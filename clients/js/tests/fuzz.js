@@ -30,11 +30,11 @@ let characters = 0; // that were put in, in all rounds
 
 const pause = (milliseconds) => new Promise((resolve) => setTimeout(resolve, milliseconds));
 const sorted = (attributes = {}) => Object.entries(attributes).sort();
-const spelled = (ops) => JSON.stringify(ops.map(({ insert, attributes }) => [insert, sorted(attributes)]));
+const spelled = (ops) => JSON.stringify(ops.map(({ attributes, ...op }) => [op, sorted(attributes)]));
 
 /** One who writes. */
 class Person {
-  lost = []; // what a trouble told
+  calls = new Set(); // that have no answer yet
 
   constructor(name, round) {
     Object.assign(this, { name, round });
@@ -58,8 +58,8 @@ class Person {
     }
     this.document.addEventListener("trouble", ({ error, delta }) => {
       troubles[error.name] = (troubles[error.name] ?? 0) + 1;
-      this.lost.push(delta);
-      if (["Parted", "BadOps", "PastEnd", "CutsPair"].includes(error.name)) this.round.differ(`${this.name}: ${error.message}`);
+      const isOurs = ["Parted", "BadOps", "PastEnd", "CutsPair"].includes(error.name);
+      if (isOurs) this.round.differ(`${this.name}: ${error.message} of ${spelled(delta.ops)} on ${spelled(this.document.contents.ops)}`);
     });
     this.quill = new Quill({ tellsAtOnce: draw.below(2) === 0 });
     this.quill.history.options.delay = 300;
@@ -74,6 +74,7 @@ class Person {
     this.quill.update();
     const { document } = this;
     await document.flush().catch(() => {});
+    await Promise.all(this.calls); // a name belongs to one program at a time
     if (this.document !== document || !document.isSaved) return;
     count.reloads += 1;
     this.unbind();
@@ -105,7 +106,7 @@ class Person {
     if (this.document.isClosed) return this.open();
     const { quill } = this;
     const what = draw.below(kind === "characters" ? 12 : 30);
-    if (this.isComposing && what !== 6) return this.compose(what);
+    if (this.isComposing) return this.compose(what);
     if (what < 6) return quill.press(this.place(), this.character());
     if (what < 8) return this.format();
     if (what < 9) return quill.type(this.place(), this.character()), pause(draw.below(5)), quill.update();
@@ -144,12 +145,18 @@ class Person {
     if (what < 24) return this.quill.history.redo();
     if (what < 26) return this.document.history.undo();
     if (what < 27) return this.document.history.redo();
-    this.client.undo("d").catch(() => {});
+    this.call(this.client.undo("d", { timeout: Infinity }));
+  }
+
+  /** Lets a call end as it may. */
+  call(answer) {
+    const call = answer.catch(() => {}).then(() => this.calls.delete(call));
+    this.calls.add(call);
   }
 
   delete() {
     count.deletions += 1;
-    this.client.delete("d").catch(() => {});
+    this.call(this.client.delete("d", { timeout: Infinity }));
   }
 }
 
@@ -232,7 +239,7 @@ class Round {
       for (const person of this.people) if (person.document.isClosed) await person.open();
       const documents = this.people.map(({ document }) => document);
       const { revision } = documents[0];
-      if (!documents.every((document) => document.state === "saved" && document.revision === revision)) continue;
+      if (!documents.every((document) => document.isSaved && document.revision === revision)) continue;
       const shown = await this.people[0].client.fetch("d").catch(() => undefined);
       if (shown?.rev === revision) return true;
     }
