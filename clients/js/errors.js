@@ -2,7 +2,7 @@
 
 /**
  * A refusal of the server, with its number and name (13 and "TooOld"), or one of the client itself, with 0 for its number:
- * "Timeout", "Closed", or "Cut", the cause of a call that had no connection.
+ * "Timeout", "Closed", "Cut" and "Full" as causes of a call that had no connection, and "Parted" of an editor that showed something else.
  */
 export class RichdError extends Error {
   /**
@@ -19,6 +19,7 @@ export class RichdError extends Error {
 
 /** The numbers of the refusals that the client itself answers in some way. */
 export const Refusal = {
+  BadOps: 3,
   TooManyOps: 4,
   NoDocument: 6,
   Exists: 7,
@@ -27,6 +28,7 @@ export const Refusal = {
   Future: 12,
   TooOld: 13,
   PastEnd: 14,
+  CutsPair: 15,
   TooWide: 17,
   StoreFailed: 21,
   NoMemory: 22,

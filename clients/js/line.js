@@ -21,6 +21,7 @@ const MOST_COMMANDS = 16; // that are on their way: a server answers so many of 
  * @property {boolean} [isBehind]  since it was sent, one before it wasn't taken: then it is answered Gap, NoDocument or Exists, and is
  *   sent again
  * @property {RichdError} [trouble]  what it was refused by, and is sent again for all the same
+ * @property {(error: RichdError) => void} [onRetry]  is told of each
  */
 
 /**
@@ -49,6 +50,11 @@ export class Line {
   constructor(doc, isNew) {
     this.#doc = doc;
     if (isNew) this.#number = 1;
+  }
+
+  /** Whether nothing of it is asked, or waits. */
+  get isIdle() {
+    return this.#items.length === 0 && this.#pause === undefined && !this.#isLearning;
   }
 
   /** @param {Item} item */
@@ -148,6 +154,7 @@ export class Line {
       item.trouble = error;
       for (const other of this.#items.slice(this.#items.indexOf(item) + 1)) other.isBehind ||= item.isCommand && other.isCommand && other.isSent;
       this.#rest();
+      item.onRetry?.(error);
     } else if (item.isBehind && [Refusal.Gap, Refusal.NoDocument, Refusal.Exists].includes(error?.code)) {
       Object.assign(item, { isSent: false, sendings: 0 });
       this.#pump();

@@ -2,35 +2,43 @@
 
 import { Document } from "./document.js";
 import { Refusal, RichdError } from "./errors.js";
+import { StateEvent } from "./events.js";
 import { follow } from "./follow.js";
-import { pause, within } from "./limits.js";
+import { within } from "./limits.js";
 import { Line } from "./line.js";
 import { News } from "./news.js";
 import { Pauses } from "./pauses.js";
 import { Session } from "./session.js";
+import { onWaking } from "./waking.js";
 
 export { Document, RichdError };
 
 const PATIENCE = 30_000; // milliseconds
+const MOST_DOCS = 1_000; // of which something is kept though nothing is asked; then the number of the oldest one is asked for anew
 
 /**
  * @typedef {import("./delta.js").Op} Op
  * @typedef {import("./limits.js").Limits} Limits
  *
+ * @typedef {"connected" | "offline" | "full" | "closed"} ClientState  "full" is "offline" where the server has no place
+ *
  * @typedef {object} Options
  * @property {string} [source]  the name of whoever makes the changes, which one program has at a time. Without it, a new one
  * @property {boolean} [isNew]  the source was never used before, so its numbers needn't be asked for
- * @property {number} [timeout]  how many milliseconds a call may take that names no other, and `connect`: 30,000 if it isn't given
+ * @property {number} [timeout]  how many milliseconds a call may take that names no other: 30,000 if it isn't given. Where it is given,
+ *     `connect` ends by it too
+ * @property {number} [patience]  after so many milliseconds without a byte the connection is cut, and begun again; after half of them the
+ *     server is asked whether it is there. 30,000 if it isn't given
  * @property {AbortSignal} [signal]  closes the client
  */
 
 /**
- * Connects to a server: `{ host, port }`, `{ command, args }` for a program of one's own, or `{ url }` for a WebSocket.
+ * Connects to a server: `{ host, port }`, `{ command, args }` for a program of one's own, or `{ url }` for a WebSocket. It waits until a
+ * server is there, however long that takes; who shows a state meanwhile makes a `Client`, and waits for its `connected`.
  * @param {import("./links.js").Address & Options} options
  */
 export async function connect(options) {
-  const made = options.source === undefined ? { source: await newSource(), isNew: true } : {};
-  const client = new Client({ timeout: PATIENCE, ...options, ...made });
+  const client = new Client(options);
   await client.connected();
   return client;
 }
@@ -41,9 +49,16 @@ async function newSource() {
   return "js-" + [...bytes].map((byte) => byte.toString(16).padStart(2, "0")).join("");
 }
 
-/** Sends the events "connected" and "cut". */
+/**
+ * Connects by itself, and again after each cut. It sends "state" where its state is another than before, "connected" as a session begins, and
+ * "cut" as one ends by itself.
+ */
 export class Client extends EventTarget {
   #options;
+  /** @type {string | undefined} */
+  #source;
+  /** @type {ClientState} */
+  #state = "offline";
   /** @type {Session | null} */
   #session = null;
   /** @type {Promise<void>} */
@@ -54,21 +69,30 @@ export class Client extends EventTarget {
   #closing = new AbortController();
   /** @type {Map<string, { line: Line, news: News }>} */
   #docs = new Map();
+  #hasForgotten = false; // one of them
 
   /** @param {import("./links.js").Address & Options} options */
   constructor(options) {
     super();
     this.#options = options;
+    this.#source = options.source;
     options.signal?.addEventListener("abort", () => this.#shut(options.signal.reason));
+    const endWaking = onWaking(() => this.#wake());
+    this.#closing.signal.addEventListener("abort", endWaking);
     this.#begin();
   }
 
-  /** The source's name. */
+  /** The source's name: where a new one is made up, once the first session begins. */
   get source() {
-    return this.#options.source;
+    return this.#source;
   }
 
-  /** Waits for the first session. */
+  /** @returns {ClientState} */
+  get state() {
+    return this.#state;
+  }
+
+  /** Waits until it is connected. */
   async connected() {
     try {
       await within(this.#beginning, this.#options, () => new RichdError(0, "Timeout", this.#trouble));
@@ -199,14 +223,14 @@ export class Client extends EventTarget {
     this.#closing.signal.throwIfAborted();
     const { line } = this.#of(doc);
     /** @type {any} */
-    const item = { message: { ...message, doc }, isCommand };
+    const item = { message: { ...message, doc }, isCommand, onRetry: limits?.onRetry };
     const answer = new Promise((resolve, reject) => {
       item.settle = (/** @type {any} */ error, /** @type {any} */ reply) => (error ? reject(error) : resolve(reply));
     });
     line.add(item);
     try {
       const late = () => item.trouble ?? new RichdError(0, "Timeout");
-      return await within(answer, { timeout: this.#options.timeout, ...limits }, late);
+      return await within(answer, { timeout: this.#options.timeout ?? PATIENCE, ...limits }, late);
     } catch (error) {
       line.remove(item);
       throw error;
@@ -216,12 +240,23 @@ export class Client extends EventTarget {
   /** @param {string} doc */
   #of(doc) {
     if (!this.#docs.has(doc)) {
-      const line = new Line(doc, this.#options.isNew);
+      if (this.#docs.size >= MOST_DOCS) this.#forget();
+      const isNew = this.#options.isNew || this.#options.source === undefined;
+      const line = new Line(doc, isNew && !this.#hasForgotten);
       const news = new News((message, settle) => line.add({ message: { ...message, doc }, isCommand: false, settle }));
       line.session = this.#session;
       this.#docs.set(doc, { line, news });
     }
     return this.#docs.get(doc);
+  }
+
+  #forget() {
+    for (const [doc, { line, news }] of this.#docs) {
+      if (!line.isIdle || !news.isIdle) continue;
+      this.#docs.delete(doc);
+      this.#hasForgotten = true;
+      return;
+    }
   }
 
   #begin(isAgain = false) {
@@ -233,13 +268,14 @@ export class Client extends EventTarget {
   async #tryToBegin(isAgain) {
     const { signal } = this.#closing;
     for (; ; isAgain = true) {
-      if (isAgain) await pause(this.#pauses.next(), signal);
+      if (isAgain && !signal.aborted) await this.#pauses.wait();
       signal.throwIfAborted();
+      this.#source ??= await newSource();
       try {
-        this.#session = await Session.begin(this.#options, this.source, {
+        this.#session = await Session.begin(this.#options, this.#source, {
           onNews: (line) => this.#docs.get(line.doc)?.news.take(line),
           onEnd: () => this.#onCut(),
-          patience: PATIENCE,
+          patience: this.#options.patience ?? PATIENCE,
           signal,
         });
         if (!signal.aborted) break;
@@ -249,13 +285,29 @@ export class Client extends EventTarget {
         if (error.code === "ENOENT") throw error; // there is no such program
         if (error.code > 0 && error.code !== Refusal.NoMemory) throw error; // the name is none
         this.#trouble = error;
+        this.#tell(error.cause?.name === "Full" ? "full" : "offline");
       }
     }
     for (const { line, news } of this.#docs.values()) {
       line.session = this.#session;
       news.renew();
     }
+    this.#tell("connected");
     this.dispatchEvent(new Event("connected"));
+  }
+
+  // The network may be back: it connects at once, or looks whether the connection that there is still is one.
+  #wake() {
+    this.#pauses.reset();
+    this.#pauses.end();
+    this.#session?.check();
+  }
+
+  /** @param {ClientState} state */
+  #tell(state) {
+    if (state === this.#state || this.#state === "closed") return;
+    this.#state = state;
+    this.dispatchEvent(new StateEvent(state));
   }
 
   #onCut() {
@@ -263,6 +315,7 @@ export class Client extends EventTarget {
     this.#session = null;
     for (const { line } of this.#docs.values()) line.session = null;
     if (this.#closing.signal.aborted) return this.#stop(this.#closing.signal.reason);
+    this.#tell("offline");
     this.dispatchEvent(new Event("cut"));
     this.#begin(true);
   }
@@ -273,11 +326,13 @@ export class Client extends EventTarget {
    */
   #stop(error) {
     this.#closing.abort(error);
+    this.#pauses.end();
     for (const { line, news } of this.#docs.values()) {
       line.session = null;
       line.refuse(error);
       news.end(error);
     }
+    this.#tell("closed");
   }
 
   /** @param {any} error */
