@@ -3,6 +3,7 @@
 import { Delta as OwnDelta } from "./delta.js";
 import { difference } from "./difference.js";
 import { Refusal, RichdError } from "./errors.js";
+import { Emitter } from "./emitter.js";
 import { parted } from "./parting.js";
 import { Pauses } from "./pauses.js";
 
@@ -16,7 +17,7 @@ const NEVER = { timeout: Infinity }; // an edit is sent until it is answered
  *
  * @typedef {object} OpenOptions
  * @property {Op[]} [create]  what the document is created with where it isn't there
- * @property {typeof OwnDelta} [Delta]  what composes and transforms: quill-delta's class, by default that of the page's Quill or of the
+ * @property {import("./delta.js").DeltaClass} [Delta]  what composes and transforms: quill-delta's class, by default that of the page's Quill or of the
  *     package where there is one
  */
 
@@ -31,7 +32,7 @@ export class ChangeEvent extends Event {
 
 /** Something typed was refused for good, or the document can't be followed any more: `error` says why. */
 export class TroubleEvent extends Event {
-  /** @param {Error} error */
+  /** @param {RichdError} error */
   constructor(error) {
     super("trouble");
     this.error = error;
@@ -80,8 +81,10 @@ async function fetchCreated(client, name, ops) {
  *
  * `base` is the document at `revision`. What is shown is `base`, with `sent` behind it, and `typed` behind that. News that comes while
  * `sent` has no answer is held until it has one: only then is it known which revision is its own.
+ *
+ * @extends {Emitter<{ change: ChangeEvent, trouble: TroubleEvent, progress: Event }>}
  */
-export class Document extends EventTarget {
+export class RichDocument extends Emitter {
   /** @type {import("./richd.js").Client} */
   #client;
   /** @type {string} */
@@ -115,10 +118,10 @@ export class Document extends EventTarget {
    * @param {OpenOptions} [options]
    */
   static async open(client, name, options) {
-    const document = new Document();
+    const document = new RichDocument();
     document.#client = client;
     document.#name = name;
-    document.#Delta = options?.Delta ?? (await deltaClass());
+    document.#Delta = /** @type {any} */ (options?.Delta) ?? (await deltaClass());
     document.#typed = new document.#Delta();
     const { rev, ops } = options?.create === undefined ? await client.fetch(name) : await fetchCreated(client, name, options.create);
     document.#begin(rev, new document.#Delta(ops));
@@ -150,11 +153,11 @@ export class Document extends EventTarget {
 
   /**
    * Changes what is shown by something that was typed.
-   * @param {Op[] | { ops: Op[] }} ops
+   * @param {Op[] | { ops: Op[] } | import("./delta.js").QuillDelta} ops
    */
   apply(ops) {
     if (this.#isClosed) throw new RichdError(0, "Closed");
-    const delta = new this.#Delta(ops);
+    const delta = new this.#Delta(/** @type {Op[] | { ops: Op[] }} */ (ops));
     this.#contents = this.#contents.compose(delta);
     this.#typed = this.#typed.compose(delta);
     queueMicrotask(() => this.#send()); // what is typed in one go is sent in one edit

@@ -1,6 +1,13 @@
 // What may go wrong.
 
 /**
+ * @typedef {"Timeout" | "Closed" | "Cut"} OwnName  of an error of the client itself
+ * @typedef {"BadLine" | "BadMessage" | "BadOps" | "TooManyOps" | "NoHello" | "NoDocument" | "Exists" | "BadName" | "Gap" | "OldNumber"
+ *   | "TooManySources" | "Future" | "TooOld" | "PastEnd" | "CutsPair" | "TooHeavy" | "TooWide" | "RevisionsSpent" | "NothingToUndo"
+ *   | "TooManyDocuments" | "StoreFailed" | "NoMemory" | "LineTooLong" | "Deleted"} RefusalName  of a refusal of the server
+ */
+
+/**
  * A refusal of the server, with its number and name (13 and "TooOld"), or one of the client itself, with 0 for its number:
  * "Timeout", "Closed", or "Cut", the cause of a call that had no connection.
  */
@@ -13,7 +20,8 @@ export class RichdError extends Error {
   constructor(code, name, cause) {
     super(code === 0 ? name : `${code} ${name}`, cause === undefined ? undefined : { cause });
     this.code = code;
-    this.name = name;
+    /** @type {OwnName | RefusalName} */
+    this.name = /** @type {any} */ (name);
   }
 }
 

@@ -1,15 +1,17 @@
 // A client of richd: one session at a time, which is begun again after a cut, with any number of calls and documents in it.
 
-import { Document } from "./document.js";
+import { RichDocument } from "./document.js";
 import { Refusal, RichdError } from "./errors.js";
+import { Emitter } from "./emitter.js";
 import { follow } from "./follow.js";
 import { pause, within } from "./limits.js";
 import { Line } from "./line.js";
 import { News } from "./news.js";
 import { Pauses } from "./pauses.js";
 import { Session } from "./session.js";
+import { newSource } from "./sources.js";
 
-export { Document, RichdError };
+export { RichDocument, RichDocument as Document, RichdError };
 
 const PATIENCE = 30_000; // milliseconds
 
@@ -35,14 +37,11 @@ export async function connect(options) {
   return client;
 }
 
-async function newSource() {
-  const crypto = globalThis.crypto ?? (await import("node:crypto")).webcrypto;
-  const bytes = crypto.getRandomValues(new Uint8Array(12));
-  return "js-" + [...bytes].map((byte) => byte.toString(16).padStart(2, "0")).join("");
-}
-
-/** Sends the events "connected" and "cut". */
-export class Client extends EventTarget {
+/**
+ * Sends the events "connected" and "cut".
+ * @extends {Emitter<{ connected: Event, cut: Event }>}
+ */
+export class Client extends Emitter {
   #options;
   /** @type {Session | null} */
   #session = null;
@@ -172,7 +171,7 @@ export class Client extends EventTarget {
    * @param {import("./document.js").OpenOptions} [options]
    */
   open(doc, options) {
-    return Document.open(this, doc, options);
+    return RichDocument.open(this, doc, options);
   }
 
   /** Ends the session, once all that was sent is answered. What wasn't sent ends with "Closed". */
@@ -246,7 +245,7 @@ export class Client extends EventTarget {
         this.#session.cut();
       } catch (error) {
         signal.throwIfAborted();
-        if (error.code === "ENOENT") throw error; // there is no such program
+        if (error.code === "ENOENT" || error instanceof TypeError) throw error; // no such program, or no such link here
         if (error.code > 0 && error.code !== Refusal.NoMemory) throw error; // the name is none
         this.#trouble = error;
       }

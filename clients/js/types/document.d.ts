@@ -1,0 +1,84 @@
+/**
+ * @typedef {import("./delta.js").Op} Op
+ * @typedef {import("./delta.js").Delta} Delta
+ *
+ * @typedef {object} OpenOptions
+ * @property {Op[]} [create]  what the document is created with where it isn't there
+ * @property {import("./delta.js").DeltaClass} [Delta]  what composes and transforms: quill-delta's class, by default that of the page's Quill or of the
+ *     package where there is one
+ */
+/** What others did: `delta` changes what was shown before to `contents`. */
+export class ChangeEvent extends Event {
+    /** @param {Delta} delta */
+    constructor(delta: Delta);
+    delta: OwnDelta;
+}
+/** Something typed was refused for good, or the document can't be followed any more: `error` says why. */
+export class TroubleEvent extends Event {
+    /** @param {RichdError} error */
+    constructor(error: RichdError);
+    error: RichdError;
+}
+/**
+ * Sends "change" for what others did, "trouble" where something typed is lost, and "progress" where `revision` or `isSaved` may have
+ * changed.
+ *
+ * `base` is the document at `revision`. What is shown is `base`, with `sent` behind it, and `typed` behind that. News that comes while
+ * `sent` has no answer is held until it has one: only then is it known which revision is its own.
+ *
+ * @extends {Emitter<{ change: ChangeEvent, trouble: TroubleEvent, progress: Event }>}
+ */
+export class RichDocument extends Emitter<{
+    change: ChangeEvent;
+    trouble: TroubleEvent;
+    progress: Event;
+}> {
+    /**
+     * @param {import("./richd.js").Client} client
+     * @param {string} name
+     * @param {OpenOptions} [options]
+     */
+    static open(client: import("./richd.js").Client, name: string, options?: OpenOptions | undefined): Promise<RichDocument>;
+    constructor();
+    get name(): string;
+    /** The last revision of the server's that is in what is shown. */
+    get revision(): number;
+    /**
+     * What is shown.
+     * @returns {Delta}
+     */
+    get contents(): OwnDelta;
+    /** Whether all that was typed is on the server's disk. */
+    get isSaved(): boolean;
+    /**
+     * Changes what is shown by something that was typed.
+     * @param {Op[] | { ops: Op[] } | import("./delta.js").QuillDelta} ops
+     */
+    apply(ops: Op[] | {
+        ops: Op[];
+    } | import("./delta.js").QuillDelta): void;
+    /**
+     * Waits until all that was typed is on the server's disk.
+     * @returns {Promise<number>} the revision then
+     */
+    flush(): Promise<number>;
+    /** Follows it no longer. What was sent is still answered; what wasn't is dropped. */
+    close(): void;
+    #private;
+}
+export type Op = import("./delta.js").Op;
+export type Delta = import("./delta.js").Delta;
+export type OpenOptions = {
+    /**
+     * what the document is created with where it isn't there
+     */
+    create?: import("./delta.js").Op[] | undefined;
+    /**
+     * what composes and transforms: quill-delta's class, by default that of the page's Quill or of the
+     * package where there is one
+     */
+    Delta?: import("./delta.js").DeltaClass | undefined;
+};
+import { Delta as OwnDelta } from "./delta.js";
+import { RichdError } from "./errors.js";
+import { Emitter } from "./emitter.js";

@@ -1,0 +1,2 @@
+/** A name that nobody has. */
+export function newSource(): Promise<string>;
