@@ -4,11 +4,15 @@ import { Delta as OwnDelta } from "./delta.js";
 import { difference } from "./difference.js";
 import { Refusal, RichdError } from "./errors.js";
 import { Emitter } from "./emitter.js";
+import { ChangeEvent, TroubleEvent } from "./events.js";
+import { History, Steps } from "./history.js";
+import { cutsPair, reachOf, takenOver } from "./operations.js";
 import { parted } from "./parting.js";
 import { Pauses } from "./pauses.js";
 
 const ROOM = 48 * 1024; // bytes of an edit's operations, in a line that may have 65,536
 const LEAST_ROOM = 64;
+const MOST_PAST_ENDS = 4;
 const NEVER = { timeout: Infinity }; // an edit is sent until it is answered
 
 /**
@@ -20,24 +24,6 @@ const NEVER = { timeout: Infinity }; // an edit is sent until it is answered
  * @property {import("./delta.js").DeltaClass} [Delta]  what composes and transforms: quill-delta's class, by default that of the page's Quill or of the
  *     package where there is one
  */
-
-/** What others did: `delta` changes what was shown before to `contents`. */
-export class ChangeEvent extends Event {
-  /** @param {Delta} delta */
-  constructor(delta) {
-    super("change");
-    this.delta = delta;
-  }
-}
-
-/** Something typed was refused for good, or the document can't be followed any more: `error` says why. */
-export class TroubleEvent extends Event {
-  /** @param {RichdError} error */
-  constructor(error) {
-    super("trouble");
-    this.error = error;
-  }
-}
 
 /** @returns {Promise<typeof OwnDelta>} */
 async function deltaClass() {
@@ -108,7 +94,12 @@ export class RichDocument extends Emitter {
   #isStale = false; // the next revision isn't held any more, so the document has to be fetched anew
   #isClosed = false;
   #room = ROOM;
+  #strays = 0; // how often in a row it was fetched anew, and nothing was taken or told meanwhile
+  #pastEnds = 0; // how often in a row an edit was refused by PastEnd, though the document was fetched anew
+  #pauses = new Pauses();
   #leave = () => {};
+  #steps = new Steps();
+  #history = new History(this.#steps, (way) => this.#turn(way));
   /** @type {{ resolve: (revision: number) => void, reject: (error: Error) => void }[]} those who wait in `flush` */
   #waiting = [];
 
@@ -146,22 +137,63 @@ export class RichDocument extends Emitter {
     return this.#contents;
   }
 
+  /** Undo and redo of what was typed here. */
+  get history() {
+    return this.#history;
+  }
+
+  /** Whether it is followed no longer: it was closed, or trouble came that is final. */
+  get isClosed() {
+    return this.#isClosed;
+  }
+
   /** Whether all that was typed is on the server's disk. */
   get isSaved() {
     return this.#sent === null && this.#typed.ops.length === 0;
   }
 
   /**
-   * Changes what is shown by something that was typed.
+   * Changes what is shown by something that was typed. Throws what a server would refuse it by, as BadOps, LineTooLong or PastEnd: then it
+   * isn't shown, and "trouble" tells of it too.
    * @param {Op[] | { ops: Op[] } | import("./delta.js").QuillDelta} ops
    */
   apply(ops) {
     if (this.#isClosed) throw new RichdError(0, "Closed");
-    const delta = new this.#Delta(/** @type {Op[] | { ops: Op[] }} */ (ops));
+    let delta;
+    try {
+      delta = this.#readTyped(/** @type {Op[] | { ops: Op[] }} */ (ops));
+    } catch (error) {
+      this.dispatchEvent(new TroubleEvent(error, new this.#Delta(ops), false));
+      throw error;
+    }
+    this.#steps.record(delta.invert(this.#contents));
+    this.#type(delta);
+  }
+
+  /** @param {Delta} delta */
+  #type(delta) {
     this.#contents = this.#contents.compose(delta);
     this.#typed = this.#typed.compose(delta);
     queueMicrotask(() => this.#send()); // what is typed in one go is sent in one edit
     this.dispatchEvent(new Event("progress"));
+  }
+
+  /** @param {"undo" | "redo"} way */
+  #turn(way) {
+    if (this.#isClosed) throw new RichdError(0, "Closed");
+    const step = this.#steps.take(way, this.#contents);
+    if (step === undefined) return false;
+    this.#type(step);
+    this.dispatchEvent(new ChangeEvent(step));
+    return true;
+  }
+
+  /** @param {Op[] | { ops: Op[] }} ops */
+  #readTyped(ops) {
+    const delta = takenOver(Array.isArray(ops) ? ops : ops.ops);
+    if (reachOf(delta) > this.#contents.length()) throw new RichdError(Refusal.PastEnd, "PastEnd");
+    if (cutsPair(delta, this.#contents)) throw new RichdError(Refusal.CutsPair, "CutsPair");
+    return new this.#Delta(delta.ops);
   }
 
   /**
@@ -214,6 +246,7 @@ export class RichDocument extends Emitter {
     this.#client.edit(this.#name, first.ops, this.#revision, NEVER).then(
       ({ rev }) => {
         this.#taken = rev;
+        this.#strays = this.#pastEnds = 0;
         this.#goOn();
       },
       (error) => this.#onRefusal(error),
@@ -256,6 +289,7 @@ export class RichDocument extends Emitter {
   #takeOver(change, revision) {
     this.#base = this.#base.compose(change);
     this.#revision = revision;
+    this.#strays = 0;
     if (this.#sent !== null) {
       const sent = change.transform(this.#sent, true);
       change = this.#sent.transform(change, false);
@@ -272,6 +306,7 @@ export class RichDocument extends Emitter {
     const shown = this.#typed.transform(change, false);
     this.#typed = change.transform(this.#typed, true);
     if (shown.ops.length === 0) return;
+    this.#steps.move(shown);
     this.#contents = this.#contents.compose(shown);
     this.dispatchEvent(new ChangeEvent(shown));
   }
@@ -280,13 +315,15 @@ export class RichDocument extends Emitter {
   #onRefusal(error) {
     if (error.name === "Closed") return this.#stop(error);
     const isTooLong = [Refusal.TooManyOps, Refusal.TooWide, Refusal.LineTooLong].includes(error.code);
-    const isElsewhere = [Refusal.Future, Refusal.TooOld, Refusal.PastEnd].includes(error.code);
+    const isElsewhere = [Refusal.Future, Refusal.TooOld].includes(error.code) || (error.code === Refusal.PastEnd && this.#pastEnds < MOST_PAST_ENDS);
     const typed = this.#sent.compose(this.#typed);
+    const isOnePart = parted(this.#sent, LEAST_ROOM)[1].ops.length === 0;
     this.#sent = null;
-    if (isTooLong && this.#room > LEAST_ROOM) {
+    if (isTooLong && !isOnePart && this.#room > LEAST_ROOM) {
       this.#typed = typed;
       this.#room /= 2;
     } else if (isElsewhere) {
+      if (error.code === Refusal.PastEnd) this.#pastEnds += 1;
       this.#typed = typed;
       this.#isStale = true;
     } else {
@@ -303,10 +340,12 @@ export class RichDocument extends Emitter {
   #drop(typed, error) {
     const shown = typed.invert(this.#base);
     this.#typed = new this.#Delta();
+    this.#steps.clear();
     this.#contents = this.#base;
+    this.#strays = this.#pastEnds = 0;
     for (const { reject } of this.#waiting.splice(0)) reject(error);
     this.dispatchEvent(new ChangeEvent(shown));
-    this.dispatchEvent(new TroubleEvent(error));
+    this.dispatchEvent(new TroubleEvent(error, typed, false));
   }
 
   // Fetches the newest revision, and moves what was typed onto it as if one change had come.
@@ -314,11 +353,16 @@ export class RichDocument extends Emitter {
     this.#leave();
     if (this.#sent !== null) this.#base = this.#base.compose(this.#sent);
     this.#sent = this.#taken = null;
+    this.#strays += 1;
+    if (this.#strays === 1) this.#pauses.reset();
+    else await new Promise((resolve) => setTimeout(resolve, this.#pauses.next()));
+    if (this.#isClosed) return;
     try {
       const { rev, ops } = await this.#client.fetch(this.#name, undefined, NEVER);
       if (this.#isClosed) return;
       const fetched = new this.#Delta(ops);
       const change = new this.#Delta(difference(this.#base, fetched).ops);
+      this.#steps.clear();
       this.#begin(rev, fetched);
       this.#show(change);
       this.#goOn();
@@ -330,7 +374,9 @@ export class RichDocument extends Emitter {
   /** @param {any} error */
   #fail(error) {
     this.#stop(error);
-    if (error.name !== "Closed") this.dispatchEvent(new TroubleEvent(error));
+    if (error.name === "Closed") return;
+    const lost = this.#isInDoubt ? this.#sent.compose(this.#typed) : this.#typed;
+    this.dispatchEvent(new TroubleEvent(error, lost, true));
   }
 
   /** @param {any} error */

@@ -1,7 +1,7 @@
 // What may go wrong.
 
 /**
- * @typedef {"Timeout" | "Closed" | "Cut"} OwnName  of an error of the client itself
+ * @typedef {"Timeout" | "Closed" | "Cut" | "Parted"} OwnName  of an error of the client itself
  * @typedef {"BadLine" | "BadMessage" | "BadOps" | "TooManyOps" | "NoHello" | "NoDocument" | "Exists" | "BadName" | "Gap" | "OldNumber"
  *   | "TooManySources" | "Future" | "TooOld" | "PastEnd" | "CutsPair" | "TooHeavy" | "TooWide" | "RevisionsSpent" | "NothingToUndo"
  *   | "TooManyDocuments" | "StoreFailed" | "NoMemory" | "LineTooLong" | "Deleted"} RefusalName  of a refusal of the server
@@ -27,6 +27,7 @@ export class RichdError extends Error {
 
 /** The numbers of the refusals that the client itself answers in some way. */
 export const Refusal = {
+  BadOps: 3,
   TooManyOps: 4,
   NoDocument: 6,
   Exists: 7,
@@ -35,6 +36,7 @@ export const Refusal = {
   Future: 12,
   TooOld: 13,
   PastEnd: 14,
+  CutsPair: 15,
   TooWide: 17,
   StoreFailed: 21,
   NoMemory: 22,

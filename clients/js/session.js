@@ -2,8 +2,7 @@
 
 import { Refusal, RichdError } from "./errors.js";
 import { openLink } from "./links.js";
-
-const MAX_LINE = 65_536; // bytes, without the line's end
+import { MAX_LINE } from "./operations.js";
 
 /**
  * @typedef {object} Message  a line that is sent: its kind, and the members that this kind has

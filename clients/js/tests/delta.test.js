@@ -94,6 +94,18 @@ test("both orders of two changes come to the same, and an inverse takes a change
   }
 });
 
+test("each part of an edit does something, though the next operation is long", () => {
+  const image = { insert: { image: "A".repeat(100) } };
+  const edit = new Delta([{ retain: 5 }, image, { retain: 3 }, { insert: "x", attributes: { link: "B".repeat(100) } }, { delete: 1 }]);
+  const parts = [];
+  for (let rest = edit; rest.ops.length > 0; ) {
+    let first;
+    [first, rest] = parted(rest, 64);
+    parts.push(first.ops);
+  }
+  assert.deepEqual(parts, [[{ retain: 5 }, image], [{ retain: 9 }, edit.ops[3]], [{ retain: 10 }, { delete: 1 }]]);
+});
+
 test("an edit in parts does the same", () => {
   const draw = new Draw(3);
   for (let number = 0; number < CASES; number += 1) {

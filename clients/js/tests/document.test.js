@@ -140,14 +140,103 @@ test("what is refused for good is taken back, and told", async (t) => {
   for (const { contents } of [document, shown]) assert.deepEqual(contents.ops, newest());
 });
 
+/** The troubles that a document tells, as the error's name, what is lost, and whether it is final. */
+function troublesOf(document) {
+  const troubles = [];
+  document.addEventListener("trouble", ({ error, delta, isFinal }) => troubles.push([error.name, delta.ops, isFinal]));
+  return troubles;
+}
+
+test("what can't be sent is refused at once, and isn't shown", async (t) => {
+  const { open, newest, server } = await prepared(t, {}, [{ insert: "a\u{1f600}b\n" }]);
+  const document = await open();
+  const image = { insert: { image: "data:image/png;base64," + "A".repeat(70_000) } };
+  const refused = [
+    ["LineTooLong", [{ retain: 3 }, image]],
+    ["LineTooLong", [{ retain: 1, attributes: { link: "A".repeat(70_000) } }]],
+    ["PastEnd", [{ retain: 6 }, { insert: "x" }]],
+    ["PastEnd", [{ retain: 3 }, { delete: 3 }]],
+    ["CutsPair", [{ retain: 2 }, { insert: "x" }]],
+    ["CutsPair", [{ retain: 1 }, { delete: 1 }]],
+    ["CutsPair", [{ retain: 2, attributes: { bold: true } }]],
+    ["CutsPair", [{ insert: "lone \ud83d half" }]],
+    ["BadOps", [{ insert: { mention: { id: 1 } } }]],
+    ["BadOps", [{ insert: { image: "a", alt: "b" } }]],
+    ["BadOps", [{ retain: 1, attributes: { "line-height": 1.5 } }]],
+    ["BadOps", [{ insert: "x", retain: 1 }]],
+    ["BadOps", [{ insert: "x", id: 1 }]],
+    ["BadOps", [{}]],
+    ["BadOps", ["x"]],
+  ];
+  const troubles = troublesOf(document);
+  for (const [name, ops] of refused) assert.throws(() => document.apply(ops), { name }, JSON.stringify(ops).slice(0, 60));
+  assert.deepEqual(troubles, refused.map(([name, ops]) => [name, ops, false]));
+  assert.deepEqual(document.contents.ops, newest());
+  assert.ok(document.isSaved);
+  // a retain at the end does nothing, so it may reach further; so do attributes that say nothing
+  document.apply([{ insert: "x", attributes: { bold: null, italic: undefined } }, { retain: 99 }]);
+  await document.flush();
+  assert.deepEqual(newest(), [{ insert: "xa\u{1f600}b\n" }]);
+  assert.equal(server.documents.newest("d"), 2);
+});
+
+test("an image that a line takes alone is sent alone", async (t) => {
+  const { open, newest, server } = await prepared(t);
+  const document = await open();
+  const image = { insert: { image: "A".repeat(60_000) } };
+  document.apply([{ retain: 2 }, { insert: "before " }, image, { insert: " after" }]);
+  await document.flush();
+  assert.deepEqual(newest(), [{ insert: "Hebefore " }, image, { insert: " afterllo\n" }]);
+  assert.ok(server.documents.newest("d") <= 4);
+});
+
+test("an edit that stays too wide in one part is taken back", async (t) => {
+  let sent = 0;
+  const refuse = ({ do: kind }) => (kind === "edit" ? ((sent += 1), { code: 17, error: "TooWide" }) : undefined);
+  const { open } = await prepared(t, { refuse });
+  const document = await open();
+  const troubles = troublesOf(document);
+  const lost = [{ insert: { image: "A".repeat(60_000) } }];
+  document.apply(lost);
+  await assert.rejects(document.flush(), { code: 17 });
+  assert.deepEqual([sent, troubles], [1, [["TooWide", lost, false]]]);
+});
+
+test("a server that says PastEnd each time is asked some times, and the edit is taken back", async (t) => {
+  let sent = 0;
+  const refuse = ({ do: kind }) => (kind === "edit" ? ((sent += 1), { code: 14, error: "PastEnd" }) : undefined);
+  const { open, newest } = await prepared(t, { refuse });
+  const document = await open();
+  const troubles = troublesOf(document);
+  document.apply([{ insert: "x" }]);
+  await assert.rejects(document.flush(), { code: 14 });
+  assert.deepEqual([sent, troubles], [5, [["PastEnd", [{ insert: "x" }], false]]]);
+  assert.deepEqual(document.contents.ops, newest());
+});
+
+test("a refusal that the client doesn't know takes back what was typed, and tells it", async (t) => {
+  const refuse = ({ do: kind }) => (kind === "edit" ? { code: 60, error: "NotAllowed" } : undefined);
+  const { open, newest } = await prepared(t, { refuse });
+  const document = await open();
+  const troubles = troublesOf(document);
+  document.apply([{ insert: "one" }]);
+  await Promise.resolve();
+  document.apply([{ retain: 3 }, { insert: " two" }]);
+  await assert.rejects(document.flush(), { code: 60, name: "NotAllowed" });
+  assert.deepEqual(troubles, [["NotAllowed", [{ insert: "one two" }], false]]);
+  assert.deepEqual(document.contents.ops, newest());
+});
+
 test("a deletion ends a document that is open, and says so", async (t) => {
   const { creator, open } = await prepared(t);
   const document = await open();
-  const trouble = new Promise((resolve) => document.addEventListener("trouble", ({ error }) => resolve(error)));
+  const troubles = troublesOf(document);
   await creator.delete("d");
   document.apply([{ insert: "typed" }]);
   await assert.rejects(document.flush(), { code: 40 });
-  assert.equal((await trouble).code, 40);
+  await until(() => troubles.at(-1)?.[2]);
+  assert.deepEqual(troubles.map(([name]) => name), Array.from(troubles, () => "Deleted"));
+  assert.deepEqual(troubles.flatMap(([, ops]) => ops), [{ insert: "typed" }]);
 });
 
 test("what is too long for a line, or for the journal, is sent in parts", async (t) => {

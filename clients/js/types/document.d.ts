@@ -1,25 +1,4 @@
 /**
- * @typedef {import("./delta.js").Op} Op
- * @typedef {import("./delta.js").Delta} Delta
- *
- * @typedef {object} OpenOptions
- * @property {Op[]} [create]  what the document is created with where it isn't there
- * @property {import("./delta.js").DeltaClass} [Delta]  what composes and transforms: quill-delta's class, by default that of the page's Quill or of the
- *     package where there is one
- */
-/** What others did: `delta` changes what was shown before to `contents`. */
-export class ChangeEvent extends Event {
-    /** @param {Delta} delta */
-    constructor(delta: Delta);
-    delta: OwnDelta;
-}
-/** Something typed was refused for good, or the document can't be followed any more: `error` says why. */
-export class TroubleEvent extends Event {
-    /** @param {RichdError} error */
-    constructor(error: RichdError);
-    error: RichdError;
-}
-/**
  * Sends "change" for what others did, "trouble" where something typed is lost, and "progress" where `revision` or `isSaved` may have
  * changed.
  *
@@ -48,10 +27,15 @@ export class RichDocument extends Emitter<{
      * @returns {Delta}
      */
     get contents(): OwnDelta;
+    /** Undo and redo of what was typed here. */
+    get history(): History;
+    /** Whether it is followed no longer: it was closed, or trouble came that is final. */
+    get isClosed(): boolean;
     /** Whether all that was typed is on the server's disk. */
     get isSaved(): boolean;
     /**
-     * Changes what is shown by something that was typed.
+     * Changes what is shown by something that was typed. Throws what a server would refuse it by, as BadOps, LineTooLong or PastEnd: then it
+     * isn't shown, and "trouble" tells of it too.
      * @param {Op[] | { ops: Op[] } | import("./delta.js").QuillDelta} ops
      */
     apply(ops: Op[] | {
@@ -79,6 +63,8 @@ export type OpenOptions = {
      */
     Delta?: import("./delta.js").DeltaClass | undefined;
 };
-import { Delta as OwnDelta } from "./delta.js";
-import { RichdError } from "./errors.js";
+import { ChangeEvent } from "./events.js";
+import { TroubleEvent } from "./events.js";
 import { Emitter } from "./emitter.js";
+import { Delta as OwnDelta } from "./delta.js";
+import { History } from "./history.js";

@@ -1,5 +1,5 @@
 /**
- * @typedef {"Timeout" | "Closed" | "Cut"} OwnName  of an error of the client itself
+ * @typedef {"Timeout" | "Closed" | "Cut" | "Parted"} OwnName  of an error of the client itself
  * @typedef {"BadLine" | "BadMessage" | "BadOps" | "TooManyOps" | "NoHello" | "NoDocument" | "Exists" | "BadName" | "Gap" | "OldNumber"
  *   | "TooManySources" | "Future" | "TooOld" | "PastEnd" | "CutsPair" | "TooHeavy" | "TooWide" | "RevisionsSpent" | "NothingToUndo"
  *   | "TooManyDocuments" | "StoreFailed" | "NoMemory" | "LineTooLong" | "Deleted"} RefusalName  of a refusal of the server
@@ -20,6 +20,7 @@ export class RichdError extends Error {
     name: OwnName | RefusalName;
 }
 export namespace Refusal {
+    const BadOps: number;
     const TooManyOps: number;
     const NoDocument: number;
     const Exists: number;
@@ -28,6 +29,7 @@ export namespace Refusal {
     const Future: number;
     const TooOld: number;
     const PastEnd: number;
+    const CutsPair: number;
     const TooWide: number;
     const StoreFailed: number;
     const NoMemory: number;
@@ -37,7 +39,7 @@ export namespace Refusal {
 /**
  * of an error of the client itself
  */
-export type OwnName = "Timeout" | "Closed" | "Cut";
+export type OwnName = "Timeout" | "Closed" | "Cut" | "Parted";
 /**
  * of a refusal of the server
  */

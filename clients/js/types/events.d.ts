@@ -1,0 +1,23 @@
+/**
+ * @typedef {import("./delta.js").Delta} Delta
+ * @typedef {import("./errors.js").RichdError} RichdError
+ */
+/** What others did, or an undo: `delta` changes what was shown before to `contents`. */
+export class ChangeEvent extends Event {
+    /** @param {Delta} delta */
+    constructor(delta: Delta);
+    delta: import("./delta.js").Delta;
+}
+/**
+ * Something that was typed is lost: `delta` is what, as a change of what is left without it, and `error` says why. Where `isFinal` holds
+ * the document is closed, and shows what it last showed.
+ */
+export class TroubleEvent extends Event {
+    /** @param {RichdError} error @param {Delta} delta @param {boolean} isFinal */
+    constructor(error: RichdError, delta: Delta, isFinal: boolean);
+    error: import("./errors.js").RichdError;
+    delta: import("./delta.js").Delta;
+    isFinal: boolean;
+}
+export type Delta = import("./delta.js").Delta;
+export type RichdError = import("./errors.js").RichdError;
