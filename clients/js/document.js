@@ -4,7 +4,7 @@ import { Delta as OwnDelta } from "./delta.js";
 import { difference } from "./difference.js";
 import { Refusal, RichdError } from "./errors.js";
 import { Emitter } from "./emitter.js";
-import { ChangeEvent, TroubleEvent } from "./events.js";
+import { ChangeEvent, DoubtEvent, TroubleEvent } from "./events.js";
 import { History, Steps } from "./history.js";
 import { cutsPair, reachOf, takenOver } from "./operations.js";
 import { parted } from "./parting.js";
@@ -23,6 +23,7 @@ const NEVER = { timeout: Infinity }; // an edit is sent until it is answered
  * @property {Op[]} [create]  what the document is created with where it isn't there
  * @property {import("./delta.js").DeltaClass} [Delta]  what composes and transforms: quill-delta's class, by default that of the page's Quill or of the
  *     package where there is one
+ * @property {import("./keeping.js").Keeper} [keeper]  keeps what isn't on the server's disk yet; `richd/offline` gives one
  */
 
 /** @returns {Promise<typeof OwnDelta>} */
@@ -68,7 +69,7 @@ async function fetchCreated(client, name, ops) {
  * `base` is the document at `revision`. What is shown is `base`, with `sent` behind it, and `typed` behind that. News that comes while
  * `sent` has no answer is held until it has one: only then is it known which revision is its own.
  *
- * @extends {Emitter<{ change: ChangeEvent, trouble: TroubleEvent, progress: Event }>}
+ * @extends {Emitter<{ change: ChangeEvent, trouble: TroubleEvent, doubt: DoubtEvent, progress: Event }>}
  */
 export class RichDocument extends Emitter {
   /** @type {import("./richd.js").Client} */
@@ -87,6 +88,10 @@ export class RichDocument extends Emitter {
   #sent = null;
   /** @type {number | null} the revision that `sent` made, once it is answered */
   #taken = null;
+  /** @type {number | undefined} the number of `sent`, where there is a keeper and it may have left */
+  #number;
+  /** @type {import("./keeping.js").Keeper | undefined} */
+  #keeper;
   /** @type {Delta} */
   #typed;
   /** @type {{ ops: Op[], rev: number }[]} */
@@ -114,9 +119,18 @@ export class RichDocument extends Emitter {
     document.#name = name;
     document.#Delta = /** @type {any} */ (options?.Delta) ?? (await deltaClass());
     document.#typed = new document.#Delta();
-    const { rev, ops } = options?.create === undefined ? await client.fetch(name) : await fetchCreated(client, name, options.create);
-    document.#begin(rev, new document.#Delta(ops));
-    document.#contents = document.#base;
+    document.#keeper = options?.keeper;
+    const kept = await document.#keeper?.load();
+    if (kept !== undefined) {
+      document.#restore(kept);
+    } else {
+      const { rev, ops } = options?.create === undefined ? await client.fetch(name) : await fetchCreated(client, name, options.create);
+      document.#begin(rev, new document.#Delta(ops));
+      document.#contents = document.#base;
+    }
+    document.#keeper?.watch(document, () => document.#snapshot());
+    if (document.#sent !== null) document.#sendOff();
+    else if (kept !== undefined) document.#goOn();
     return document;
   }
 
@@ -150,6 +164,11 @@ export class RichDocument extends Emitter {
   /** Whether all that was typed is on the server's disk. */
   get isSaved() {
     return this.#sent === null && this.#typed.ops.length === 0;
+  }
+
+  /** Whether what is shown would outlive the page: it is on the server's disk, or kept. */
+  get isKept() {
+    return this.isSaved || (this.#keeper?.isUpToDate ?? false);
   }
 
   /**
@@ -243,7 +262,20 @@ export class RichDocument extends Emitter {
     const [first, rest] = parted(this.#typed, this.#room);
     this.#sent = new this.#Delta(first.ops);
     this.#typed = new this.#Delta(rest.ops);
-    this.#client.edit(this.#name, first.ops, this.#revision, NEVER).then(
+    this.#number = undefined;
+    this.#sendOff();
+  }
+
+  // Sends `sent`, again where it has a number. With a keeper it leaves once it is written, with its number.
+  #sendOff() {
+    const keeper = this.#keeper;
+    const hold = keeper && (async (/** @type {number} */ number) => {
+      if (number === this.#number) return keeper.confirmLease();
+      await keeper.askLease();
+      this.#number = number;
+      await keeper.write();
+    });
+    this.#client.edit(this.#name, this.#sent.ops, this.#revision, { ...NEVER, hold, kept: this.#number, signal: keeper?.signal }).then(
       ({ rev }) => {
         this.#taken = rev;
         this.#strays = this.#pastEnds = 0;
@@ -251,6 +283,24 @@ export class RichDocument extends Emitter {
       },
       (error) => this.#onRefusal(error),
     );
+  }
+
+  /** @returns {import("./keeping.js").Snapshot} */
+  #snapshot() {
+    const [base, revision, isStale, sent, typed] = [this.#base, this.#revision, this.#isStale, this.#sent, this.#typed];
+    return { base, revision, isStale, sent, number: sent === null ? undefined : this.#number, typed };
+  }
+
+  // Begins with what was kept. What was to be sent, and never left, is typed.
+  /** @param {import("./keeping.js").Kept} kept */
+  #restore({ base, revision, isStale, sent, number, typed }) {
+    const [leaving, behind] = [new this.#Delta(sent ?? []), new this.#Delta(typed)];
+    this.#begin(revision, new this.#Delta(base));
+    this.#isStale = isStale;
+    this.#contents = this.#base.compose(leaving).compose(behind);
+    this.#number = number;
+    this.#sent = number === undefined ? null : leaving;
+    this.#typed = number === undefined ? leaving.compose(behind) : behind;
   }
 
   // Takes over what has come, and sends what there is to be sent.
@@ -314,6 +364,7 @@ export class RichDocument extends Emitter {
   /** @param {RichdError} error */
   #onRefusal(error) {
     if (error.name === "Closed") return this.#stop(error);
+    if (error.name === "InDoubt") return this.#leaveOut();
     const isTooLong = [Refusal.TooManyOps, Refusal.TooWide, Refusal.LineTooLong].includes(error.code);
     const isElsewhere = [Refusal.Future, Refusal.TooOld].includes(error.code) || (error.code === Refusal.PastEnd && this.#pastEnds < MOST_PAST_ENDS);
     const typed = this.#sent.compose(this.#typed);
@@ -329,6 +380,15 @@ export class RichDocument extends Emitter {
     } else {
       this.#drop(typed, error);
     }
+    this.#goOn();
+  }
+
+  // Takes what was sent out of what is shown. Where it was taken it comes as others' changes do.
+  #leaveOut() {
+    const [inDoubt, revision] = [this.#sent, this.#revision];
+    this.#sent = null;
+    this.#show(inDoubt.invert(this.#base));
+    this.dispatchEvent(new DoubtEvent(inDoubt, revision));
     this.#goOn();
   }
 
@@ -384,6 +444,8 @@ export class RichDocument extends Emitter {
     if (this.#isClosed) return;
     this.#isClosed = true;
     this.#leave();
+    if (error instanceof RichdError && error.code > 0) this.#keeper?.forget(error);
+    else this.#keeper?.close(error);
     for (const { reject } of this.#waiting.splice(0)) reject(error);
   }
 }

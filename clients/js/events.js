@@ -27,3 +27,16 @@ export class TroubleEvent extends Event {
     this.isFinal = isFinal;
   }
 }
+
+/**
+ * An edit that was sent before the page was loaded, and of which can't be known whether it was taken. It isn't sent again, and isn't shown:
+ * where it was taken it comes as others' changes do. `delta` is the edit, on the document at `revision`.
+ */
+export class DoubtEvent extends Event {
+  /** @param {Delta} delta @param {number} revision */
+  constructor(delta, revision) {
+    super("doubt");
+    this.delta = delta;
+    this.revision = revision;
+  }
+}

@@ -9,7 +9,7 @@ import { Line } from "./line.js";
 import { News } from "./news.js";
 import { Pauses } from "./pauses.js";
 import { Session } from "./session.js";
-import { newSource } from "./sources.js";
+import { takeSource, thisPage } from "./sources.js";
 
 export { RichDocument, RichDocument as Document, RichdError };
 
@@ -31,7 +31,7 @@ const PATIENCE = 30_000; // milliseconds
  * @param {import("./links.js").Address & Options} options
  */
 export async function connect(options) {
-  const made = options.source === undefined ? { source: await newSource(), isNew: true } : {};
+  const made = options.source === undefined ? await takeSource(thisPage()) : {};
   const client = new Client({ timeout: PATIENCE, ...options, ...made });
   await client.connected();
   return client;
@@ -193,12 +193,17 @@ export class Client extends Emitter {
     return { rev };
   }
 
-  /** @param {string} doc @param {import("./session.js").Message} message @param {boolean} isCommand @param {Limits} [limits] */
+  /**
+   * @param {string} doc
+   * @param {import("./session.js").Message} message
+   * @param {boolean} isCommand
+   * @param {Limits & Pick<import("./line.js").Item, "hold" | "kept">} [limits]
+   */
   async #ask(doc, message, isCommand, limits) {
     this.#closing.signal.throwIfAborted();
     const { line } = this.#of(doc);
     /** @type {any} */
-    const item = { message: { ...message, doc }, isCommand };
+    const item = { message: { ...message, doc }, isCommand, hold: limits?.hold, kept: limits?.kept };
     const answer = new Promise((resolve, reject) => {
       item.settle = (/** @type {any} */ error, /** @type {any} */ reply) => (error ? reject(error) : resolve(reply));
     });

@@ -5,11 +5,12 @@
  * `base` is the document at `revision`. What is shown is `base`, with `sent` behind it, and `typed` behind that. News that comes while
  * `sent` has no answer is held until it has one: only then is it known which revision is its own.
  *
- * @extends {Emitter<{ change: ChangeEvent, trouble: TroubleEvent, progress: Event }>}
+ * @extends {Emitter<{ change: ChangeEvent, trouble: TroubleEvent, doubt: DoubtEvent, progress: Event }>}
  */
 export class RichDocument extends Emitter<{
     change: ChangeEvent;
     trouble: TroubleEvent;
+    doubt: DoubtEvent;
     progress: Event;
 }> {
     /**
@@ -33,6 +34,8 @@ export class RichDocument extends Emitter<{
     get isClosed(): boolean;
     /** Whether all that was typed is on the server's disk. */
     get isSaved(): boolean;
+    /** Whether what is shown would outlive the page: it is on the server's disk, or kept. */
+    get isKept(): boolean;
     /**
      * Changes what is shown by something that was typed. Throws what a server would refuse it by, as BadOps, LineTooLong or PastEnd: then it
      * isn't shown, and "trouble" tells of it too.
@@ -62,9 +65,14 @@ export type OpenOptions = {
      * package where there is one
      */
     Delta?: import("./delta.js").DeltaClass | undefined;
+    /**
+     * keeps what isn't on the server's disk yet; `richd/offline` gives one
+     */
+    keeper?: import("./keeping.js").Keeper | undefined;
 };
 import { ChangeEvent } from "./events.js";
 import { TroubleEvent } from "./events.js";
+import { DoubtEvent } from "./events.js";
 import { Emitter } from "./emitter.js";
 import { Delta as OwnDelta } from "./delta.js";
 import { History } from "./history.js";

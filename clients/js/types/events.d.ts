@@ -19,5 +19,15 @@ export class TroubleEvent extends Event {
     delta: import("./delta.js").Delta;
     isFinal: boolean;
 }
+/**
+ * An edit that was sent before the page was loaded, and of which can't be known whether it was taken. It isn't sent again, and isn't shown:
+ * where it was taken it comes as others' changes do. `delta` is the edit, on the document at `revision`.
+ */
+export class DoubtEvent extends Event {
+    /** @param {Delta} delta @param {number} revision */
+    constructor(delta: Delta, revision: number);
+    delta: import("./delta.js").Delta;
+    revision: number;
+}
 export type Delta = import("./delta.js").Delta;
 export type RichdError = import("./errors.js").RichdError;

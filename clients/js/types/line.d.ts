@@ -1,5 +1,4 @@
 /**
- * @typedef {import("./errors.js").RichdError} RichdError
  * @typedef {import("./session.js").Reply} Reply
  *
  * @typedef {object} Item  something that was asked
@@ -13,6 +12,11 @@
  * @property {boolean} [isBehind]  since it was sent, one before it wasn't taken: then it is answered Gap, NoDocument or Exists, and is
  *   sent again
  * @property {RichdError} [trouble]  what it was refused by, and is sent again for all the same
+ * @property {(number: number) => Promise<void>} [hold]  is waited for before it is sent under a number
+ * @property {number} [holding]  the number that it is held for
+ * @property {number} [held]  the number that it was held for
+ * @property {number} [kept]  the number under which it was sent before this program began, if it was
+ * @property {boolean} [isInDoubt]  its number is neither the next one nor the last one that is used, so it may be another's
  */
 /**
  * At most 16 commands of a document are on their way. What is asked behind a command that waits does so too, so that a read sees what
@@ -44,7 +48,6 @@ export class Line {
     refuse(error: RichdError): void;
     #private;
 }
-export type RichdError = import("./errors.js").RichdError;
 export type Reply = import("./session.js").Reply;
 /**
  * something that was asked
@@ -77,5 +80,26 @@ export type Item = {
     /**
      * what it was refused by, and is sent again for all the same
      */
-    trouble?: import("./errors.js").RichdError | undefined;
+    trouble?: RichdError | undefined;
+    /**
+     * is waited for before it is sent under a number
+     */
+    hold?: ((number: number) => Promise<void>) | undefined;
+    /**
+     * the number that it is held for
+     */
+    holding?: number | undefined;
+    /**
+     * the number that it was held for
+     */
+    held?: number | undefined;
+    /**
+     * the number under which it was sent before this program began, if it was
+     */
+    kept?: number | undefined;
+    /**
+     * its number is neither the next one nor the last one that is used, so it may be another's
+     */
+    isInDoubt?: boolean | undefined;
 };
+import { RichdError } from "./errors.js";
