@@ -4,7 +4,7 @@ import { Delta as OwnDelta } from "./delta.js";
 import { difference } from "./difference.js";
 import { Refusal, RichdError } from "./errors.js";
 import { Emitter } from "./emitter.js";
-import { ChangeEvent, DoubtEvent, TroubleEvent } from "./events.js";
+import { ChangeEvent, DoubtEvent, StateEvent, TroubleEvent } from "./events.js";
 import { History, Steps } from "./history.js";
 import { cutsPair, reachOf, takenOver } from "./operations.js";
 import { parted } from "./parting.js";
@@ -16,6 +16,15 @@ const MOST_PAST_ENDS = 4;
 const NEVER = { timeout: Infinity }; // an edit is sent until it is answered
 
 /**
+ * How a document stands, the first of these that holds:
+ * - `closed`: nothing more is taken, as trouble said that was final, or `close` was called;
+ * - `offline`: there is no connection, `full`: because the server has no place; what is typed is sent once there is one;
+ * - `storeFailed`: the server's store has failed; what was typed is sent until the server is started anew;
+ * - `refused`: what was typed last was refused, and is no longer shown, as trouble said;
+ * - `saving`: something typed isn't on the server's disk yet;
+ * - `saved`: all is.
+ * @typedef {"closed" | "offline" | "full" | "storeFailed" | "refused" | "saving" | "saved"} DocumentState
+ *
  * @typedef {import("./delta.js").Op} Op
  * @typedef {import("./delta.js").Delta} Delta
  *
@@ -58,18 +67,18 @@ async function fetchCreated(client, name, ops) {
     } catch (error) {
       if (error.code !== Refusal.NoDocument && error.code !== Refusal.Deleted) throw error;
     }
-    await new Promise((resolve) => setTimeout(resolve, pauses.next()));
+    await pauses.wait();
   }
 }
 
 /**
- * Sends "change" for what others did, "trouble" where something typed is lost, and "progress" where `revision` or `isSaved` may have
- * changed.
+ * Sends "change" for what others did, "trouble" where something typed is lost, "state" where its state is another than before, and "progress"
+ * where `revision` or `isSaved` may have changed.
  *
  * `base` is the document at `revision`. What is shown is `base`, with `sent` behind it, and `typed` behind that. News that comes while
  * `sent` has no answer is held until it has one: only then is it known which revision is its own.
  *
- * @extends {Emitter<{ change: ChangeEvent, trouble: TroubleEvent, doubt: DoubtEvent, progress: Event }>}
+ * @extends {Emitter<{ change: ChangeEvent, trouble: TroubleEvent, doubt: DoubtEvent, state: StateEvent<DocumentState>, progress: Event }>}
  */
 export class RichDocument extends Emitter {
   /** @type {import("./richd.js").Client} */
@@ -98,6 +107,10 @@ export class RichDocument extends Emitter {
   #news = [];
   #isStale = false; // the next revision isn't held any more, so the document has to be fetched anew
   #isClosed = false;
+  #isRefused = false; // what was typed last
+  #hasStoreFailed = false;
+  /** @type {DocumentState} */
+  #state = "saved"; // that was told last
   #room = ROOM;
   #strays = 0; // how often in a row it was fetched anew, and nothing was taken or told meanwhile
   #pastEnds = 0; // how often in a row an edit was refused by PastEnd, though the document was fetched anew
@@ -128,6 +141,8 @@ export class RichDocument extends Emitter {
       document.#begin(rev, new document.#Delta(ops));
       document.#contents = document.#base;
     }
+    client.addEventListener("state", document.#tell);
+    document.#state = document.state;
     document.#keeper?.watch(document, () => document.#snapshot());
     if (document.#sent !== null) document.#sendOff();
     else if (kept !== undefined) document.#goOn();
@@ -161,6 +176,15 @@ export class RichDocument extends Emitter {
     return this.#isClosed;
   }
 
+  /** @returns {DocumentState} */
+  get state() {
+    if (this.#isClosed) return "closed";
+    if (this.#client.state !== "connected") return this.#client.state;
+    if (this.#hasStoreFailed) return "storeFailed";
+    if (this.#isRefused) return "refused";
+    return this.isSaved ? "saved" : "saving";
+  }
+
   /** Whether all that was typed is on the server's disk. */
   get isSaved() {
     return this.#sent === null && this.#typed.ops.length === 0;
@@ -182,6 +206,8 @@ export class RichDocument extends Emitter {
     try {
       delta = this.#readTyped(/** @type {Op[] | { ops: Op[] }} */ (ops));
     } catch (error) {
+      this.#isRefused = true;
+      this.#tell();
       this.dispatchEvent(new TroubleEvent(error, new this.#Delta(ops), false));
       throw error;
     }
@@ -193,9 +219,19 @@ export class RichDocument extends Emitter {
   #type(delta) {
     this.#contents = this.#contents.compose(delta);
     this.#typed = this.#typed.compose(delta);
+    this.#isRefused = false;
     queueMicrotask(() => this.#send()); // what is typed in one go is sent in one edit
-    this.dispatchEvent(new Event("progress"));
+    this.#tell();
   }
+
+  // Tells that it may stand otherwise than before.
+  #tell = () => {
+    this.dispatchEvent(new Event("progress"));
+    const { state } = this;
+    if (state === this.#state) return;
+    this.#state = state;
+    this.dispatchEvent(new StateEvent(state));
+  };
 
   /** @param {"undo" | "redo"} way */
   #turn(way) {
@@ -275,8 +311,10 @@ export class RichDocument extends Emitter {
       this.#number = number;
       await keeper.write();
     });
-    this.#client.edit(this.#name, this.#sent.ops, this.#revision, { ...NEVER, hold, kept: this.#number, signal: keeper?.signal }).then(
+    const limits = { ...NEVER, onRetry: (/** @type {RichdError} */ error) => this.#onRetry(error), hold, kept: this.#number, signal: keeper?.signal };
+    this.#client.edit(this.#name, this.#sent.ops, this.#revision, limits).then(
       ({ rev }) => {
+        this.#hasStoreFailed = false;
         this.#taken = rev;
         this.#strays = this.#pastEnds = 0;
         this.#goOn();
@@ -317,7 +355,7 @@ export class RichDocument extends Emitter {
     if (this.#isStale && !this.#isInDoubt) this.#fetchAnew();
     else this.#send();
     if (this.isSaved) for (const { resolve } of this.#waiting.splice(0)) resolve(this.#revision);
-    this.dispatchEvent(new Event("progress"));
+    this.#tell();
   }
 
   // Takes over what was sent. Where its number made an older revision, somebody else had used it before, and it is sent anew.
@@ -362,7 +400,14 @@ export class RichDocument extends Emitter {
   }
 
   /** @param {RichdError} error */
+  #onRetry(error) {
+    this.#hasStoreFailed = error.code === Refusal.StoreFailed;
+    this.#tell();
+  }
+
+  /** @param {RichdError} error */
   #onRefusal(error) {
+    this.#hasStoreFailed = false;
     if (error.name === "Closed") return this.#stop(error);
     if (error.name === "InDoubt") return this.#leaveOut();
     const isTooLong = [Refusal.TooManyOps, Refusal.TooWide, Refusal.LineTooLong].includes(error.code);
@@ -403,6 +448,7 @@ export class RichDocument extends Emitter {
     this.#steps.clear();
     this.#contents = this.#base;
     this.#strays = this.#pastEnds = 0;
+    this.#isRefused = true;
     for (const { reject } of this.#waiting.splice(0)) reject(error);
     this.dispatchEvent(new ChangeEvent(shown));
     this.dispatchEvent(new TroubleEvent(error, typed, false));
@@ -415,7 +461,7 @@ export class RichDocument extends Emitter {
     this.#sent = this.#taken = null;
     this.#strays += 1;
     if (this.#strays === 1) this.#pauses.reset();
-    else await new Promise((resolve) => setTimeout(resolve, this.#pauses.next()));
+    else await this.#pauses.wait();
     if (this.#isClosed) return;
     try {
       const { rev, ops } = await this.#client.fetch(this.#name, undefined, NEVER);
@@ -446,6 +492,9 @@ export class RichDocument extends Emitter {
     this.#leave();
     if (error instanceof RichdError && error.code > 0) this.#keeper?.forget(error);
     else this.#keeper?.close(error);
+    this.#pauses.end();
+    this.#client.removeEventListener("state", this.#tell);
     for (const { reject } of this.#waiting.splice(0)) reject(error);
+    this.#tell();
   }
 }

@@ -40,3 +40,15 @@ export class DoubtEvent extends Event {
     this.revision = revision;
   }
 }
+
+/**
+ * How it stands, `state`, is another than before.
+ * @template {string} State
+ */
+export class StateEvent extends Event {
+  /** @param {State} state */
+  constructor(state) {
+    super("state");
+    this.state = state;
+  }
+}

@@ -20,6 +20,7 @@ const MOST_COMMANDS = 16; // that are on their way: a server answers so many of 
  * @property {boolean} [isBehind]  since it was sent, one before it wasn't taken: then it is answered Gap, NoDocument or Exists, and is
  *   sent again
  * @property {RichdError} [trouble]  what it was refused by, and is sent again for all the same
+ * @property {(error: RichdError) => void} [onRetry]  is told of each
  * @property {(number: number) => Promise<void>} [hold]  is waited for before it is sent under a number
  * @property {number} [holding]  the number that it is held for
  * @property {number} [held]  the number that it was held for
@@ -52,7 +53,12 @@ export class Line {
    */
   constructor(doc, isNew) {
     this.#doc = doc;
-    if (isNew) this.#number = 1;
+    if (isNew) this.beginNumbers();
+  }
+
+  /** The source turns out to be new, before there is a session. */
+  beginNumbers() {
+    this.#number = 1;
   }
 
   /** @param {Item} item */
@@ -192,6 +198,7 @@ export class Line {
       item.trouble = error;
       for (const other of this.#items.slice(this.#items.indexOf(item) + 1)) other.isBehind ||= item.isCommand && other.isCommand && other.isSent;
       this.#rest();
+      item.onRetry?.(error);
     } else if (item.isBehind && [Refusal.Gap, Refusal.NoDocument, Refusal.Exists].includes(error?.code)) {
       Object.assign(item, { isSent: false, sendings: 0 });
       this.#pump();

@@ -2,6 +2,7 @@
 
 import { spawn } from "node:child_process";
 import net from "node:net";
+import { RichdError } from "./errors.js";
 import { setNodeLinks } from "./links.js";
 
 /**
@@ -9,16 +10,22 @@ import { setNodeLinks } from "./links.js";
  * @typedef {import("./links.js").Listener} Listener
  */
 
-/** @param {import("./links.js").TcpAddress} address @param {Listener} listener @returns {Promise<Link>} */
-async function openSocket({ host = "127.0.0.1", port }, { onBytes, onClose }) {
+/** @param {import("./links.js").TcpAddress} address @param {Listener} listener @param {number} patience @returns {Promise<Link>} */
+async function openSocket({ host = "127.0.0.1", port }, { onBytes, onClose }, patience) {
   const socket = net.connect({ host, port, noDelay: true });
-  await opening(socket, "connect");
+  const timer = setTimeout(() => socket.destroy(new Error(`no connection to ${host}:${port}`)), patience);
+  await opening(socket, "connect").finally(() => clearTimeout(timer));
   /** @type {Error | undefined} */
   let cause;
+  let isCut = false;
   socket.on("error", (/** @type {Error} */ error) => (cause = error));
   socket.on("data", onBytes);
-  socket.on("close", () => onClose(cause));
-  return { send: (bytes) => socket.write(bytes), end: () => socket.end(), cut: () => socket.destroy() };
+  socket.on("close", () => onClose(socket.bytesRead === 0 && !isCut ? new RichdError(0, "Full", cause) : cause));
+  const cut = () => {
+    isCut = true;
+    socket.destroy();
+  };
+  return { send: (bytes) => socket.write(bytes), end: () => socket.end(), cut };
 }
 
 /** @param {import("./links.js").ProgramAddress} address @param {Listener} listener @returns {Promise<Link>} */
@@ -48,4 +55,6 @@ function opening(emitter, event) {
   });
 }
 
-setNodeLinks((address, listener) => (address.command !== undefined ? openPipes(address, listener) : openSocket(address, listener)));
+setNodeLinks((address, listener, patience) =>
+  address.command !== undefined ? openPipes(address, listener) : openSocket(address, listener, patience),
+);

@@ -1,5 +1,9 @@
 // Streams of bytes to a server. A browser has WebSockets alone; what Node has besides stands in links-node.js.
 
+import { RichdError } from "./errors.js";
+
+const FULL = 4503; // the code by which a bridge closes a WebSocket, where the server has no place
+
 /**
  * Where a server is: one of the three.
  * @typedef {TcpAddress | ProgramAddress | WebSocketAddress} Address
@@ -39,14 +43,14 @@
  *
  * @typedef {object} Listener  what is called for a link that is open
  * @property {(bytes: Uint8Array) => void} onBytes
- * @property {(cause?: Error) => void} onClose  once, at its end
+ * @property {(cause?: Error) => void} onClose  once, at its end; the cause is "Full" where the server has no place
  *
  * @typedef {object} Link
  * @property {(bytes: Uint8Array) => void} send
  * @property {() => void} end  says that nothing more will be sent; the other end closes then
  * @property {() => void} cut  ends it at once
  *
- * @typedef {(address: any, listener: Listener) => Promise<Link>} Opener
+ * @typedef {(address: any, listener: Listener, patience: number) => Promise<Link>} Opener
  */
 
 /** @type {Opener | undefined} */
@@ -71,26 +75,33 @@ async function loadNodeLinks() {
  * Opens a link, or throws what stood in the way.
  * @param {Address} address
  * @param {Listener} listener
+ * @param {number} patience  milliseconds that it may take
  * @returns {Promise<Link>}
  */
-export async function openLink(address, listener) {
-  if (address.url !== undefined) return openWebSocket(address, listener);
+export async function openLink(address, listener, patience) {
+  if (address.url !== undefined) return openWebSocket(address, listener, patience);
   if (openNodeLink === undefined) await loadNodeLinks();
-  return openNodeLink(address, listener);
+  return openNodeLink(address, listener, patience);
 }
 
-/** @param {WebSocketAddress} address @param {Listener} listener @returns {Promise<Link>} */
-function openWebSocket({ url, WebSocket = globalThis.WebSocket }, { onBytes, onClose }) {
+/** @param {WebSocketAddress} address @param {Listener} listener @param {number} patience @returns {Promise<Link>} */
+function openWebSocket({ url, WebSocket = globalThis.WebSocket }, { onBytes, onClose }, patience) {
   const socket = new WebSocket(url);
   socket.binaryType = "arraybuffer";
   return new Promise((resolve, reject) => {
     let isOpen = false;
+    const timer = setTimeout(() => socket.close(), patience);
     socket.onopen = () => {
       isOpen = true;
+      clearTimeout(timer);
       resolve({ send: (bytes) => socket.send(bytes), end: () => socket.close(), cut: () => socket.close() });
     };
     socket.onmessage = (/** @type {{ data: ArrayBuffer }} */ { data }) => onBytes(new Uint8Array(data));
     socket.onerror = () => {}; // its close follows
-    socket.onclose = () => (isOpen ? onClose() : reject(new Error(`no WebSocket at ${url}`)));
+    socket.onclose = (/** @type {{ code: number }} */ { code }) => {
+      clearTimeout(timer);
+      if (!isOpen) reject(new Error(`no WebSocket at ${url}`));
+      else onClose(code === FULL ? new RichdError(0, "Full") : undefined);
+    };
   });
 }

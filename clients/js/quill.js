@@ -75,7 +75,7 @@ class Binding {
     const { signal } = this.#ending;
     quill.on("text-change", this.#onTyped);
     document.addEventListener("change", (/** @type {any} */ { delta }) => this.#onChange(delta), { signal });
-    document.addEventListener("trouble", (/** @type {any} */ { isFinal }) => isFinal && this.#close(), { signal });
+    document.addEventListener("state", (/** @type {any} */ { state }) => state === "closed" && this.#close(), { signal });
     quill.root?.addEventListener("compositionstart", () => (this.#isComposing = true), { signal });
     quill.root?.addEventListener("compositionend", () => queueMicrotask(() => this.#afterComposition()), { signal });
   }

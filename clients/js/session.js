@@ -1,6 +1,7 @@
 // One session: a link, the lines that go over it, and the replies in the order of the messages.
 
 import { Refusal, RichdError } from "./errors.js";
+import { Heartbeat } from "./heartbeat.js";
 import { openLink } from "./links.js";
 import { MAX_LINE } from "./operations.js";
 
@@ -29,6 +30,9 @@ import { MAX_LINE } from "./operations.js";
  * @param {any} [reply]
  */
 
+/** A message that changes nothing: it is of no document. @type {Message} */
+const NOTHING = { do: "unsubscribe", doc: "-" };
+
 export class Session {
   /** @type {import("./links.js").Link} */
   #link;
@@ -36,12 +40,10 @@ export class Session {
   #decoder = new TextDecoder();
   /** @type {Settle[]} */
   #waiting = [];
-  /** @type {ReturnType<typeof setTimeout> | undefined} */
-  #timer;
+  /** @type {Heartbeat} */
+  #heartbeat;
   /** @type {{ onNews: (line: Reply) => void, onEnd: () => void }} */
   #listener;
-  /** @type {number} */
-  #patience;
   #isEnding = false;
   #hasEnded = false;
   #lines = 0; // that came
@@ -58,18 +60,25 @@ export class Session {
    * @param {object} options
    * @param {(line: Reply) => void} options.onNews  is called with each line of news
    * @param {() => void} options.onEnd  is called when the session ends that was begun
-   * @param {number} options.patience  after so many milliseconds in which nothing came, though a reply is due, the session is cut
+   * @param {number} options.patience  after so many milliseconds in which nothing came the session is cut; after half of them it asks
    * @param {AbortSignal} [options.signal]  cuts the session while it begins
    */
   static async begin(address, source, { onNews, onEnd, patience, signal }) {
     const session = new Session();
     session.#listener = { onNews, onEnd: () => {} };
-    session.#patience = patience;
-    const link = await openLink(address, {
-      onBytes: (bytes) => session.#read(session.#decoder.decode(bytes, { stream: true })),
-      onClose: (cause) => session.#close(cause),
-    });
+    const listener = {
+      onBytes: (/** @type {Uint8Array} */ bytes) => session.#read(session.#decoder.decode(bytes, { stream: true })),
+      onClose: (/** @type {Error | undefined} */ cause) => session.#close(cause),
+    };
+    const link = await openLink(address, listener, patience);
     session.#link = link;
+    session.#heartbeat = new Heartbeat({
+      patience,
+      isDue: () => session.#waiting.length > 0 || session.#isEnding,
+      ask: () => session.send(NOTHING, () => {}),
+      giveUp: () => session.cut(),
+    });
+    if (session.#hasEnded) session.#heartbeat.end();
     const cut = () => link.cut();
     signal?.addEventListener("abort", cut);
     if (signal?.aborted) cut();
@@ -103,15 +112,21 @@ export class Session {
     const line = new TextEncoder().encode(JSON.stringify(message) + "\n");
     if (this.#hasEnded) return settle(new RichdError(0, "Cut"));
     if (line.length > MAX_LINE + 1) return settle(new RichdError(Refusal.LineTooLong, "LineTooLong"));
+    if (this.#waiting.length === 0 && message !== NOTHING) this.#heartbeat.begin();
     this.#waiting.push(settle);
-    if (this.#waiting.length === 1) this.#watch();
     this.#link.send(line);
+  }
+
+  /** Asks whether the other end is there, and cuts the session where it doesn't answer soon. */
+  check() {
+    this.#heartbeat.check();
   }
 
   /** Ends the session once all that was sent is answered. */
   end() {
     this.#isEnding = true;
-    this.#watch();
+    this.#heartbeat.begin();
+    this.#endLink();
   }
 
   /** Ends the session at once. */
@@ -123,7 +138,7 @@ export class Session {
   /** @param {string} text */
   #read(text) {
     if (this.#hasEnded) return;
-    this.#watch();
+    this.#heartbeat.begin();
     const lines = text.split("\n");
     for (let index = 0; index + 1 < lines.length; index += 1) {
       const line = this.#part + lines[index];
@@ -148,22 +163,18 @@ export class Session {
     if (settle === undefined) return this.cut();
     if ("code" in line) settle(new RichdError(line.code, line.error));
     else settle(null, line);
-    this.#watch();
+    this.#endLink();
   }
 
-  // Cuts the session where nothing comes for too long that is due: the other end may be gone without a word.
-  #watch() {
-    clearTimeout(this.#timer);
-    if (this.#hasEnded) return;
-    if (this.#waiting.length > 0 || this.#isEnding) this.#timer = setTimeout(() => this.cut(), this.#patience);
-    if (this.#waiting.length === 0 && this.#isEnding) this.#link.end();
+  #endLink() {
+    if (!this.#hasEnded && this.#waiting.length === 0 && this.#isEnding) this.#link.end();
   }
 
   /** @param {Error} [cause] */
   #close(cause) {
     if (this.#hasEnded) return;
     this.#hasEnded = true;
-    clearTimeout(this.#timer);
+    this.#heartbeat?.end();
     for (const settle of this.#waiting.splice(0)) settle(new RichdError(0, "Cut", cause));
     this.#end();
     this.#listener.onEnd();

@@ -227,6 +227,70 @@ test("a refusal that the client doesn't know takes back what was typed, and tell
   assert.deepEqual(document.contents.ops, newest());
 });
 
+test("a document that may not be followed is closed, whatever the number of the refusal", async (t) => {
+  const refuse = ({ do: kind }) => (kind === "subscribe" ? { code: 61, error: "NotAllowed" } : undefined);
+  const { open } = await prepared(t, { refuse });
+  const document = await open();
+  const troubles = troublesOf(document);
+  await until(() => document.isClosed);
+  assert.deepEqual(troubles, [["NotAllowed", [], true]]);
+  assert.equal(document.state, "closed");
+});
+
+/** The states that a document tells. */
+function statesOf(document) {
+  const states = [document.state];
+  document.addEventListener("state", ({ state }) => {
+    assert.equal(state, document.state);
+    assert.notEqual(state, states.at(-1));
+    states.push(state);
+  });
+  return states;
+}
+
+test("one state: saved, saving, offline, refused, closed", async (t) => {
+  const isHeavy = (message) => message.do === "edit" && message.ops.some(({ insert }) => insert === "heavy");
+  const { open, server, creator } = await prepared(t, { refuse: (message) => (isHeavy(message) ? { code: 16, error: "TooHeavy" } : undefined) });
+  const document = await open();
+  const states = statesOf(document);
+  const toldBy = async (act) => {
+    const before = states.length;
+    await act();
+    return states.splice(before);
+  };
+  assert.deepEqual(states, ["saved"]);
+  assert.deepEqual(await toldBy(async () => (document.apply([{ insert: "x" }]), document.flush())), ["saving", "saved"]);
+  const cut = async () => {
+    server.sessions.at(-1).cut();
+    await until(() => document.state === "offline");
+    document.apply([{ insert: "y" }]);
+    await document.flush();
+  };
+  assert.deepEqual(await toldBy(cut), ["offline", "saving", "saved"]);
+  assert.deepEqual(await toldBy(async () => (document.apply([{ insert: "heavy" }]), document.flush().catch(() => {}))), ["saving", "refused"]);
+  assert.deepEqual(await toldBy(async () => (document.apply([{ insert: "z" }]), document.flush())), ["saving", "saved"]);
+  assert.deepEqual(await toldBy(async () => assert.throws(() => document.apply([{ retain: 99 }, { insert: "z" }]))), ["refused"]);
+  assert.deepEqual(await toldBy(async () => (document.apply([{ insert: "z" }]), document.flush())), ["saving", "saved"]);
+  const deleted = async () => (await creator.delete("d"), until(() => document.isClosed));
+  assert.deepEqual(await toldBy(deleted), ["closed"]);
+  const closed = await creator.open("e", { create: [{ insert: "\n" }] });
+  const last = statesOf(closed);
+  await creator.close();
+  assert.deepEqual(last, ["saved", "closed"]);
+});
+
+test("a store that failed is told, and the edit is sent until it is taken", async (t) => {
+  let failures = 2;
+  const refuse = ({ do: kind }) => (kind === "edit" && failures-- > 0 ? { code: 21, error: "StoreFailed" } : undefined);
+  const { open, newest } = await prepared(t, { refuse });
+  const document = await open();
+  const states = statesOf(document);
+  document.apply([{ insert: "x" }]);
+  await document.flush();
+  assert.deepEqual(states, ["saved", "saving", "storeFailed", "saved"]);
+  assert.deepEqual(newest(), [{ insert: "xHello\n" }]);
+});
+
 test("a deletion ends a document that is open, and says so", async (t) => {
   const { creator, open } = await prepared(t);
   const document = await open();

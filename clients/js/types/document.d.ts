@@ -1,16 +1,17 @@
 /**
- * Sends "change" for what others did, "trouble" where something typed is lost, and "progress" where `revision` or `isSaved` may have
- * changed.
+ * Sends "change" for what others did, "trouble" where something typed is lost, "state" where its state is another than before, and "progress"
+ * where `revision` or `isSaved` may have changed.
  *
  * `base` is the document at `revision`. What is shown is `base`, with `sent` behind it, and `typed` behind that. News that comes while
  * `sent` has no answer is held until it has one: only then is it known which revision is its own.
  *
- * @extends {Emitter<{ change: ChangeEvent, trouble: TroubleEvent, doubt: DoubtEvent, progress: Event }>}
+ * @extends {Emitter<{ change: ChangeEvent, trouble: TroubleEvent, doubt: DoubtEvent, state: StateEvent<DocumentState>, progress: Event }>}
  */
 export class RichDocument extends Emitter<{
     change: ChangeEvent;
     trouble: TroubleEvent;
     doubt: DoubtEvent;
+    state: StateEvent<DocumentState>;
     progress: Event;
 }> {
     /**
@@ -32,6 +33,8 @@ export class RichDocument extends Emitter<{
     get history(): History;
     /** Whether it is followed no longer: it was closed, or trouble came that is final. */
     get isClosed(): boolean;
+    /** @returns {DocumentState} */
+    get state(): DocumentState;
     /** Whether all that was typed is on the server's disk. */
     get isSaved(): boolean;
     /** Whether what is shown would outlive the page: it is on the server's disk, or kept. */
@@ -53,8 +56,45 @@ export class RichDocument extends Emitter<{
     close(): void;
     #private;
 }
+/**
+ * How a document stands, the first of these that holds:
+ * - `closed`: nothing more is taken, as trouble said that was final, or `close` was called;
+ * - `offline`: there is no connection, `full`: because the server has no place; what is typed is sent once there is one;
+ * - `storeFailed`: the server's store has failed; what was typed is sent until the server is started anew;
+ * - `refused`: what was typed last was refused, and is no longer shown, as trouble said;
+ * - `saving`: something typed isn't on the server's disk yet;
+ * - `saved`: all is.
+ */
+export type DocumentState = "closed" | "offline" | "full" | "storeFailed" | "refused" | "saving" | "saved";
+/**
+ * How a document stands, the first of these that holds:
+ * - `closed`: nothing more is taken, as trouble said that was final, or `close` was called;
+ * - `offline`: there is no connection, `full`: because the server has no place; what is typed is sent once there is one;
+ * - `storeFailed`: the server's store has failed; what was typed is sent until the server is started anew;
+ * - `refused`: what was typed last was refused, and is no longer shown, as trouble said;
+ * - `saving`: something typed isn't on the server's disk yet;
+ * - `saved`: all is.
+ */
 export type Op = import("./delta.js").Op;
+/**
+ * How a document stands, the first of these that holds:
+ * - `closed`: nothing more is taken, as trouble said that was final, or `close` was called;
+ * - `offline`: there is no connection, `full`: because the server has no place; what is typed is sent once there is one;
+ * - `storeFailed`: the server's store has failed; what was typed is sent until the server is started anew;
+ * - `refused`: what was typed last was refused, and is no longer shown, as trouble said;
+ * - `saving`: something typed isn't on the server's disk yet;
+ * - `saved`: all is.
+ */
 export type Delta = import("./delta.js").Delta;
+/**
+ * How a document stands, the first of these that holds:
+ * - `closed`: nothing more is taken, as trouble said that was final, or `close` was called;
+ * - `offline`: there is no connection, `full`: because the server has no place; what is typed is sent once there is one;
+ * - `storeFailed`: the server's store has failed; what was typed is sent until the server is started anew;
+ * - `refused`: what was typed last was refused, and is no longer shown, as trouble said;
+ * - `saving`: something typed isn't on the server's disk yet;
+ * - `saved`: all is.
+ */
 export type OpenOptions = {
     /**
      * what the document is created with where it isn't there
@@ -73,6 +113,7 @@ export type OpenOptions = {
 import { ChangeEvent } from "./events.js";
 import { TroubleEvent } from "./events.js";
 import { DoubtEvent } from "./events.js";
+import { StateEvent } from "./events.js";
 import { Emitter } from "./emitter.js";
 import { Delta as OwnDelta } from "./delta.js";
 import { History } from "./history.js";

@@ -1,12 +1,13 @@
 /**
- * @typedef {"Timeout" | "Closed" | "Cut" | "Parted" | "InDoubt"} OwnName  of an error of the client itself
+ * @typedef {"Timeout" | "Closed" | "Cut" | "Full" | "Parted" | "InDoubt"} OwnName  of an error of the client itself
  * @typedef {"BadLine" | "BadMessage" | "BadOps" | "TooManyOps" | "NoHello" | "NoDocument" | "Exists" | "BadName" | "Gap" | "OldNumber"
  *   | "TooManySources" | "Future" | "TooOld" | "PastEnd" | "CutsPair" | "TooHeavy" | "TooWide" | "RevisionsSpent" | "NothingToUndo"
  *   | "TooManyDocuments" | "StoreFailed" | "NoMemory" | "LineTooLong" | "Deleted"} RefusalName  of a refusal of the server
  */
 /**
  * A refusal of the server, with its number and name (13 and "TooOld"), or one of the client itself, with 0 for its number:
- * "Timeout", "Closed", "Cut", the cause of a call that had no connection, or "InDoubt", of an edit that was kept (offline.js).
+ * "Timeout", "Closed", "Cut" and "Full" as causes of a call that had no connection, "Parted" of an editor that showed something else, and
+ * "InDoubt" of an edit that was kept, and isn't sent again.
  */
 export class RichdError extends Error {
     /**
@@ -39,7 +40,7 @@ export namespace Refusal {
 /**
  * of an error of the client itself
  */
-export type OwnName = "Timeout" | "Closed" | "Cut" | "Parted" | "InDoubt";
+export type OwnName = "Timeout" | "Closed" | "Cut" | "Full" | "Parted" | "InDoubt";
 /**
  * of a refusal of the server
  */

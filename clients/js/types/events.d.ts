@@ -29,5 +29,14 @@ export class DoubtEvent extends Event {
     delta: import("./delta.js").Delta;
     revision: number;
 }
+/**
+ * How it stands, `state`, is another than before.
+ * @template {string} State
+ */
+export class StateEvent<State extends string> extends Event {
+    /** @param {State} state */
+    constructor(state: State);
+    state: State;
+}
 export type Delta = import("./delta.js").Delta;
 export type RichdError = import("./errors.js").RichdError;

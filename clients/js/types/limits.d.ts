@@ -2,6 +2,8 @@
  * @typedef {object} Limits
  * @property {AbortSignal} [signal]  ends the call with the signal's reason
  * @property {number} [timeout]  milliseconds, `Infinity` for no end
+ * @property {(error: import("./errors.js").RichdError) => void} [onRetry]  is called each time that the server had failed or had no memory, and
+ *     what was asked will be sent again
  */
 /**
  * What a promise comes to, unless the signal comes first, or the time ends.
@@ -12,13 +14,6 @@
  * @returns {Promise<T>}
  */
 export function within<T>(promise: Promise<T>, { signal, timeout }: Limits, late: () => Error): Promise<T>;
-/**
- * Waits so many milliseconds, or until the signal comes.
- * @param {number} milliseconds
- * @param {AbortSignal} signal
- * @returns {Promise<void>}
- */
-export function pause(milliseconds: number, signal: AbortSignal): Promise<void>;
 export type Limits = {
     /**
      * ends the call with the signal's reason
@@ -28,4 +23,9 @@ export type Limits = {
      * milliseconds, `Infinity` for no end
      */
     timeout?: number | undefined;
+    /**
+     * is called each time that the server had failed or had no memory, and
+     * what was asked will be sent again
+     */
+    onRetry?: ((error: import("./errors.js").RichdError) => void) | undefined;
 };

@@ -12,6 +12,7 @@
  * @property {boolean} [isBehind]  since it was sent, one before it wasn't taken: then it is answered Gap, NoDocument or Exists, and is
  *   sent again
  * @property {RichdError} [trouble]  what it was refused by, and is sent again for all the same
+ * @property {(error: RichdError) => void} [onRetry]  is told of each
  * @property {(number: number) => Promise<void>} [hold]  is waited for before it is sent under a number
  * @property {number} [holding]  the number that it is held for
  * @property {number} [held]  the number that it was held for
@@ -29,6 +30,8 @@ export class Line {
      * @param {boolean} [isNew]  the source is used for the first time, so its first number is 1
      */
     constructor(doc: string, isNew?: boolean | undefined);
+    /** The source turns out to be new, before there is a session. */
+    beginNumbers(): void;
     /** @param {Item} item */
     add(item: Item): void;
     /**
@@ -81,6 +84,10 @@ export type Item = {
      * what it was refused by, and is sent again for all the same
      */
     trouble?: RichdError | undefined;
+    /**
+     * is told of each
+     */
+    onRetry?: ((error: RichdError) => void) | undefined;
     /**
      * is waited for before it is sent under a number
      */

@@ -7,9 +7,10 @@ export function setNodeLinks(opener: Opener): void;
  * Opens a link, or throws what stood in the way.
  * @param {Address} address
  * @param {Listener} listener
+ * @param {number} patience  milliseconds that it may take
  * @returns {Promise<Link>}
  */
-export function openLink(address: Address, listener: Listener): Promise<Link>;
+export function openLink(address: Address, listener: Listener, patience: number): Promise<Link>;
 /**
  * Where a server is: one of the three.
  */
@@ -73,7 +74,7 @@ export type WebSocketLike = {
 export type Listener = {
     onBytes: (bytes: Uint8Array) => void;
     /**
-     * once, at its end
+     * once, at its end; the cause is "Full" where the server has no place
      */
     onClose: (cause?: Error) => void;
 };
@@ -94,4 +95,4 @@ export type Link = {
 /**
  * Where a server is: one of the three.
  */
-export type Opener = (address: any, listener: Listener) => Promise<Link>;
+export type Opener = (address: any, listener: Listener, patience: number) => Promise<Link>;

@@ -2,30 +2,41 @@
  * @typedef {import("./delta.js").Op} Op
  * @typedef {import("./limits.js").Limits} Limits
  *
+ * @typedef {"connected" | "offline" | "full" | "closed"} ClientState  "full" is "offline" where the server has no place
+ *
  * @typedef {object} Options
- * @property {string} [source]  the name of whoever makes the changes, which one program has at a time. Without it, a new one
+ * @property {string} [source]  the name of whoever makes the changes, which one program has at a time. Without it a page takes one of its
+ *     browser's, and a program a new one
  * @property {boolean} [isNew]  the source was never used before, so its numbers needn't be asked for
- * @property {number} [timeout]  how many milliseconds a call may take that names no other, and `connect`: 30,000 if it isn't given
+ * @property {number} [timeout]  how many milliseconds a call may take that names no other: 30,000 if it isn't given. Where it is given,
+ *     `connect` ends by it too
+ * @property {number} [patience]  after so many milliseconds without a byte the connection is cut, and begun again; after half of them the
+ *     server is asked whether it is there. 30,000 if it isn't given
  * @property {AbortSignal} [signal]  closes the client
  */
 /**
- * Connects to a server: `{ host, port }`, `{ command, args }` for a program of one's own, or `{ url }` for a WebSocket.
+ * Connects to a server: `{ host, port }`, `{ command, args }` for a program of one's own, or `{ url }` for a WebSocket. It waits until a
+ * server is there, however long that takes; who shows a state meanwhile makes a `Client`, and waits for its `connected`.
  * @param {import("./links.js").Address & Options} options
  */
 export function connect(options: import("./links.js").Address & Options): Promise<Client>;
 /**
- * Sends the events "connected" and "cut".
- * @extends {Emitter<{ connected: Event, cut: Event }>}
+ * Connects by itself, and again after each cut. It sends "state" where its state is another than before, "connected" as a session begins, and
+ * "cut" as one ends by itself.
+ * @extends {Emitter<{ state: StateEvent<ClientState>, connected: Event, cut: Event }>}
  */
 export class Client extends Emitter<{
+    state: StateEvent<ClientState>;
     connected: Event;
     cut: Event;
 }> {
     /** @param {import("./links.js").Address & Options} options */
     constructor(options: import("./links.js").Address & Options);
-    /** The source's name. */
+    /** The source's name: where a new one is made up, once the first session begins. */
     get source(): string | undefined;
-    /** Waits for the first session. */
+    /** @returns {ClientState} */
+    get state(): ClientState;
+    /** Waits until it is connected. */
     connected(): Promise<void>;
     /**
      * Creates a document, or one that was deleted again. A source that created it before, and did nothing more, gets the same answer.
@@ -114,9 +125,14 @@ export class Client extends Emitter<{
 }
 export type Op = import("./delta.js").Op;
 export type Limits = import("./limits.js").Limits;
+/**
+ * "full" is "offline" where the server has no place
+ */
+export type ClientState = "connected" | "offline" | "full" | "closed";
 export type Options = {
     /**
-     * the name of whoever makes the changes, which one program has at a time. Without it, a new one
+     * the name of whoever makes the changes, which one program has at a time. Without it a page takes one of its
+     * browser's, and a program a new one
      */
     source?: string | undefined;
     /**
@@ -124,9 +140,15 @@ export type Options = {
      */
     isNew?: boolean | undefined;
     /**
-     * how many milliseconds a call may take that names no other, and `connect`: 30,000 if it isn't given
+     * how many milliseconds a call may take that names no other: 30,000 if it isn't given. Where it is given,
+     * `connect` ends by it too
      */
     timeout?: number | undefined;
+    /**
+     * after so many milliseconds without a byte the connection is cut, and begun again; after half of them the
+     * server is asked whether it is there. 30,000 if it isn't given
+     */
+    patience?: number | undefined;
     /**
      * closes the client
      */
@@ -134,5 +156,6 @@ export type Options = {
 };
 import { RichDocument } from "./document.js";
 import { RichdError } from "./errors.js";
+import { StateEvent } from "./events.js";
 import { Emitter } from "./emitter.js";
 export { RichDocument, RichDocument as Document, RichdError };

@@ -1,27 +1,3 @@
-/**
- * @typedef {object} Message  a line that is sent: its kind, and the members that this kind has
- * @property {string} do
- * @property {string} [source]
- * @property {string} [doc]
- * @property {number} [n]
- * @property {number} [base]
- * @property {number} [rev]
- * @property {import("./delta.js").Op[]} [ops]
- *
- * @typedef {object} Reply  a line that comes, with the members that its kind has
- * @property {string} [doc]
- * @property {number} [n]
- * @property {string} [ok]
- * @property {number} [rev]
- * @property {import("./delta.js").Op[]} [ops]
- * @property {import("./delta.js").Op[][]} [deltas]
- * @property {number} [news]
- * @property {number} [ended]
- *
- * @callback Settle  is called once for each message, in their order, before any later line is read
- * @param {RichdError | null} error
- * @param {any} [reply]
- */
 export class Session {
     /**
      * Opens a link, and says hello.
@@ -30,7 +6,7 @@ export class Session {
      * @param {object} options
      * @param {(line: Reply) => void} options.onNews  is called with each line of news
      * @param {() => void} options.onEnd  is called when the session ends that was begun
-     * @param {number} options.patience  after so many milliseconds in which nothing came, though a reply is due, the session is cut
+     * @param {number} options.patience  after so many milliseconds in which nothing came the session is cut; after half of them it asks
      * @param {AbortSignal} [options.signal]  cuts the session while it begins
      */
     static begin(address: import("./links.js").Address, source: string, { onNews, onEnd, patience, signal }: {
@@ -50,6 +26,8 @@ export class Session {
      * @param {Settle} settle
      */
     send(message: Message, settle: Settle): any;
+    /** Asks whether the other end is there, and cuts the session where it doesn't answer soon. */
+    check(): void;
     /** Ends the session once all that was sent is answered. */
     end(): void;
     /** Ends the session at once. */
