@@ -2,9 +2,9 @@
 
 import { Delta as OwnDelta } from "./delta.js";
 import { difference } from "./difference.js";
-import { Refusal, RichdError } from "./errors.js";
 import { Emitter } from "./emitter.js";
-import { ChangeEvent, DoubtEvent, StateEvent, TroubleEvent } from "./events.js";
+import { Refusal, RichdError } from "./errors.js";
+import { ChangeEvent, DoubtEvent, StateEvent, TroubleEvent, UnkeptEvent } from "./events.js";
 import { History, Steps } from "./history.js";
 import { cutsPair, reachOf, takenOver } from "./operations.js";
 import { parted } from "./parting.js";
@@ -78,7 +78,7 @@ async function fetchCreated(client, name, ops) {
  * `base` is the document at `revision`. What is shown is `base`, with `sent` behind it, and `typed` behind that. News that comes while
  * `sent` has no answer is held until it has one: only then is it known which revision is its own.
  *
- * @extends {Emitter<{ change: ChangeEvent, trouble: TroubleEvent, doubt: DoubtEvent, state: StateEvent<DocumentState>, progress: Event }>}
+ * @extends {Emitter<{ change: ChangeEvent, trouble: TroubleEvent, doubt: DoubtEvent, unkept: UnkeptEvent, state: StateEvent<DocumentState>, progress: Event }>}
  */
 export class RichDocument extends Emitter {
   /** @type {import("./richd.js").Client} */

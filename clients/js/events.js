@@ -52,3 +52,12 @@ export class StateEvent extends Event {
     this.state = state;
   }
 }
+
+/** What is shown couldn't be kept, by `error`. It is tried again, and nothing that isn't kept is sent meanwhile. */
+export class UnkeptEvent extends Event {
+  /** @param {unknown} error */
+  constructor(error) {
+    super("unkept");
+    this.error = error;
+  }
+}

@@ -1,7 +1,7 @@
 // How a document that types ahead is kept, so that it outlives its page.
 
 import { RichdError } from "./errors.js";
-import { pause } from "./limits.js";
+import { UnkeptEvent } from "./events.js";
 import { Pauses } from "./pauses.js";
 
 const PACE = 1_000; // milliseconds, at most so often what the server has anyway is written
@@ -53,12 +53,12 @@ export class Keeper {
   #store;
   #key;
   #leaseOf;
-  #onFailure;
   /** @type {Lease | undefined} */
   #lease;
   /** @type {() => Snapshot} */
   #read;
-  #onWritten = () => {};
+  /** @type {EventTarget} */
+  #document;
   /** @type {Snapshot | undefined} */
   #written;
   #isWriting = false;
@@ -79,13 +79,11 @@ export class Keeper {
    * @param {Store} store
    * @param {Key} key  of the document, and behind it "base" for what the server has of it
    * @param {() => Promise<Lease>} leaseOf  the lease that is held
-   * @param {(error: any) => void} [onFailure]  is told of a write that failed
    */
-  constructor(store, key, leaseOf, onFailure = () => {}) {
+  constructor(store, key, leaseOf) {
     this.#store = store;
     this.#key = key;
     this.#leaseOf = leaseOf;
-    this.#onFailure = onFailure;
   }
 
   /** @returns {Promise<Kept | undefined>} */
@@ -98,13 +96,13 @@ export class Keeper {
   }
 
   /**
-   * Keeps a document from here on.
+   * Keeps a document from here on, and has it tell of it by "progress" and "unkept".
    * @param {EventTarget} document
    * @param {() => Snapshot} read
    */
   watch(document, read) {
     this.#read = read;
-    this.#onWritten = () => document.dispatchEvent(new Event("progress"));
+    this.#document = document;
     document.addEventListener("progress", () => this.#touch());
     this.#touch();
   }
@@ -146,6 +144,7 @@ export class Keeper {
   close(reason) {
     if (this.signal.aborted) return;
     this.#closing.abort(reason);
+    this.#pauses.end();
     if (!this.#isWriting) this.#finish();
   }
 
@@ -165,8 +164,8 @@ export class Keeper {
       try {
         return await this.#leaseOf();
       } catch {
-        await pause(pauses.next(), this.signal);
         this.signal.throwIfAborted();
+        await pauses.wait();
       }
     }
   }
@@ -187,11 +186,11 @@ export class Keeper {
       await this.#put();
       this.#pauses.reset();
       for (const resolve of waiting) resolve();
-      this.#onWritten();
+      this.#document.dispatchEvent(new Event("progress"));
     } catch (error) {
       this.#waiting.unshift(...waiting);
-      this.#onFailure(error);
-      await pause(this.#pauses.next(), this.signal);
+      this.#document.dispatchEvent(new UnkeptEvent(error));
+      if (!this.signal.aborted) await this.#pauses.wait();
     }
     this.#isWriting = false;
     if (this.signal.aborted) this.#finish();
@@ -215,7 +214,7 @@ export class Keeper {
       if (this.#isForgotten) await this.#store.put([], [this.#key, [...this.#key, "base"]]);
       else if (this.#read !== undefined && !this.isUpToDate) await this.#put();
     } catch (error) {
-      this.#onFailure(error);
+      this.#document?.dispatchEvent(new UnkeptEvent(error));
     }
     this.#end();
   }

@@ -1,8 +1,8 @@
 // A client of richd: one session at a time, which is begun again after a cut, with any number of calls and documents in it.
 
 import { RichDocument } from "./document.js";
-import { Refusal, RichdError } from "./errors.js";
 import { Emitter } from "./emitter.js";
+import { Refusal, RichdError } from "./errors.js";
 import { StateEvent } from "./events.js";
 import { follow } from "./follow.js";
 import { within } from "./limits.js";
@@ -48,7 +48,8 @@ export async function connect(options) {
 /**
  * Connects by itself, and again after each cut. It sends "state" where its state is another than before, "connected" as a session begins, and
  * "cut" as one ends by itself.
- * @extends {Emitter<{ state: StateEvent<ClientState>, connected: Event, cut: Event }>}
+ * @template {{ [name: string]: Event }} [More={}]
+ * @extends {Emitter<{ state: StateEvent<ClientState>, connected: Event, cut: Event } & More>}
  */
 export class Client extends Emitter {
   #options;

@@ -80,13 +80,14 @@ async function browserName({ browser, locks }) {
 /** @param {Page} page @returns {Promise<Taken>} */
 async function takeBrowsers(page) {
   const { name, isNew } = await browserName(page);
-  /** @type {string[]} */
-  const had = JSON.parse(page.tab.getItem(TAB) ?? "[]").filter((/** @type {string} */ source) => source.startsWith(name));
+  /** @returns {string[]} */
+  const hadByTab = () => JSON.parse(page.tab.getItem(TAB) ?? "[]").filter((/** @type {string} */ source) => source.startsWith(name));
+  const had = hadByTab();
   for (let k = 0; ; k += 1) {
     const source = had[k] ?? `${name}-${k - had.length}`;
     const release = await lock(page.locks, source);
     if (release === undefined) continue;
-    page.tab.setItem(TAB, JSON.stringify([...new Set([...had, source])]));
+    page.tab.setItem(TAB, JSON.stringify([...new Set([...hadByTab(), source])]));
     return { source, isNew, lasts: true, release };
   }
 }

@@ -5,12 +5,13 @@
  * `base` is the document at `revision`. What is shown is `base`, with `sent` behind it, and `typed` behind that. News that comes while
  * `sent` has no answer is held until it has one: only then is it known which revision is its own.
  *
- * @extends {Emitter<{ change: ChangeEvent, trouble: TroubleEvent, doubt: DoubtEvent, state: StateEvent<DocumentState>, progress: Event }>}
+ * @extends {Emitter<{ change: ChangeEvent, trouble: TroubleEvent, doubt: DoubtEvent, unkept: UnkeptEvent, state: StateEvent<DocumentState>, progress: Event }>}
  */
 export class RichDocument extends Emitter<{
     change: ChangeEvent;
     trouble: TroubleEvent;
     doubt: DoubtEvent;
+    unkept: UnkeptEvent;
     state: StateEvent<DocumentState>;
     progress: Event;
 }> {
@@ -113,6 +114,7 @@ export type OpenOptions = {
 import { ChangeEvent } from "./events.js";
 import { TroubleEvent } from "./events.js";
 import { DoubtEvent } from "./events.js";
+import { UnkeptEvent } from "./events.js";
 import { StateEvent } from "./events.js";
 import { Emitter } from "./emitter.js";
 import { Delta as OwnDelta } from "./delta.js";

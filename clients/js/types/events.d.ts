@@ -38,5 +38,11 @@ export class StateEvent<State extends string> extends Event {
     constructor(state: State);
     state: State;
 }
+/** What is shown couldn't be kept, by `error`. It is tried again, and nothing that isn't kept is sent meanwhile. */
+export class UnkeptEvent extends Event {
+    /** @param {unknown} error */
+    constructor(error: unknown);
+    error: unknown;
+}
 export type Delta = import("./delta.js").Delta;
 export type RichdError = import("./errors.js").RichdError;

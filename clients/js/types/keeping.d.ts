@@ -7,15 +7,14 @@ export class Keeper {
      * @param {Store} store
      * @param {Key} key  of the document, and behind it "base" for what the server has of it
      * @param {() => Promise<Lease>} leaseOf  the lease that is held
-     * @param {(error: any) => void} [onFailure]  is told of a write that failed
      */
-    constructor(store: Store, key: Key, leaseOf: () => Promise<Lease>, onFailure?: ((error: any) => void) | undefined);
+    constructor(store: Store, key: Key, leaseOf: () => Promise<Lease>);
     /** @type {Promise<void>} when nothing more will be written */
     ended: Promise<void>;
     /** @returns {Promise<Kept | undefined>} */
     load(): Promise<Kept | undefined>;
     /**
-     * Keeps a document from here on.
+     * Keeps a document from here on, and has it tell of it by "progress" and "unkept".
      * @param {EventTarget} document
      * @param {() => Snapshot} read
      */

@@ -19,17 +19,20 @@
  * server is there, however long that takes; who shows a state meanwhile makes a `Client`, and waits for its `connected`.
  * @param {import("./links.js").Address & Options} options
  */
-export function connect(options: import("./links.js").Address & Options): Promise<Client>;
+export function connect(options: import("./links.js").Address & Options): Promise<Client<{}>>;
 /**
  * Connects by itself, and again after each cut. It sends "state" where its state is another than before, "connected" as a session begins, and
  * "cut" as one ends by itself.
- * @extends {Emitter<{ state: StateEvent<ClientState>, connected: Event, cut: Event }>}
+ * @template {{ [name: string]: Event }} [More={}]
+ * @extends {Emitter<{ state: StateEvent<ClientState>, connected: Event, cut: Event } & More>}
  */
-export class Client extends Emitter<{
+export class Client<More extends {
+    [name: string]: Event;
+} = {}> extends Emitter<{
     state: StateEvent<ClientState>;
     connected: Event;
     cut: Event;
-}> {
+} & More> {
     /** @param {import("./links.js").Address & Options} options */
     constructor(options: import("./links.js").Address & Options);
     /** The source's name: where a new one is made up, once the first session begins. */
@@ -103,10 +106,7 @@ export class Client extends Emitter<{
      */
     follow(doc: string, fromRev: number, options?: {
         signal?: AbortSignal | undefined;
-    } | undefined): AsyncGenerator<{
-        rev: number;
-        ops: import("./delta.js").Op[];
-    }, void, void>;
+    } | undefined): any;
     /**
      * Calls a follower for each revision above its own, as `follow` gives it. Returns what ends that.
      * @param {string} doc
