@@ -4,15 +4,17 @@ import { Delta as OwnDelta } from "./delta.js";
 import { difference } from "./difference.js";
 import { Emitter } from "./emitter.js";
 import { Refusal, RichdError } from "./errors.js";
-import { ChangeEvent, DoubtEvent, StateEvent, TroubleEvent, UnkeptEvent } from "./events.js";
+import { ChangeEvent, DoubtEvent, RebasedEvent, StateEvent, TroubleEvent, UnkeptEvent } from "./events.js";
 import { History, Steps } from "./history.js";
-import { cutsPair, reachOf, takenOver } from "./operations.js";
+import { cutsPair, growthOf, reachOf, takenOver } from "./operations.js";
 import { parted } from "./parting.js";
 import { Pauses } from "./pauses.js";
 
 const ROOM = 48 * 1024; // bytes of an edit's operations, in a line that may have 65,536
 const LEAST_ROOM = 64;
 const MOST_PAST_ENDS = 4;
+const MOST_NEWS = 1_000; // revisions that wait for the answer to an edit; then it follows anew once that is there
+const MOST_DIFF = 10_000; // units of documents that quill-delta compares, character by character
 const NEVER = { timeout: Infinity }; // an edit is sent until it is answered
 
 /**
@@ -48,6 +50,22 @@ async function deltaClass() {
   }
 }
 
+/** @param {Op} op @returns {Op} */
+function copied(op) {
+  const copy = { ...op };
+  if (op.attributes !== undefined) copy.attributes = { ...op.attributes };
+  if (typeof op.insert === "object") copy.insert = { ...op.insert };
+  return copy;
+}
+
+/** @param {Op} op */
+function frozen(op) {
+  if (Object.isFrozen(op)) return op;
+  if (op.attributes !== undefined) Object.freeze(op.attributes);
+  if (typeof op.insert === "object") Object.freeze(op.insert);
+  return Object.freeze(op);
+}
+
 /**
  * Somebody else may create it at the same time. Then the server says so before it shows the document, which a crash may yet take back.
  * @param {import("./richd.js").Client} client
@@ -72,13 +90,14 @@ async function fetchCreated(client, name, ops) {
 }
 
 /**
- * Sends "change" for what others did, "trouble" where something typed is lost, "state" where its state is another than before, and "progress"
- * where `revision` or `isSaved` may have changed.
+ * Sends "change" for what others did, "trouble" where something typed is lost, "rebased" where it was fetched anew, "state" where its state is
+ * another than before, and "progress" where `revision` or `isSaved` may have changed.
  *
  * `base` is the document at `revision`. What is shown is `base`, with `sent` behind it, and `typed` behind that. News that comes while
  * `sent` has no answer is held until it has one: only then is it known which revision is its own.
  *
- * @extends {Emitter<{ change: ChangeEvent, trouble: TroubleEvent, doubt: DoubtEvent, unkept: UnkeptEvent, state: StateEvent<DocumentState>, progress: Event }>}
+ * @extends {Emitter<{ change: ChangeEvent, trouble: TroubleEvent, doubt: DoubtEvent, unkept: UnkeptEvent, rebased: RebasedEvent,
+ *   state: StateEvent<DocumentState>, progress: Event }>}
  */
 export class RichDocument extends Emitter {
   /** @type {import("./richd.js").Client} */
@@ -93,6 +112,7 @@ export class RichDocument extends Emitter {
   #revision;
   /** @type {Delta} */
   #contents;
+  #length = 0; // of it
   /** @type {Delta | null} */
   #sent = null;
   /** @type {number | null} the revision that `sent` made, once it is answered */
@@ -106,6 +126,7 @@ export class RichDocument extends Emitter {
   /** @type {{ ops: Op[], rev: number }[]} */
   #news = [];
   #isStale = false; // the next revision isn't held any more, so the document has to be fetched anew
+  #isBehind = false; // it isn't followed, until the edit that is on its way is answered
   #isClosed = false;
   #isRefused = false; // what was typed last
   #hasStoreFailed = false;
@@ -141,6 +162,7 @@ export class RichDocument extends Emitter {
       document.#begin(rev, new document.#Delta(ops));
       document.#contents = document.#base;
     }
+    document.#length = document.#contents.length();
     client.addEventListener("state", document.#tell);
     document.#state = document.state;
     document.#keeper?.watch(document, () => document.#snapshot());
@@ -159,11 +181,16 @@ export class RichDocument extends Emitter {
   }
 
   /**
-   * What is shown.
+   * What is shown: a delta of the reader's own, of operations that are frozen.
    * @returns {Delta}
    */
   get contents() {
-    return this.#contents;
+    return new this.#Delta(this.#contents.ops.map(frozen));
+  }
+
+  /** How many units are shown: UTF-16 code units, and embeds. */
+  get length() {
+    return this.#length;
   }
 
   /** Undo and redo of what was typed here. */
@@ -217,11 +244,23 @@ export class RichDocument extends Emitter {
 
   /** @param {Delta} delta */
   #type(delta) {
-    this.#contents = this.#contents.compose(delta);
+    this.#change(delta);
     this.#typed = this.#typed.compose(delta);
     this.#isRefused = false;
     queueMicrotask(() => this.#send()); // what is typed in one go is sent in one edit
     this.#tell();
+  }
+
+  /** @param {Delta} delta  what is shown otherwise */
+  #change(delta) {
+    this.#contents = this.#contents.compose(delta);
+    this.#length += growthOf(delta);
+  }
+
+  // The event has operations of its own, since whoever is told may keep and change them.
+  /** @param {Delta} delta */
+  #changeEvent({ ops }) {
+    return new ChangeEvent(new this.#Delta(ops.map(copied)));
   }
 
   // Tells that it may stand otherwise than before.
@@ -239,14 +278,14 @@ export class RichDocument extends Emitter {
     const step = this.#steps.take(way, this.#contents);
     if (step === undefined) return false;
     this.#type(step);
-    this.dispatchEvent(new ChangeEvent(step));
+    this.dispatchEvent(this.#changeEvent(step));
     return true;
   }
 
   /** @param {Op[] | { ops: Op[] }} ops */
   #readTyped(ops) {
     const delta = takenOver(Array.isArray(ops) ? ops : ops.ops);
-    if (reachOf(delta) > this.#contents.length()) throw new RichdError(Refusal.PastEnd, "PastEnd");
+    if (reachOf(delta) > this.#length) throw new RichdError(Refusal.PastEnd, "PastEnd");
     if (cutsPair(delta, this.#contents)) throw new RichdError(Refusal.CutsPair, "CutsPair");
     return new this.#Delta(delta.ops);
   }
@@ -274,16 +313,28 @@ export class RichDocument extends Emitter {
   #begin(revision, base) {
     this.#revision = revision;
     this.#base = base;
-    this.#news = [];
     this.#isStale = false;
+    this.#follow();
+  }
+
+  #follow() {
+    this.#isBehind = false;
+    this.#news = [];
     this.#leave = this.#client.onNews(this.#name, {
-      rev: revision,
+      rev: this.#revision,
       onNews: (ops, rev) => {
         this.#news.push({ ops, rev });
+        if (this.#news.length > MOST_NEWS) this.#fallBehind();
         this.#goOn();
       },
       onEnd: (error) => this.#onEnd(error),
     });
+  }
+
+  #fallBehind() {
+    this.#leave();
+    this.#news = [];
+    this.#isBehind = true;
   }
 
   /** @param {RichdError} error */
@@ -315,6 +366,7 @@ export class RichDocument extends Emitter {
     this.#client.edit(this.#name, this.#sent.ops, this.#revision, limits).then(
       ({ rev }) => {
         this.#hasStoreFailed = false;
+        if (this.#typed.ops.length === 0) this.#room = Math.min(ROOM, 2 * this.#room);
         this.#taken = rev;
         this.#strays = this.#pastEnds = 0;
         this.#goOn();
@@ -350,8 +402,12 @@ export class RichDocument extends Emitter {
       }
       const next = this.#news.shift();
       if (next === undefined) break;
-      if (next.rev === this.#revision + 1) this.#takeOver(new this.#Delta(next.ops), next.rev);
+      if (next.rev !== this.#revision + 1) continue;
+      if (reachOf(next) <= this.#base.length()) this.#takeOver(new this.#Delta(next.ops), next.rev);
+      else this.#isStale = true; // this copy isn't the server's
     }
+    if (this.#isClosed) return;
+    if (this.#isBehind && !this.#isStale && !this.#isInDoubt) this.#follow();
     if (this.#isStale && !this.#isInDoubt) this.#fetchAnew();
     else this.#send();
     if (this.isSaved) for (const { resolve } of this.#waiting.splice(0)) resolve(this.#revision);
@@ -395,8 +451,8 @@ export class RichDocument extends Emitter {
     this.#typed = change.transform(this.#typed, true);
     if (shown.ops.length === 0) return;
     this.#steps.move(shown);
-    this.#contents = this.#contents.compose(shown);
-    this.dispatchEvent(new ChangeEvent(shown));
+    this.#change(shown);
+    this.dispatchEvent(this.#changeEvent(shown));
   }
 
   /** @param {RichdError} error */
@@ -446,11 +502,13 @@ export class RichDocument extends Emitter {
     const shown = typed.invert(this.#base);
     this.#typed = new this.#Delta();
     this.#steps.clear();
+    this.#room = ROOM;
     this.#contents = this.#base;
+    this.#length = this.#base.length();
     this.#strays = this.#pastEnds = 0;
     this.#isRefused = true;
     for (const { reject } of this.#waiting.splice(0)) reject(error);
-    this.dispatchEvent(new ChangeEvent(shown));
+    this.dispatchEvent(this.#changeEvent(shown));
     this.dispatchEvent(new TroubleEvent(error, typed, false));
   }
 
@@ -467,14 +525,28 @@ export class RichDocument extends Emitter {
       const { rev, ops } = await this.#client.fetch(this.#name, undefined, NEVER);
       if (this.#isClosed) return;
       const fetched = new this.#Delta(ops);
-      const change = new this.#Delta(difference(this.#base, fetched).ops);
+      const change = this.#differenceTo(fetched);
+      const from = this.#revision;
       this.#steps.clear();
       this.#begin(rev, fetched);
       this.#show(change);
+      this.dispatchEvent(new RebasedEvent(from, rev));
       this.#goOn();
     } catch (error) {
       this.#fail(error);
     }
+  }
+
+  /**
+   * What makes a later revision of `base`.
+   * @param {Delta} fetched
+   * @returns {Delta}
+   */
+  #differenceTo(fetched) {
+    const { diff } = /** @type {any} */ (this.#base);
+    const isSmall = Math.max(this.#base.length(), fetched.length()) <= MOST_DIFF;
+    if (typeof diff === "function" && isSmall) return diff.call(this.#base, fetched);
+    return new this.#Delta(difference(this.#base, fetched).ops);
   }
 
   /** @param {any} error */

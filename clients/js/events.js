@@ -42,6 +42,19 @@ export class DoubtEvent extends Event {
 }
 
 /**
+ * The document was fetched anew, as its past from revision `from` on is no longer held: what was typed meanwhile was moved onto revision `to`,
+ * past what makes one of the other. The history has ended.
+ */
+export class RebasedEvent extends Event {
+  /** @param {number} from @param {number} to */
+  constructor(from, to) {
+    super("rebased");
+    this.from = from;
+    this.to = to;
+  }
+}
+
+/**
  * How it stands, `state`, is another than before.
  * @template {string} State
  */

@@ -61,6 +61,11 @@ export class Line {
     this.#number = 1;
   }
 
+  /** Whether nothing of it is asked, or waits. */
+  get isIdle() {
+    return this.#items.length === 0 && this.#pause === undefined && !this.#isLearning;
+  }
+
   /** @param {Item} item */
   add(item) {
     this.#items.push(item);

@@ -103,6 +103,12 @@ export function takenOver(ops) {
 export const reachOf = ({ ops }) => ops.reduce((sum, op) => sum + (op.insert === undefined ? lengthOf(op) : 0), 0);
 
 /**
+ * How many units a change adds to a document.
+ * @param {{ ops: Op[] }} delta
+ */
+export const growthOf = ({ ops }) => ops.reduce((sum, op) => sum + (op.insert === undefined ? -(op.delete ?? 0) : lengthOf(op)), 0);
+
+/**
  * Whether a change in normal form begins or ends between the two halves of a character.
  * @param {{ ops: Op[] }} delta
  * @param {{ ops: Op[] }} document

@@ -4,6 +4,7 @@ import { lengthOf } from "./delta.js";
 import { difference } from "./difference.js";
 import { RichdError } from "./errors.js";
 import { TroubleEvent } from "./events.js";
+import { growthOf } from "./operations.js";
 
 /**
  * @typedef {import("./delta.js").Op} Op
@@ -33,9 +34,6 @@ export function bind(quill, document, options) {
   const binding = new Binding(quill, document, options);
   return () => binding.end();
 }
-
-/** @param {{ ops: Op[] }} delta */
-const growth = ({ ops }) => ops.reduce((sum, op) => sum + (op.insert === undefined ? -(op.delete ?? 0) : lengthOf(op)), 0);
 
 /**
  * While an input method composes a character the editor is left alone: `held` is what others did meanwhile, and the document is what the
@@ -116,8 +114,8 @@ class Binding {
     }
     const typed = new this.#Delta(delta.ops);
     if (this.#isShowing && source === "user" && !this.#hasTold) return void this.#within.push(typed);
-    const shown = before?.length?.() ?? this.#quill.getContents().length() - growth(typed);
-    if (shown + growth(this.#held) !== this.#document.contents.length()) return this.#onParted(typed);
+    const shown = before?.length?.() ?? this.#quill.getContents().length() - growthOf(typed);
+    if (shown + growthOf(this.#held) !== this.#document.length) return this.#onParted(typed);
     const held = this.#held;
     this.#held = typed.transform(held, false);
     this.#take(held.transform(typed, true));
@@ -127,7 +125,7 @@ class Binding {
   /** @param {Delta} typed */
   #onParted(typed) {
     this.#setRight();
-    if (this.#quill.getContents().length() !== this.#document.contents.length()) this.#close();
+    if (this.#quill.getContents().length() !== this.#document.length) this.#close();
     this.#document.dispatchEvent(new TroubleEvent(new RichdError(0, "Parted"), typed, false));
   }
 

@@ -16,6 +16,7 @@ import { onWaking } from "./waking.js";
 export { RichDocument, RichDocument as Document, RichdError };
 
 const PATIENCE = 30_000; // milliseconds
+const MOST_DOCS = 1_000; // of which something is kept though nothing is asked; then the number of the oldest one is asked for anew
 
 /**
  * @typedef {import("./delta.js").Op} Op
@@ -69,6 +70,7 @@ export class Client extends Emitter {
   #closing = new AbortController();
   /** @type {Map<string, { line: Line, news: News }>} */
   #docs = new Map();
+  #hasForgotten = false; // one of them
 
   /** @param {import("./links.js").Address & Options} options */
   constructor(options) {
@@ -246,12 +248,22 @@ export class Client extends Emitter {
   /** @param {string} doc */
   #of(doc) {
     if (!this.#docs.has(doc)) {
-      const line = new Line(doc, this.#isNew);
+      if (this.#docs.size >= MOST_DOCS) this.#forget();
+      const line = new Line(doc, this.#isNew && !this.#hasForgotten);
       const news = new News((message, settle) => line.add({ message: { ...message, doc }, isCommand: false, settle }));
       line.session = this.#session;
       this.#docs.set(doc, { line, news });
     }
     return this.#docs.get(doc);
+  }
+
+  #forget() {
+    for (const [doc, { line, news }] of this.#docs) {
+      if (!line.isIdle || !news.isIdle) continue;
+      this.#docs.delete(doc);
+      this.#hasForgotten = true;
+      return;
+    }
   }
 
   #begin(isAgain = false) {

@@ -2,6 +2,7 @@
 
 import { Refusal, RichdError } from "./errors.js";
 import { Heartbeat } from "./heartbeat.js";
+import { LineReader, isReplyTo, readLine } from "./lines.js";
 import { openLink } from "./links.js";
 import { MAX_LINE } from "./operations.js";
 
@@ -24,6 +25,8 @@ import { MAX_LINE } from "./operations.js";
  * @property {import("./delta.js").Op[][]} [deltas]
  * @property {number} [news]
  * @property {number} [ended]
+ * @property {number} [code]
+ * @property {string} [error]
  *
  * @callback Settle  is called once for each message, in their order, before any later line is read
  * @param {RichdError | null} error
@@ -36,9 +39,8 @@ const NOTHING = { do: "unsubscribe", doc: "-" };
 export class Session {
   /** @type {import("./links.js").Link} */
   #link;
-  #part = ""; // of the line that is still being read
-  #decoder = new TextDecoder();
-  /** @type {Settle[]} */
+  #reader = new LineReader();
+  /** @type {{ message: Message, settle: Settle }[]} */
   #waiting = [];
   /** @type {Heartbeat} */
   #heartbeat;
@@ -67,7 +69,7 @@ export class Session {
     const session = new Session();
     session.#listener = { onNews, onEnd: () => {} };
     const listener = {
-      onBytes: (/** @type {Uint8Array} */ bytes) => session.#read(session.#decoder.decode(bytes, { stream: true })),
+      onBytes: (/** @type {Uint8Array} */ bytes) => session.#read(bytes),
       onClose: (/** @type {Error | undefined} */ cause) => session.#close(cause),
     };
     const link = await openLink(address, listener, patience);
@@ -113,7 +115,7 @@ export class Session {
     if (this.#hasEnded) return settle(new RichdError(0, "Cut"));
     if (line.length > MAX_LINE + 1) return settle(new RichdError(Refusal.LineTooLong, "LineTooLong"));
     if (this.#waiting.length === 0 && message !== NOTHING) this.#heartbeat.begin();
-    this.#waiting.push(settle);
+    this.#waiting.push({ message, settle });
     this.#link.send(line);
   }
 
@@ -135,33 +137,30 @@ export class Session {
     this.#close();
   }
 
-  /** @param {string} text */
-  #read(text) {
+  /** @param {Uint8Array} bytes */
+  #read(bytes) {
     if (this.#hasEnded) return;
-    this.#heartbeat.begin();
-    const lines = text.split("\n");
-    for (let index = 0; index + 1 < lines.length; index += 1) {
-      const line = this.#part + lines[index];
-      this.#part = "";
-      this.#take(line);
-    }
-    this.#part += lines.at(-1);
+    this.#heartbeat?.begin();
+    const lines = this.#reader.read(bytes);
+    if (lines === undefined) return this.cut();
+    for (const line of lines) this.#take(line);
   }
 
+  // Takes a line. One that no server says here ends the session.
   /** @param {string} text */
   #take(text) {
-    let line;
-    try {
-      line = JSON.parse(text);
-    } catch {
-      line = null;
+    if (this.#hasEnded) return;
+    const line = readLine(text);
+    if (line === undefined) return this.cut();
+    if (line.news !== undefined || line.ended !== undefined) {
+      this.#lines += 1;
+      return this.#listener.onNews(line);
     }
-    if (typeof line !== "object" || line === null) return this.cut(); // no richd
+    const { message, settle } = this.#waiting[0] ?? {};
+    if (message === undefined || (line.code === undefined && !isReplyTo(line, message))) return this.cut();
     this.#lines += 1;
-    if ("news" in line || "ended" in line) return this.#listener.onNews(line);
-    const settle = this.#waiting.shift();
-    if (settle === undefined) return this.cut();
-    if ("code" in line) settle(new RichdError(line.code, line.error));
+    this.#waiting.shift();
+    if (line.code !== undefined) settle(new RichdError(line.code, line.error));
     else settle(null, line);
     this.#endLink();
   }
@@ -175,7 +174,7 @@ export class Session {
     if (this.#hasEnded) return;
     this.#hasEnded = true;
     this.#heartbeat?.end();
-    for (const settle of this.#waiting.splice(0)) settle(new RichdError(0, "Cut", cause));
+    for (const { settle } of this.#waiting.splice(0)) settle(new RichdError(0, "Cut", cause));
     this.#end();
     this.#listener.onEnd();
   }

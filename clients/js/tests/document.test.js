@@ -3,6 +3,7 @@
 import assert from "node:assert/strict";
 import test from "node:test";
 import { Delta } from "../delta.js";
+import { difference } from "../difference.js";
 import { connect } from "../richd.js";
 import { Draw } from "./draw.js";
 import { served, until } from "./fake.js";
@@ -101,6 +102,53 @@ test("where the past is no longer held, what was typed is moved onto what is fet
   server.documents.raise("d", 5);
   await until(() => isAt(document, 5));
   for (const { contents } of [document, shown]) assert.deepEqual(contents.ops, newest());
+});
+
+const PAGE = "Title\nFirst paragraph, about tea.\nSecond paragraph, about milk.\nThird paragraph, about bread.\nEnd\n";
+
+/** What two did at the same time to a page, the first while the second was away, and the past is no longer held. */
+async function awayed(t, options) {
+  const { open, newest, server } = await prepared(t, {}, [{ insert: PAGE }]);
+  const document = await (await open()).client.open("d", options);
+  const shown = shownBy(document);
+  const rebased = [];
+  document.addEventListener("rebased", ({ from, to }) => rebased.push([from, to]));
+  server.sessions.at(-1).cut();
+  const at = (text) => PAGE.indexOf(text);
+  shown.type([{ retain: at("First") }, { retain: 5, attributes: { bold: true } }]);
+  shown.type([{ retain: at("milk") }, { insert: "oat " }]);
+  shown.type([{ retain: at("Third") + 4 }, { delete: "Third paragraph, about bread.\n".length }]);
+  const edits = [
+    [{ retain: PAGE.length - 1 }, { insert: "ing" }],
+    [{ retain: at("paragraph, about tea"), attributes: { size: 2 } }],
+    [{ insert: "A new " }],
+    [{ retain: 6 + at("milk.") + 4 }, { insert: ", cold" }],
+  ];
+  for (const [index, ops] of edits.entries()) server.documents.answer({ do: "edit", doc: "d", n: index + 1, base: index + 1, ops }, "other");
+  server.documents.raise("d", 5);
+  await document.flush();
+  for (const { contents } of [document, shown]) assert.deepEqual(contents.ops, newest());
+  assert.deepEqual(rebased, [[1, 5]]);
+  return newest();
+}
+
+test("what was typed while away keeps its place, its deletions and its formats", async (t) => {
+  const merged = await awayed(t);
+  assert.equal(merged.map(({ insert }) => insert).join(""), "A new Title\nFirst paragraph, about tea.\nSecond paragraph, about oat milk, cold.\nEnding\n");
+  const first = merged.find(({ insert }) => insert === "First");
+  assert.deepEqual(first.attributes, { size: 2, bold: true });
+});
+
+test("where the page's deltas have a `diff` it is asked", async (t) => {
+  let asked = 0;
+  class Other extends Delta {
+    diff(other) {
+      asked += 1;
+      return new Other(difference(this, other).ops);
+    }
+  }
+  await awayed(t, { Delta: Other });
+  assert.equal(asked, 1);
 });
 
 test("an edit that was taken, but behind what is no longer held, is shown once", async (t) => {
@@ -289,6 +337,24 @@ test("a store that failed is told, and the edit is sent until it is taken", asyn
   await document.flush();
   assert.deepEqual(states, ["saved", "saving", "storeFailed", "saved"]);
   assert.deepEqual(newest(), [{ insert: "xHello\n" }]);
+});
+
+test("whoever reads what is shown, or is told of a change, or typed something, can't change the document by it", async (t) => {
+  const { open, newest, creator } = await prepared(t, {}, [{ insert: "Hello", attributes: { bold: true } }, { insert: { image: "p" } }]);
+  const document = await open();
+  const { contents } = document;
+  contents.insert("x").ops.splice(0, 1);
+  assert.throws(() => (document.contents.ops[0].insert = "x"), TypeError);
+  assert.throws(() => (document.contents.ops[0].attributes.bold = false), TypeError);
+  assert.throws(() => (document.contents.ops[1].insert.image = "q"), TypeError);
+  const typed = [{ insert: "typed", attributes: { size: 1 } }];
+  document.apply(typed);
+  typed[0].attributes.size = 2;
+  document.addEventListener("change", ({ delta }) => (delta.ops[0].attributes.size = 2));
+  await document.flush();
+  await creator.edit("d", [{ insert: "told", attributes: { size: 1 } }], 2);
+  await until(() => document.revision === 3);
+  assert.deepEqual(document.contents.ops, newest());
 });
 
 test("a deletion ends a document that is open, and says so", async (t) => {

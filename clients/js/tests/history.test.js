@@ -85,11 +85,9 @@ test("it ends where the document was fetched over, and where something typed was
   await settled();
   assert.ok(ann.history.canUndo);
   server.sessions[0].cut();
-  for (const insert of ["a", "b"]) {
-    bob.apply([{ insert }]);
-    await bob.flush();
-  }
-  server.documents.raise("d", server.documents.newest("d"));
+  for (const base of [2, 3]) server.documents.answer({ do: "edit", doc: "d", n: base - 1, base, ops: [{ insert: "a" }] }, "other");
+  server.documents.raise("d", 4);
+  bob.apply([{ insert: "b" }]);
   await settled();
   assert.equal(ann.history.canUndo, false);
   ann.apply([{ insert: "heavy" }]);

@@ -19,7 +19,9 @@
  * @param {Op} op
  * @returns {number}
  */
-export function lengthOf({ insert, retain, delete: deleted }: Op): number;
+export function lengthOf(op: Op): number;
+/** @param {Attributes} [one] @param {Attributes} [other] */
+export function areAlike(one?: Record<string, Value | null> | undefined, other?: Record<string, Value | null> | undefined): boolean;
 /** What one change does to a text, or a document, as the inserts that make it. */
 export class Delta {
     /** @param {Op[] | { ops: Op[] }} [ops] */

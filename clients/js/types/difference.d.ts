@@ -1,11 +1,18 @@
 /**
- * The delta that makes one document of another: it replaces what stands between the beginning and the end that both have.
- * @param {{ ops: import("./delta.js").Op[] }} from
- * @param {{ ops: import("./delta.js").Op[] }} to
+ * The delta that makes one document of another. It finds the lines that both have, in what is between them the words, and in those how they
+ * begin and end. What both have is kept with what is done to it beside, so only its attributes are changed.
+ * @param {{ ops: Op[] }} from
+ * @param {{ ops: Op[] }} to
  */
 export function difference(from: {
-    ops: import("./delta.js").Op[];
+    ops: Op[];
 }, to: {
-    ops: import("./delta.js").Op[];
+    ops: Op[];
 }): Delta;
+export type Op = import("./delta.js").Op;
+export type Kind = "keep" | "insert" | "delete";
+/**
+ * so many units that both have, or one of them
+ */
+export type Stretch = [Kind, number];
 import { Delta } from "./delta.js";

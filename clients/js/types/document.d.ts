@@ -1,19 +1,19 @@
 /**
- * Sends "change" for what others did, "trouble" where something typed is lost, "state" where its state is another than before, and "progress"
- * where `revision` or `isSaved` may have changed.
+ * Sends "change" for what others did, "trouble" where something typed is lost, "rebased" where it was fetched anew, "state" where its state is
+ * another than before, and "progress" where `revision` or `isSaved` may have changed.
  *
  * `base` is the document at `revision`. What is shown is `base`, with `sent` behind it, and `typed` behind that. News that comes while
  * `sent` has no answer is held until it has one: only then is it known which revision is its own.
  *
- * @extends {Emitter<{ change: ChangeEvent, trouble: TroubleEvent, doubt: DoubtEvent, unkept: UnkeptEvent, state: StateEvent<DocumentState>, progress: Event }>}
+ * @extends {Emitter<{ change: ChangeEvent, trouble: TroubleEvent, doubt: DoubtEvent, unkept: UnkeptEvent, rebased: RebasedEvent,
+ *   state: StateEvent<DocumentState>, progress: Event }>}
  */
 export class RichDocument extends Emitter<{
     change: ChangeEvent;
     trouble: TroubleEvent;
     doubt: DoubtEvent;
     unkept: UnkeptEvent;
-    state: StateEvent<DocumentState>;
-    progress: Event;
+    rebased: RebasedEvent;
 }> {
     /**
      * @param {import("./richd.js").Client} client
@@ -26,10 +26,12 @@ export class RichDocument extends Emitter<{
     /** The last revision of the server's that is in what is shown. */
     get revision(): number;
     /**
-     * What is shown.
+     * What is shown: a delta of the reader's own, of operations that are frozen.
      * @returns {Delta}
      */
     get contents(): OwnDelta;
+    /** How many units are shown: UTF-16 code units, and embeds. */
+    get length(): number;
     /** Undo and redo of what was typed here. */
     get history(): History;
     /** Whether it is followed no longer: it was closed, or trouble came that is final. */
@@ -115,7 +117,7 @@ import { ChangeEvent } from "./events.js";
 import { TroubleEvent } from "./events.js";
 import { DoubtEvent } from "./events.js";
 import { UnkeptEvent } from "./events.js";
-import { StateEvent } from "./events.js";
+import { RebasedEvent } from "./events.js";
 import { Emitter } from "./emitter.js";
 import { Delta as OwnDelta } from "./delta.js";
 import { History } from "./history.js";

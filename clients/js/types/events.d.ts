@@ -30,6 +30,16 @@ export class DoubtEvent extends Event {
     revision: number;
 }
 /**
+ * The document was fetched anew, as its past from revision `from` on is no longer held: what was typed meanwhile was moved onto revision `to`,
+ * past what makes one of the other. The history has ended.
+ */
+export class RebasedEvent extends Event {
+    /** @param {number} from @param {number} to */
+    constructor(from: number, to: number);
+    from: number;
+    to: number;
+}
+/**
  * How it stands, `state`, is another than before.
  * @template {string} State
  */

@@ -32,6 +32,8 @@ export class Line {
     constructor(doc: string, isNew?: boolean | undefined);
     /** The source turns out to be new, before there is a session. */
     beginNumbers(): void;
+    /** Whether nothing of it is asked, or waits. */
+    get isIdle(): boolean;
     /** @param {Item} item */
     add(item: Item): void;
     /**

@@ -8,6 +8,8 @@
 export class News {
     /** @param {(message: import("./session.js").Message, settle: import("./session.js").Settle) => void} ask  asks something of the document */
     constructor(ask: (message: import("./session.js").Message, settle: import("./session.js").Settle) => void);
+    /** Whether nobody follows. */
+    get isIdle(): boolean;
     /** @param {Follower} follower */
     join(follower: Follower): void;
     /** @param {Follower} follower */

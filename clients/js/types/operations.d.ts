@@ -24,6 +24,9 @@ export function bytesOf(op: Op): number;
 export function reachOf({ ops }: {
     ops: Op[];
 }): number;
+export function growthOf({ ops }: {
+    ops: Op[];
+}): number;
 export type Op = import("./delta.js").Op;
 export type Value = import("./delta.js").Value;
 import { Delta } from "./delta.js";

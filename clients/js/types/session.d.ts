@@ -58,6 +58,8 @@ export type Reply = {
     deltas?: import("./delta.js").Op[][] | undefined;
     news?: number | undefined;
     ended?: number | undefined;
+    code?: number | undefined;
+    error?: string | undefined;
 };
 /**
  * is called once for each message, in their order, before any later line is read
