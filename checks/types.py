@@ -28,6 +28,7 @@ STRICT = {"strict": True, "target": "es2022", "module": "node16", "moduleResolut
 GIVEN = """\
 import { connect, Client, RichDocument, RichdError } from "richd";
 import { Delta } from "richd/delta";
+import { connect as connectOffline } from "richd/offline";
 import { bind } from "richd/quill";
 declare const client: Client;
 declare const letter: RichDocument;
@@ -44,6 +45,9 @@ RIGHT = [
     'letter.apply([{ insert: { image: "a.png" } }, { retain: 1, attributes: { bold: null } }, { delete: 2 }]);',
     'letter.apply(new Delta().retain(5).insert("!"));',
     'const end: () => void = bind(quill, letter); end();',
+    'const lasting = await connectOffline({ url: "ws://127.0.0.1:8080/" }); const isKept: boolean = lasting.isKept && letter.isKept;',
+    'lasting.addEventListener("left", ({ doc, delta, error }) => console.log(doc, delta.ops, error.name)); isKept;',
+    'letter.addEventListener("doubt", ({ delta, revision }) => letter.apply([{ retain: revision }, ...delta.ops]));',
     'for await (const { rev, ops } of client.follow("letter", 0)) console.log(rev + 1, ops.length);',
     'try { await letter.flush(); } catch (error) { if (error instanceof RichdError && error.name === "Closed") throw error; }',
 ]
@@ -62,6 +66,7 @@ WRONG = [
     (2339, 'letter.addEventListener("change", ({ error }) => console.log(error));'),
     (2540, 'letter.revision = 5;'),
     (2367, 'letter.addEventListener("trouble", ({ error }) => error.name === "TooFat");'),
+    (2345, 'client.addEventListener("left", () => {});'),
     (2339, 'document.flush();'),
 ]
 

@@ -9,7 +9,6 @@ import { lock, takeSource, thisPage } from "./sources.js";
 /**
  * @typedef {import("./document.js").OpenOptions} OpenOptions
  * @typedef {import("./document.js").RichDocument} RichDocument
- * @typedef {import("./errors.js").RichdError} RichdError
  * @typedef {import("./keeping.js").Lease} Lease
  * @typedef {import("./keeping.js").Store} Store
  *

@@ -7,7 +7,6 @@ export function connect(options: import("./links.js").Address & OfflineOptions, 
 /**
  * @typedef {import("./document.js").OpenOptions} OpenOptions
  * @typedef {import("./document.js").RichDocument} RichDocument
- * @typedef {import("./errors.js").RichdError} RichdError
  * @typedef {import("./keeping.js").Lease} Lease
  * @typedef {import("./keeping.js").Store} Store
  *
@@ -50,7 +49,6 @@ export class OfflineClient extends Client<{
 }
 export type OpenOptions = import("./document.js").OpenOptions;
 export type RichDocument = import("./document.js").RichDocument;
-export type RichdError = import("./errors.js").RichdError;
 export type Lease = import("./keeping.js").Lease;
 export type Store = import("./keeping.js").Store;
 export type OfflineOptions = {
