@@ -1,14 +1,18 @@
 #!/usr/bin/env python3
 """Types in both editors of examples/editor at once, in a headless Chromium, and cuts one's connection meanwhile.
 
-usage: checks/editor.py [PICTURE]
+usage: checks/editor.py [--quill FOLDER] [PICTURE]
 
 Keys go to both in turn for ten seconds, so that each edit is on its way while the other writes. In the middle the second editor's
 connection is cut. At the end both have the same contents, `richd dump` shows them too, and each character that was typed is there once.
 A screenshot is left in PICTURE, else in editors.png in the temporary folder of the system.
 
+The editors are those of the page's own, or Quill where FOLDER has its quill.js and quill.snow.css. Then Ctrl+Z is pressed in the second before
+it has typed anything, which has to leave alone what the first typed.
+
 It wants Debian's chromium, chromium-driver, nodejs and node-ws, and the program that ./demo builds, or another that RICHD names.
 """
+import argparse
 import base64
 import collections
 import http.client
@@ -191,12 +195,23 @@ def are_alike(sides):
     return all(side["isSaved"] and side["shared"] == side["editor"] == sides[0]["shared"] for side in sides)
 
 
+def undo_alone(browser):
+    """Ctrl+Z of one who has typed nothing leaves alone what the other typed."""
+    before = contents(browser)[0]["shared"]
+    browser.run("editors[1].editor.setSelection(0, 0)")
+    browser.press(CONTROL + "z")
+    wait_until(lambda: are_alike(contents(browser)), "the same contents after Ctrl+Z")
+    assert contents(browser)[0]["shared"] == before, f"Ctrl+Z made {contents(browser)} of {before}"
+
+
 def write_together(browser, proxy):
     wait_until(lambda: browser.run("return globalThis.editors !== undefined"), "the page's editors")
     ann, bob = Writer(browser, 0, ANN, "ann"), Writer(browser, 1, BOB, "bob")
     ann.browser.run("editors[0].editor.setSelection(0, 0)")
     browser.press(ENTER)  # a line for each
     wait_until(lambda: are_alike(contents(browser)), "a line for each")
+    if browser.run("return globalThis.Quill !== undefined"):
+        undo_alone(browser)
     connections = len(proxy.web_sockets)
     assert connections == 2, f"{connections} connections"
 
@@ -214,12 +229,12 @@ def write_together(browser, proxy):
     return ann, bob, contents(browser)
 
 
-def main(picture):
+def main(picture, quill):
     if not os.access(RICHD, os.X_OK):
         sys.exit(f"{RICHD} isn't there: ./demo builds it, or name another program in RICHD")
     with tempfile.TemporaryDirectory() as folder:
         store = os.path.join(folder, "store")
-        command = [str(ROOT / "examples/editor/run"), "--listen", "127.0.0.1:0"]
+        command = [str(ROOT / "examples/editor/run"), "--listen", "127.0.0.1:0", *(["--quill", quill] if quill else [])]
         served = subprocess.Popen(command, stdout=subprocess.PIPE, text=True, env={**os.environ, "STORE": store, "RICHD": RICHD})
         try:
             host, port = re.search(r"http://(.+):(\d+)/", served.stdout.readline()).groups()
@@ -255,4 +270,8 @@ def main(picture):
 
 
 if __name__ == "__main__":
-    sys.exit(main(sys.argv[1] if len(sys.argv) > 1 else os.path.join(tempfile.gettempdir(), "editors.png")))
+    parser = argparse.ArgumentParser(usage="checks/editor.py [--quill FOLDER] [PICTURE]")
+    parser.add_argument("--quill", metavar="FOLDER")
+    parser.add_argument("picture", nargs="?", default=os.path.join(tempfile.gettempdir(), "editors.png"))
+    words = parser.parse_args()
+    sys.exit(main(words.picture, words.quill))

@@ -174,8 +174,8 @@ def closed_in_mid_reply():
             for stream in streams:
                 assert len(read_up_to(stream, part)) == part
                 end(stream)
-    with server.connect("s", numbers={"middle": edits}, timeout=PATIENCE) as client:
-        assert client.edit("middle", [{"insert": "!"}], 1) == richd.Taken(edits + 1, again=True)
+    with server.connect("s", timeout=PATIENCE) as client:
+        assert client.edit("middle", [{"insert": "!"}], 1, number=edits) == richd.Taken(edits + 1, again=True)
         assert client.fetch("middle") == richd.Contents(edits + 1, [{"insert": "!" * edits + "x" * 15_000}])
 
 

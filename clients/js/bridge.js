@@ -22,6 +22,7 @@ const SERVED = { "/clients/js/": HERE, [EDITOR]: path.join(HERE, "../../examples
 /** @type {Record<string, string>} */
 const TYPES = { ".html": "text/html", ".js": "text/javascript", ".css": "text/css", ".png": "image/png" };
 const MOST_BYTES = 65_537; // of a message: a line and its end
+const FULL = 4503; // the code of a WebSocket's end where richd has no place
 
 /** The package ws. Debian's lies where a Node of another origin doesn't look. */
 export function webSockets() {
@@ -87,10 +88,13 @@ export async function startBridge({ host, port, listenHost = "127.0.0.1", listen
   sockets.on("connection", (/** @type {any} */ webSocket) => {
     const session = net.connect({ host, port, noDelay: true });
     const stream = createWebSocketStream(webSocket);
-    session.on("error", () => stream.destroy());
+    let isConnected = false;
+    session.on("connect", () => (isConnected = true));
+    session.on("error", () => {}); // its close follows
+    session.on("close", () => (isConnected && session.bytesRead === 0 ? webSocket.close(FULL, "full") : stream.end()));
     stream.on("error", () => session.destroy());
     stream.on("close", () => session.destroy());
-    stream.pipe(session).pipe(stream);
+    stream.pipe(session).pipe(stream, { end: false });
   });
 
   await new Promise((resolve, reject) => {

@@ -2,12 +2,19 @@
 
 /**
  * @typedef {string | number | boolean} Value
+ * @typedef {Record<string, Value>} Embed  one name and one value
  * @typedef {Record<string, Value | null>} Attributes
- * @typedef {object} Op  exactly one of the first three, and attributes or not on the first two
- * @property {string | Record<string, Value>} [insert]
- * @property {number} [retain]
- * @property {number} [delete]
- * @property {Attributes} [attributes]
+ *
+ * @typedef {Insert | Retain | Delete} Op
+ * @typedef {{ insert: string | Embed, attributes?: Attributes, retain?: undefined, delete?: undefined }} Insert
+ * @typedef {{ retain: number, attributes?: Attributes, insert?: undefined, delete?: undefined }} Retain
+ * @typedef {{ delete: number, insert?: undefined, retain?: undefined, attributes?: undefined }} Delete
+ *
+ * @typedef {object} QuillDelta  a delta of quill-delta, whose types leave open what an attribute is
+ * @property {{ insert?: string | Record<string, unknown>, retain?: number | Record<string, unknown>, delete?: number, attributes?: Record<string, unknown> }[]} ops
+ * @property {(other: any, priority?: boolean) => any} transform
+ *
+ * @typedef {new (ops?: any) => QuillDelta} DeltaClass
  */
 
 /**
@@ -15,15 +22,17 @@
  * @param {Op} op
  * @returns {number}
  */
-export function lengthOf({ insert, retain, delete: deleted }) {
-  return deleted ?? retain ?? (typeof insert === "string" ? insert.length : 1);
+export function lengthOf(op) {
+  const { insert } = op; // most operations are inserts
+  if (insert !== undefined) return typeof insert === "string" ? insert.length : 1;
+  return op.retain ?? op.delete;
 }
 
 /** @param {Op} op */
 const isText = (op) => typeof op.insert === "string";
 
 /** @param {Op} op */
-const kindOf = (op) => (op.delete !== undefined ? "delete" : op.retain !== undefined ? "retain" : "insert");
+const kindOf = (op) => (op.insert !== undefined ? "insert" : op.retain !== undefined ? "retain" : "delete");
 
 /**
  * Attributes without those for which `drops` holds; undefined where none are left.
@@ -36,13 +45,30 @@ function without(attributes, drops) {
 }
 
 /** @param {Attributes} [one] @param {Attributes} [other] */
-function areAlike(one = {}, other = {}) {
-  const names = Object.keys(one);
-  return names.length === Object.keys(other).length && names.every((name) => one[name] === other[name]);
+export function areAlike(one, other) {
+  if (one === other) return true;
+  let more = 0; // names that `one` has more
+  for (const name in one) {
+    if (one[name] !== other?.[name]) return false;
+    more += 1;
+  }
+  for (const _ in other) more -= 1;
+  return more === 0;
 }
 
 /** @param {Op} op @param {Attributes | undefined} attributes @returns {Op} */
 const withAttributes = (op, attributes) => (attributes === undefined ? op : { ...op, attributes });
+
+/**
+ * An operation of the same kind, without attributes.
+ * @param {Op} op
+ * @param {any} value
+ * @returns {Op}
+ */
+function partOf(op, value) {
+  if (op.insert !== undefined) return { insert: value };
+  return op.retain !== undefined ? { retain: value } : { delete: value };
+}
 
 /**
  * Attributes that are set one after the other. A null is kept only where it still has something to remove.
@@ -97,18 +123,49 @@ class Parts {
     return this.isAtEnd ? Infinity : lengthOf(this.#ops[this.#index]) - this.#offset;
   }
 
+  /** How many units come that are only retained. */
+  get left() {
+    if (this.isAtEnd) return Infinity;
+    const { retain, attributes } = this.#ops[this.#index];
+    return retain !== undefined && attributes === undefined ? retain - this.#offset : 0;
+  }
+
+  /**
+   * Hands on whole operations that insert or retain, as long as they have so many units together. Returns how many they have.
+   * @param {number} most
+   * @param {(op: Op) => void} take
+   */
+  handOn(most, take) {
+    let length = 0;
+    if (this.#offset > 0) return length;
+    for (; this.#index < this.#ops.length; this.#index += 1) {
+      const op = this.#ops[this.#index];
+      const next = lengthOf(op);
+      if (length + next > most || kindOf(op) === "delete") break;
+      length += next;
+      take(op);
+    }
+    return length;
+  }
+
+  /** Goes on so many units, at most to the end of the operation that comes next. */
+  skip(length = Infinity) {
+    if (this.isAtEnd) return;
+    if (length >= this.length) {
+      this.#index += 1;
+      this.#offset = 0;
+    } else {
+      this.#offset += length;
+    }
+  }
+
   /** @returns {Op} */
   next(length = Infinity) {
     if (this.isAtEnd) return { retain: length };
     const op = this.#ops[this.#index];
     const start = this.#offset;
     const taken = Math.min(length, this.length);
-    if (taken === this.length) {
-      this.#index += 1;
-      this.#offset = 0;
-    } else {
-      this.#offset += taken;
-    }
+    this.skip(taken);
     if (kindOf(op) === "delete") return { delete: taken };
     if (kindOf(op) === "retain") return withAttributes({ retain: taken }, op.attributes);
     const { insert } = op;
@@ -130,7 +187,7 @@ export class Delta {
    */
   push(op) {
     if (lengthOf(op) <= 0) return this;
-    const added = withAttributes({ [kindOf(op)]: op[kindOf(op)] }, without(op.attributes, () => false));
+    const added = withAttributes(partOf(op, op[kindOf(op)]), without(op.attributes, () => false));
     const ops = this.ops;
     const at = added.insert !== undefined && ops.at(-1)?.delete !== undefined ? ops.length - 1 : ops.length;
     /** @type {any} */
@@ -138,12 +195,23 @@ export class Delta {
     if (before !== undefined && kindOf(before) === kindOf(added) && areAlike(before.attributes, added.attributes)) {
       const kind = kindOf(added);
       if (kind !== "insert" || (isText(before) && isText(added))) {
-        ops[at - 1] = withAttributes({ [kind]: before[kind] + added[kind] }, before.attributes);
+        ops[at - 1] = withAttributes(partOf(added, before[kind] + added[kind]), before.attributes);
         return this;
       }
     }
     ops.splice(at, 0, added);
     return this;
+  }
+
+  /**
+   * Adds an operation as it is, where it needn't merge with the last one.
+   * @param {Op} op  in normal form
+   */
+  #hand(op) {
+    const last = this.ops.at(-1);
+    const isApart = last === undefined || (kindOf(last) !== "delete" && !areAlike(last.attributes, op.attributes));
+    if (isApart) this.ops.push(op);
+    else this.push(op);
   }
 
   /**
@@ -175,7 +243,9 @@ export class Delta {
   }
 
   length() {
-    return this.ops.reduce((sum, op) => sum + lengthOf(op), 0);
+    let length = 0;
+    for (const op of this.ops) length += lengthOf(op);
+    return length;
   }
 
   /** The operations from one unit on, and up to another. */
@@ -183,9 +253,10 @@ export class Delta {
     const slice = new Delta();
     const parts = new Parts(this.ops);
     for (let at = 0; at < end && !parts.isAtEnd; ) {
-      const op = parts.next((at < start ? start : end) - at);
-      if (at >= start) slice.push(op);
-      at += lengthOf(op);
+      const length = Math.min(parts.length, (at < start ? start : end) - at);
+      if (at >= start) slice.push(parts.next(length));
+      else parts.skip(length);
+      at += length;
     }
     return slice;
   }
@@ -197,8 +268,13 @@ export class Delta {
   compose(other) {
     const [first, second] = [new Parts(this.ops), new Parts(other.ops)];
     const delta = new Delta();
+    const hand = (/** @type {Op} */ op) => delta.#hand(op);
     while (!first.isAtEnd || !second.isAtEnd) {
-      if (second.kind === "insert") {
+      const { left } = second;
+      const untouched = left > 0 ? first.handOn(left, hand) : 0;
+      if (untouched > 0) {
+        second.skip(untouched);
+      } else if (second.kind === "insert") {
         delta.push(second.next());
       } else if (first.kind === "delete") {
         delta.push(first.next());
@@ -210,7 +286,7 @@ export class Delta {
         } else {
           const isRetain = below.retain !== undefined;
           const attributes = composed(below.attributes, above.attributes, isRetain);
-          delta.push({ [isRetain ? "retain" : "insert"]: isRetain ? length : below.insert, attributes });
+          delta.push(isRetain ? { retain: length, attributes } : { insert: below.insert, attributes });
         }
       }
     }
@@ -276,19 +352,22 @@ export class Delta {
    */
   invert(base) {
     const delta = new Delta();
-    let at = 0;
+    const parts = new Parts(base.ops);
     for (const op of this.ops) {
       const length = lengthOf(op);
       if (op.insert !== undefined) {
         delta.delete(length);
         continue;
       }
-      for (const old of op.delete === undefined && !op.attributes ? [] : base.slice(at, at + length).ops) {
-        if (op.delete !== undefined) delta.push(old);
-        else delta.retain(lengthOf(old), inverted(op.attributes, old.attributes));
+      const isPlain = op.delete === undefined && !op.attributes;
+      if (isPlain) delta.retain(length);
+      for (let left = length; left > 0 && !parts.isAtEnd; ) {
+        const taken = Math.min(left, parts.length);
+        if (isPlain) parts.skip(taken);
+        else if (op.delete !== undefined) delta.push(parts.next(taken));
+        else delta.retain(taken, inverted(op.attributes, parts.next(taken).attributes));
+        left -= taken;
       }
-      if (op.retain !== undefined && !op.attributes) delta.retain(length);
-      at += length;
     }
     return delta.chop();
   }

@@ -2,41 +2,40 @@
 
 import { Delta as OwnDelta } from "./delta.js";
 import { difference } from "./difference.js";
+import { Emitter } from "./emitter.js";
 import { Refusal, RichdError } from "./errors.js";
+import { ChangeEvent, DoubtEvent, RebasedEvent, StateEvent, TroubleEvent, UnkeptEvent } from "./events.js";
+import { History, Steps } from "./history.js";
+import { cutsPair, growthOf, reachOf, takenOver } from "./operations.js";
 import { parted } from "./parting.js";
 import { Pauses } from "./pauses.js";
 
 const ROOM = 48 * 1024; // bytes of an edit's operations, in a line that may have 65,536
 const LEAST_ROOM = 64;
+const MOST_PAST_ENDS = 4;
+const MOST_NEWS = 1_000; // revisions that wait for the answer to an edit; then it follows anew once that is there
+const MOST_DIFF = 10_000; // units of documents that quill-delta compares, character by character
 const NEVER = { timeout: Infinity }; // an edit is sent until it is answered
 
 /**
+ * How a document stands, the first of these that holds:
+ * - `closed`: nothing more is taken, as trouble said that was final, or `close` was called;
+ * - `offline`: there is no connection, `full`: because the server has no place; what is typed is sent once there is one;
+ * - `storeFailed`: the server's store has failed; what was typed is sent until the server is started anew;
+ * - `refused`: what was typed last was refused, and is no longer shown, as trouble said;
+ * - `saving`: something typed isn't on the server's disk yet;
+ * - `saved`: all is.
+ * @typedef {"closed" | "offline" | "full" | "storeFailed" | "refused" | "saving" | "saved"} DocumentState
+ *
  * @typedef {import("./delta.js").Op} Op
  * @typedef {import("./delta.js").Delta} Delta
  *
  * @typedef {object} OpenOptions
  * @property {Op[]} [create]  what the document is created with where it isn't there
- * @property {typeof OwnDelta} [Delta]  what composes and transforms: quill-delta's class, by default that of the page's Quill or of the
+ * @property {import("./delta.js").DeltaClass} [Delta]  what composes and transforms: quill-delta's class, by default that of the page's Quill or of the
  *     package where there is one
+ * @property {import("./keeping.js").Keeper} [keeper]  keeps what isn't on the server's disk yet; `richd/offline` gives one
  */
-
-/** What others did: `delta` changes what was shown before to `contents`. */
-export class ChangeEvent extends Event {
-  /** @param {Delta} delta */
-  constructor(delta) {
-    super("change");
-    this.delta = delta;
-  }
-}
-
-/** Something typed was refused for good, or the document can't be followed any more: `error` says why. */
-export class TroubleEvent extends Event {
-  /** @param {Error} error */
-  constructor(error) {
-    super("trouble");
-    this.error = error;
-  }
-}
 
 /** @returns {Promise<typeof OwnDelta>} */
 async function deltaClass() {
@@ -49,6 +48,22 @@ async function deltaClass() {
   } catch {
     return OwnDelta;
   }
+}
+
+/** @param {Op} op @returns {Op} */
+function copied(op) {
+  const copy = { ...op };
+  if (op.attributes !== undefined) copy.attributes = { ...op.attributes };
+  if (typeof op.insert === "object") copy.insert = { ...op.insert };
+  return copy;
+}
+
+/** @param {Op} op */
+function frozen(op) {
+  if (Object.isFrozen(op)) return op;
+  if (op.attributes !== undefined) Object.freeze(op.attributes);
+  if (typeof op.insert === "object") Object.freeze(op.insert);
+  return Object.freeze(op);
 }
 
 /**
@@ -70,18 +85,21 @@ async function fetchCreated(client, name, ops) {
     } catch (error) {
       if (error.code !== Refusal.NoDocument && error.code !== Refusal.Deleted) throw error;
     }
-    await new Promise((resolve) => setTimeout(resolve, pauses.next()));
+    await pauses.wait();
   }
 }
 
 /**
- * Sends "change" for what others did, "trouble" where something typed is lost, and "progress" where `revision` or `isSaved` may have
- * changed.
+ * Sends "change" for what others did, "trouble" where something typed is lost, "rebased" where it was fetched anew, "state" where its state is
+ * another than before, and "progress" where `revision` or `isSaved` may have changed.
  *
  * `base` is the document at `revision`. What is shown is `base`, with `sent` behind it, and `typed` behind that. News that comes while
  * `sent` has no answer is held until it has one: only then is it known which revision is its own.
+ *
+ * @extends {Emitter<{ change: ChangeEvent, trouble: TroubleEvent, doubt: DoubtEvent, unkept: UnkeptEvent, rebased: RebasedEvent,
+ *   state: StateEvent<DocumentState>, progress: Event }>}
  */
-export class Document extends EventTarget {
+export class RichDocument extends Emitter {
   /** @type {import("./richd.js").Client} */
   #client;
   /** @type {string} */
@@ -94,18 +112,33 @@ export class Document extends EventTarget {
   #revision;
   /** @type {Delta} */
   #contents;
+  #length = 0; // of it
   /** @type {Delta | null} */
   #sent = null;
   /** @type {number | null} the revision that `sent` made, once it is answered */
   #taken = null;
+  /** @type {number | undefined} the number of `sent`, where there is a keeper and it may have left */
+  #number;
+  /** @type {import("./keeping.js").Keeper | undefined} */
+  #keeper;
   /** @type {Delta} */
   #typed;
   /** @type {{ ops: Op[], rev: number }[]} */
   #news = [];
   #isStale = false; // the next revision isn't held any more, so the document has to be fetched anew
+  #isBehind = false; // it isn't followed, until the edit that is on its way is answered
   #isClosed = false;
+  #isRefused = false; // what was typed last
+  #hasStoreFailed = false;
+  /** @type {DocumentState} */
+  #state = "saved"; // that was told last
   #room = ROOM;
+  #strays = 0; // how often in a row it was fetched anew, and nothing was taken or told meanwhile
+  #pastEnds = 0; // how often in a row an edit was refused by PastEnd, though the document was fetched anew
+  #pauses = new Pauses();
   #leave = () => {};
+  #steps = new Steps();
+  #history = new History(this.#steps, (way) => this.#turn(way));
   /** @type {{ resolve: (revision: number) => void, reject: (error: Error) => void }[]} those who wait in `flush` */
   #waiting = [];
 
@@ -115,14 +148,26 @@ export class Document extends EventTarget {
    * @param {OpenOptions} [options]
    */
   static async open(client, name, options) {
-    const document = new Document();
+    const document = new RichDocument();
     document.#client = client;
     document.#name = name;
-    document.#Delta = options?.Delta ?? (await deltaClass());
+    document.#Delta = /** @type {any} */ (options?.Delta) ?? (await deltaClass());
     document.#typed = new document.#Delta();
-    const { rev, ops } = options?.create === undefined ? await client.fetch(name) : await fetchCreated(client, name, options.create);
-    document.#begin(rev, new document.#Delta(ops));
-    document.#contents = document.#base;
+    document.#keeper = options?.keeper;
+    const kept = await document.#keeper?.load();
+    if (kept !== undefined) {
+      document.#restore(kept);
+    } else {
+      const { rev, ops } = options?.create === undefined ? await client.fetch(name) : await fetchCreated(client, name, options.create);
+      document.#begin(rev, new document.#Delta(ops));
+      document.#contents = document.#base;
+    }
+    document.#length = document.#contents.length();
+    client.addEventListener("state", document.#tell);
+    document.#state = document.state;
+    document.#keeper?.watch(document, () => document.#snapshot());
+    if (document.#sent !== null) document.#sendOff();
+    else if (kept !== undefined) document.#goOn();
     return document;
   }
 
@@ -136,11 +181,35 @@ export class Document extends EventTarget {
   }
 
   /**
-   * What is shown.
+   * What is shown: a delta of the reader's own, of operations that are frozen.
    * @returns {Delta}
    */
   get contents() {
-    return this.#contents;
+    return new this.#Delta(this.#contents.ops.map(frozen));
+  }
+
+  /** How many units are shown: UTF-16 code units, and embeds. */
+  get length() {
+    return this.#length;
+  }
+
+  /** Undo and redo of what was typed here. */
+  get history() {
+    return this.#history;
+  }
+
+  /** Whether it is followed no longer: it was closed, or trouble came that is final. */
+  get isClosed() {
+    return this.#isClosed;
+  }
+
+  /** @returns {DocumentState} */
+  get state() {
+    if (this.#isClosed) return "closed";
+    if (this.#client.state !== "connected") return this.#client.state;
+    if (this.#hasStoreFailed) return "storeFailed";
+    if (this.#isRefused) return "refused";
+    return this.isSaved ? "saved" : "saving";
   }
 
   /** Whether all that was typed is on the server's disk. */
@@ -148,17 +217,77 @@ export class Document extends EventTarget {
     return this.#sent === null && this.#typed.ops.length === 0;
   }
 
+  /** Whether what is shown would outlive the page: it is on the server's disk, or kept. */
+  get isKept() {
+    return this.isSaved || (this.#keeper?.isUpToDate ?? false);
+  }
+
   /**
-   * Changes what is shown by something that was typed.
-   * @param {Op[] | { ops: Op[] }} ops
+   * Changes what is shown by something that was typed. Throws what a server would refuse it by, as BadOps, LineTooLong or PastEnd: then it
+   * isn't shown, and "trouble" tells of it too.
+   * @param {Op[] | { ops: Op[] } | import("./delta.js").QuillDelta} ops
    */
   apply(ops) {
     if (this.#isClosed) throw new RichdError(0, "Closed");
-    const delta = new this.#Delta(ops);
-    this.#contents = this.#contents.compose(delta);
+    let delta;
+    try {
+      delta = this.#readTyped(/** @type {Op[] | { ops: Op[] }} */ (ops));
+    } catch (error) {
+      this.#isRefused = true;
+      this.#tell();
+      this.dispatchEvent(new TroubleEvent(error, new this.#Delta(ops), false));
+      throw error;
+    }
+    this.#steps.record(delta.invert(this.#contents));
+    this.#type(delta);
+  }
+
+  /** @param {Delta} delta */
+  #type(delta) {
+    this.#change(delta);
     this.#typed = this.#typed.compose(delta);
+    this.#isRefused = false;
     queueMicrotask(() => this.#send()); // what is typed in one go is sent in one edit
+    this.#tell();
+  }
+
+  /** @param {Delta} delta  what is shown otherwise */
+  #change(delta) {
+    this.#contents = this.#contents.compose(delta);
+    this.#length += growthOf(delta);
+  }
+
+  // The event has operations of its own, since whoever is told may keep and change them.
+  /** @param {Delta} delta */
+  #changeEvent({ ops }) {
+    return new ChangeEvent(new this.#Delta(ops.map(copied)));
+  }
+
+  // Tells that it may stand otherwise than before.
+  #tell = () => {
     this.dispatchEvent(new Event("progress"));
+    const { state } = this;
+    if (state === this.#state) return;
+    this.#state = state;
+    this.dispatchEvent(new StateEvent(state));
+  };
+
+  /** @param {"undo" | "redo"} way */
+  #turn(way) {
+    if (this.#isClosed) throw new RichdError(0, "Closed");
+    const step = this.#steps.take(way, this.#contents);
+    if (step === undefined) return false;
+    this.#type(step);
+    this.dispatchEvent(this.#changeEvent(step));
+    return true;
+  }
+
+  /** @param {Op[] | { ops: Op[] }} ops */
+  #readTyped(ops) {
+    const delta = takenOver(Array.isArray(ops) ? ops : ops.ops);
+    if (reachOf(delta) > this.#length) throw new RichdError(Refusal.PastEnd, "PastEnd");
+    if (cutsPair(delta, this.#contents)) throw new RichdError(Refusal.CutsPair, "CutsPair");
+    return new this.#Delta(delta.ops);
   }
 
   /**
@@ -184,16 +313,28 @@ export class Document extends EventTarget {
   #begin(revision, base) {
     this.#revision = revision;
     this.#base = base;
-    this.#news = [];
     this.#isStale = false;
+    this.#follow();
+  }
+
+  #follow() {
+    this.#isBehind = false;
+    this.#news = [];
     this.#leave = this.#client.onNews(this.#name, {
-      rev: revision,
+      rev: this.#revision,
       onNews: (ops, rev) => {
         this.#news.push({ ops, rev });
+        if (this.#news.length > MOST_NEWS) this.#fallBehind();
         this.#goOn();
       },
       onEnd: (error) => this.#onEnd(error),
     });
+  }
+
+  #fallBehind() {
+    this.#leave();
+    this.#news = [];
+    this.#isBehind = true;
   }
 
   /** @param {RichdError} error */
@@ -208,13 +349,48 @@ export class Document extends EventTarget {
     const [first, rest] = parted(this.#typed, this.#room);
     this.#sent = new this.#Delta(first.ops);
     this.#typed = new this.#Delta(rest.ops);
-    this.#client.edit(this.#name, first.ops, this.#revision, NEVER).then(
+    this.#number = undefined;
+    this.#sendOff();
+  }
+
+  // Sends `sent`, again where it has a number. With a keeper it leaves once it is written, with its number.
+  #sendOff() {
+    const keeper = this.#keeper;
+    const hold = keeper && (async (/** @type {number} */ number) => {
+      if (number === this.#number) return keeper.confirmLease();
+      await keeper.askLease();
+      this.#number = number;
+      await keeper.write();
+    });
+    const limits = { ...NEVER, onRetry: (/** @type {RichdError} */ error) => this.#onRetry(error), hold, kept: this.#number, signal: keeper?.signal };
+    this.#client.edit(this.#name, this.#sent.ops, this.#revision, limits).then(
       ({ rev }) => {
+        this.#hasStoreFailed = false;
+        if (this.#typed.ops.length === 0) this.#room = Math.min(ROOM, 2 * this.#room);
         this.#taken = rev;
+        this.#strays = this.#pastEnds = 0;
         this.#goOn();
       },
       (error) => this.#onRefusal(error),
     );
+  }
+
+  /** @returns {import("./keeping.js").Snapshot} */
+  #snapshot() {
+    const [base, revision, isStale, sent, typed] = [this.#base, this.#revision, this.#isStale, this.#sent, this.#typed];
+    return { base, revision, isStale, sent, number: sent === null ? undefined : this.#number, typed };
+  }
+
+  // Begins with what was kept. What was to be sent, and never left, is typed.
+  /** @param {import("./keeping.js").Kept} kept */
+  #restore({ base, revision, isStale, sent, number, typed }) {
+    const [leaving, behind] = [new this.#Delta(sent ?? []), new this.#Delta(typed)];
+    this.#begin(revision, new this.#Delta(base));
+    this.#isStale = isStale;
+    this.#contents = this.#base.compose(leaving).compose(behind);
+    this.#number = number;
+    this.#sent = number === undefined ? null : leaving;
+    this.#typed = number === undefined ? leaving.compose(behind) : behind;
   }
 
   // Takes over what has come, and sends what there is to be sent.
@@ -226,12 +402,16 @@ export class Document extends EventTarget {
       }
       const next = this.#news.shift();
       if (next === undefined) break;
-      if (next.rev === this.#revision + 1) this.#takeOver(new this.#Delta(next.ops), next.rev);
+      if (next.rev !== this.#revision + 1) continue;
+      if (reachOf(next) <= this.#base.length()) this.#takeOver(new this.#Delta(next.ops), next.rev);
+      else this.#isStale = true; // this copy isn't the server's
     }
+    if (this.#isClosed) return;
+    if (this.#isBehind && !this.#isStale && !this.#isInDoubt) this.#follow();
     if (this.#isStale && !this.#isInDoubt) this.#fetchAnew();
     else this.#send();
     if (this.isSaved) for (const { resolve } of this.#waiting.splice(0)) resolve(this.#revision);
-    this.dispatchEvent(new Event("progress"));
+    this.#tell();
   }
 
   // Takes over what was sent. Where its number made an older revision, somebody else had used it before, and it is sent anew.
@@ -253,6 +433,7 @@ export class Document extends EventTarget {
   #takeOver(change, revision) {
     this.#base = this.#base.compose(change);
     this.#revision = revision;
+    this.#strays = 0;
     if (this.#sent !== null) {
       const sent = change.transform(this.#sent, true);
       change = this.#sent.transform(change, false);
@@ -269,26 +450,46 @@ export class Document extends EventTarget {
     const shown = this.#typed.transform(change, false);
     this.#typed = change.transform(this.#typed, true);
     if (shown.ops.length === 0) return;
-    this.#contents = this.#contents.compose(shown);
-    this.dispatchEvent(new ChangeEvent(shown));
+    this.#steps.move(shown);
+    this.#change(shown);
+    this.dispatchEvent(this.#changeEvent(shown));
+  }
+
+  /** @param {RichdError} error */
+  #onRetry(error) {
+    this.#hasStoreFailed = error.code === Refusal.StoreFailed;
+    this.#tell();
   }
 
   /** @param {RichdError} error */
   #onRefusal(error) {
+    this.#hasStoreFailed = false;
     if (error.name === "Closed") return this.#stop(error);
+    if (error.name === "InDoubt") return this.#leaveOut();
     const isTooLong = [Refusal.TooManyOps, Refusal.TooWide, Refusal.LineTooLong].includes(error.code);
-    const isElsewhere = [Refusal.Future, Refusal.TooOld, Refusal.PastEnd].includes(error.code);
+    const isElsewhere = [Refusal.Future, Refusal.TooOld].includes(error.code) || (error.code === Refusal.PastEnd && this.#pastEnds < MOST_PAST_ENDS);
     const typed = this.#sent.compose(this.#typed);
+    const isOnePart = parted(this.#sent, LEAST_ROOM)[1].ops.length === 0;
     this.#sent = null;
-    if (isTooLong && this.#room > LEAST_ROOM) {
+    if (isTooLong && !isOnePart && this.#room > LEAST_ROOM) {
       this.#typed = typed;
       this.#room /= 2;
     } else if (isElsewhere) {
+      if (error.code === Refusal.PastEnd) this.#pastEnds += 1;
       this.#typed = typed;
       this.#isStale = true;
     } else {
       this.#drop(typed, error);
     }
+    this.#goOn();
+  }
+
+  // Takes what was sent out of what is shown. Where it was taken it comes as others' changes do.
+  #leaveOut() {
+    const [inDoubt, revision] = [this.#sent, this.#revision];
+    this.#sent = null;
+    this.#show(inDoubt.invert(this.#base));
+    this.dispatchEvent(new DoubtEvent(inDoubt, revision));
     this.#goOn();
   }
 
@@ -300,10 +501,15 @@ export class Document extends EventTarget {
   #drop(typed, error) {
     const shown = typed.invert(this.#base);
     this.#typed = new this.#Delta();
+    this.#steps.clear();
+    this.#room = ROOM;
     this.#contents = this.#base;
+    this.#length = this.#base.length();
+    this.#strays = this.#pastEnds = 0;
+    this.#isRefused = true;
     for (const { reject } of this.#waiting.splice(0)) reject(error);
-    this.dispatchEvent(new ChangeEvent(shown));
-    this.dispatchEvent(new TroubleEvent(error));
+    this.dispatchEvent(this.#changeEvent(shown));
+    this.dispatchEvent(new TroubleEvent(error, typed, false));
   }
 
   // Fetches the newest revision, and moves what was typed onto it as if one change had come.
@@ -311,23 +517,44 @@ export class Document extends EventTarget {
     this.#leave();
     if (this.#sent !== null) this.#base = this.#base.compose(this.#sent);
     this.#sent = this.#taken = null;
+    this.#strays += 1;
+    if (this.#strays === 1) this.#pauses.reset();
+    else await this.#pauses.wait();
+    if (this.#isClosed) return;
     try {
       const { rev, ops } = await this.#client.fetch(this.#name, undefined, NEVER);
       if (this.#isClosed) return;
       const fetched = new this.#Delta(ops);
-      const change = new this.#Delta(difference(this.#base, fetched).ops);
+      const change = this.#differenceTo(fetched);
+      const from = this.#revision;
+      this.#steps.clear();
       this.#begin(rev, fetched);
       this.#show(change);
+      this.dispatchEvent(new RebasedEvent(from, rev));
       this.#goOn();
     } catch (error) {
       this.#fail(error);
     }
   }
 
+  /**
+   * What makes a later revision of `base`.
+   * @param {Delta} fetched
+   * @returns {Delta}
+   */
+  #differenceTo(fetched) {
+    const { diff } = /** @type {any} */ (this.#base);
+    const isSmall = Math.max(this.#base.length(), fetched.length()) <= MOST_DIFF;
+    if (typeof diff === "function" && isSmall) return diff.call(this.#base, fetched);
+    return new this.#Delta(difference(this.#base, fetched).ops);
+  }
+
   /** @param {any} error */
   #fail(error) {
     this.#stop(error);
-    if (error.name !== "Closed") this.dispatchEvent(new TroubleEvent(error));
+    if (error.name === "Closed") return;
+    const lost = this.#isInDoubt ? this.#sent.compose(this.#typed) : this.#typed;
+    this.dispatchEvent(new TroubleEvent(error, lost, true));
   }
 
   /** @param {any} error */
@@ -335,6 +562,11 @@ export class Document extends EventTarget {
     if (this.#isClosed) return;
     this.#isClosed = true;
     this.#leave();
+    if (error instanceof RichdError && error.code > 0) this.#keeper?.forget(error);
+    else this.#keeper?.close(error);
+    this.#pauses.end();
+    this.#client.removeEventListener("state", this.#tell);
     for (const { reject } of this.#waiting.splice(0)) reject(error);
+    this.#tell();
   }
 }

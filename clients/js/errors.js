@@ -1,8 +1,16 @@
 // What may go wrong.
 
 /**
+ * @typedef {"Timeout" | "Closed" | "Cut" | "Full" | "Parted" | "InDoubt"} OwnName  of an error of the client itself
+ * @typedef {"BadLine" | "BadMessage" | "BadOps" | "TooManyOps" | "NoHello" | "NoDocument" | "Exists" | "BadName" | "Gap" | "OldNumber"
+ *   | "TooManySources" | "Future" | "TooOld" | "PastEnd" | "CutsPair" | "TooHeavy" | "TooWide" | "RevisionsSpent" | "NothingToUndo"
+ *   | "TooManyDocuments" | "StoreFailed" | "NoMemory" | "LineTooLong" | "Deleted"} RefusalName  of a refusal of the server
+ */
+
+/**
  * A refusal of the server, with its number and name (13 and "TooOld"), or one of the client itself, with 0 for its number:
- * "Timeout", "Closed", or "Cut", the cause of a call that had no connection.
+ * "Timeout", "Closed", "Cut" and "Full" as causes of a call that had no connection, "Parted" of an editor that showed something else, and
+ * "InDoubt" of an edit that was kept, and isn't sent again.
  */
 export class RichdError extends Error {
   /**
@@ -13,12 +21,14 @@ export class RichdError extends Error {
   constructor(code, name, cause) {
     super(code === 0 ? name : `${code} ${name}`, cause === undefined ? undefined : { cause });
     this.code = code;
-    this.name = name;
+    /** @type {OwnName | RefusalName} */
+    this.name = /** @type {any} */ (name);
   }
 }
 
 /** The numbers of the refusals that the client itself answers in some way. */
 export const Refusal = {
+  BadOps: 3,
   TooManyOps: 4,
   NoDocument: 6,
   Exists: 7,
@@ -27,6 +37,7 @@ export const Refusal = {
   Future: 12,
   TooOld: 13,
   PastEnd: 14,
+  CutsPair: 15,
   TooWide: 17,
   StoreFailed: 21,
   NoMemory: 22,

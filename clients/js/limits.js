@@ -4,6 +4,8 @@
  * @typedef {object} Limits
  * @property {AbortSignal} [signal]  ends the call with the signal's reason
  * @property {number} [timeout]  milliseconds, `Infinity` for no end
+ * @property {(error: import("./errors.js").RichdError) => void} [onRetry]  is called each time that the server had failed or had no memory, and
+ *     what was asked will be sent again
  */
 
 /**
@@ -29,23 +31,5 @@ export function within(promise, { signal, timeout }, late) {
   return limited.finally(() => {
     clearTimeout(timer);
     signal?.removeEventListener("abort", abort);
-  });
-}
-
-/**
- * Waits so many milliseconds, or until the signal comes.
- * @param {number} milliseconds
- * @param {AbortSignal} signal
- * @returns {Promise<void>}
- */
-export function pause(milliseconds, signal) {
-  return new Promise((resolve) => {
-    const done = () => {
-      clearTimeout(timer);
-      signal.removeEventListener("abort", done);
-      resolve();
-    };
-    const timer = setTimeout(done, milliseconds);
-    signal.addEventListener("abort", done);
   });
 }

@@ -21,6 +21,11 @@ export class News {
     this.#ask = ask;
   }
 
+  /** Whether nobody follows. */
+  get isIdle() {
+    return this.#followers.size === 0;
+  }
+
   /** @param {Follower} follower */
   join(follower) {
     this.#followers.add(follower);

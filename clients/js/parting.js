@@ -1,11 +1,10 @@
 // How an edit that is too long for one line is sent in several.
 
 import { Delta, lengthOf } from "./delta.js";
+import { bytesOf } from "./operations.js";
 
 const MOST_OPS = 1_000;
-const encoder = new TextEncoder();
-/** @param {import("./delta.js").Op} op */
-const bytesOf = (op) => encoder.encode(JSON.stringify(op)).length + 1;
+const MOST_CHARACTER = 12; // bytes of a character in JSON
 
 /**
  * The longest beginning of a text that takes so many bytes as JSON, and parts no character; at least one character.
@@ -15,17 +14,20 @@ const bytesOf = (op) => encoder.encode(JSON.stringify(op)).length + 1;
 function beginningOf(text, bytes) {
   let [end, taken] = [0, 0];
   for (const character of text) {
-    taken += encoder.encode(JSON.stringify(character)).length - 2;
+    taken += bytesOf(character) - 3;
     if (taken > bytes && end > 0) break;
     end += character.length;
   }
   return text.slice(0, end);
 }
 
+/** @param {import("./delta.js").Op} op */
+const doesNothing = (op) => op.retain !== undefined && op.attributes === undefined;
+
 /**
- * Parts an edit in two that do the same one after the other. The first takes about so many bytes as JSON, and at least one operation or
- * character. The second is made on what the first made, and has no operations where the first is the whole.
- * @param {Delta} delta
+ * Parts an edit in two that do the same one after the other. The first takes about so many bytes as JSON, and does something at least:
+ * one operation, or one character. The second is made on what the first made, and has no operations where the first is the whole.
+ * @param {{ ops: import("./delta.js").Op[] }} delta
  * @param {number} room
  * @returns {[Delta, Delta]}
  */
@@ -38,11 +40,15 @@ export function parted({ ops }, room) {
   }
   const later = ops.slice(index);
   const [op] = later;
-  if (index < MOST_OPS && typeof op?.insert === "string") {
-    const beginning = beginningOf(op.insert, free - bytesOf({ ...op, insert: "" }));
-    first.push({ ...op, insert: beginning });
-    later[0] = { ...op, insert: op.insert.slice(beginning.length) };
-  } else if (index === 0 && later.length > 0) {
+  const hasNothing = first.ops.every(doesNothing);
+  if (op !== undefined && typeof op.insert === "string") {
+    const left = free - bytesOf({ ...op, insert: "" });
+    if (hasNothing || (index < MOST_OPS && left >= MOST_CHARACTER)) {
+      const beginning = beginningOf(op.insert, left);
+      first.push({ ...op, insert: beginning });
+      later[0] = { ...op, insert: op.insert.slice(beginning.length) };
+    }
+  } else if (op !== undefined && hasNothing) {
     first.push(later.shift());
   }
   const rest = new Delta();

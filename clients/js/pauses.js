@@ -6,6 +6,7 @@ const LAST_PAUSE = 5_000;
 /** Pauses that double, from a tenth of a second up to five. */
 export class Pauses {
   #next = FIRST_PAUSE;
+  #end = () => {};
 
   next() {
     const pause = this.#next;
@@ -15,5 +16,24 @@ export class Pauses {
 
   reset() {
     this.#next = FIRST_PAUSE;
+  }
+
+  /**
+   * Waits for the next pause, or until `end` is called.
+   * @returns {Promise<void>}
+   */
+  wait() {
+    return new Promise((resolve) => {
+      const timer = setTimeout(resolve, this.next());
+      this.#end = () => {
+        clearTimeout(timer);
+        resolve();
+      };
+    });
+  }
+
+  /** Ends the pause that somebody waits for. */
+  end() {
+    this.#end();
   }
 }

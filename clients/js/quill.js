@@ -1,40 +1,241 @@
 // Binds an editor to a document: Quill, or whatever has its `getContents`, `setContents`, `updateContents` and `on("text-change")`.
 
+import { lengthOf } from "./delta.js";
+import { difference } from "./difference.js";
+import { RichdError } from "./errors.js";
+import { TroubleEvent } from "./events.js";
+import { growthOf, reachOf } from "./operations.js";
+
+/**
+ * @typedef {import("./delta.js").Op} Op
+ * @typedef {import("./delta.js").Delta} Delta
+ * @typedef {import("./document.js").RichDocument} RichDocument
+ *
+ * @callback Upload  keeps what an embed has as a data URL, as a pasted image does, and gives the URL that is put in its place
+ * @param {string} dataUrl
+ * @param {string} name  the embed's, as "image"
+ * @returns {Promise<string> | string}
+ *
+ * @typedef {object} BindOptions
+ * @property {Upload} [upload]  without it an embed goes into the document as it is, or is refused where it is too long for a line
+ */
+
 /**
  * Shows a document in an editor, and keeps both alike. An editor of Quill's kind wants a line's end at the end of its contents, which is
- * added to the document where it has none.
+ * added to the document where it has none. The editor's history keeps what its user did from here on, and nothing else. What the document
+ * refuses is taken out of the editor again, and the document's "trouble" tells of it; so it does where the editor is found to show something
+ * else than the document ("Parted"). Where the document is closed the editor is disabled.
  * @param {any} quill
- * @param {import("./document.js").Document} document
+ * @param {RichDocument} document
+ * @param {BindOptions} [options]
  * @returns {() => void} ends the binding
  */
-export function bind(quill, document) {
-  let isShowing = false; // what the editor is told to do comes back as a text-change, and isn't typed
+export function bind(quill, document, options) {
+  const binding = new Binding(quill, document, options);
+  return () => binding.end();
+}
+
+/**
+ * While an input method composes a character the editor is left alone: `held` is what others did meanwhile, and the document is what the
+ * editor shows with `held` behind it.
+ */
+class Binding {
+  #quill;
+  #document;
+  #upload;
+  #Delta;
+  #source = { name: "richd" }; // of what this binding does to the editor; all else was typed
+  /** @type {Delta} */
+  #held;
+  #isComposing = false;
+  #isShowing = false; // the editor is told to do something
+  #hasTold = false; // and has told that it did it
+  /** @type {Delta[]} what the user did that the editor told before that */
+  #within = [];
+  /** @type {Set<{ index: number }>} where what is uploaded will stand */
+  #places = new Set();
+  /** @type {{ place: { index: number }, op: Op }[]} */
+  #uploaded = [];
+  #ending = new AbortController();
+
+  /** @param {any} quill @param {RichDocument} document @param {BindOptions} [options] */
+  constructor(quill, document, { upload } = {}) {
+    this.#quill = quill;
+    this.#document = document;
+    this.#upload = upload;
+    this.#Delta = /** @type {any} */ (document.contents.constructor);
+    this.#held = new this.#Delta();
+    if (!document.isClosed) this.#addLineEnd();
+    this.#tell(() => quill.setContents(new this.#Delta([...document.contents.ops]), this.#source));
+    quill.history?.clear?.();
+    if (quill.history?.options) quill.history.options.userOnly = true;
+    if (document.isClosed) return void quill.enable?.(false);
+    const { signal } = this.#ending;
+    quill.on("text-change", this.#onTyped);
+    document.addEventListener("change", (/** @type {any} */ { delta }) => this.#onChange(delta), { signal });
+    document.addEventListener("state", (/** @type {any} */ { state }) => state === "closed" && this.#close(), { signal });
+    quill.root?.addEventListener("compositionstart", () => (this.#isComposing = true), { signal });
+    quill.root?.addEventListener("compositionend", () => queueMicrotask(() => this.#afterComposition()), { signal });
+  }
+
+  end() {
+    this.#quill.off?.("text-change", this.#onTyped);
+    this.#ending.abort();
+  }
+
+  #close() {
+    this.end();
+    this.#quill.enable?.(false);
+  }
+
+  /** Returns whether the document had no line's end at its end. */
+  #addLineEnd() {
+    const last = this.#document.contents.ops.at(-1)?.insert;
+    if (typeof last === "string" && last.endsWith("\n")) return false;
+    this.#document.apply(new this.#Delta().retain(this.#document.length).insert("\n"));
+    return true;
+  }
+
   /** @param {() => void} change */
-  const show = (change) => {
-    isShowing = true;
+  #tell(change) {
+    this.#isShowing = true;
+    this.#hasTold = false;
     try {
       change();
     } finally {
-      isShowing = false;
+      this.#isShowing = false;
     }
-  };
-  /** @param {{ ops: import("./delta.js").Op[] }} delta */
-  const onTyped = (delta) => {
-    if (!isShowing) document.apply(delta.ops);
-  };
-  /** @param {any} event */
-  const onChange = ({ delta }) => show(() => quill.updateContents({ ops: delta.ops }, "api"));
-
-  const last = document.contents.ops.at(-1)?.insert;
-  if (typeof last !== "string" || !last.endsWith("\n")) {
-    const length = document.contents.length();
-    document.apply([...(length > 0 ? [{ retain: length }] : []), { insert: "\n" }]);
   }
-  show(() => quill.setContents({ ops: document.contents.ops }, "api"));
-  quill.on("text-change", onTyped);
-  document.addEventListener("change", onChange);
-  return () => {
-    quill.off?.("text-change", onTyped);
-    document.removeEventListener("change", onChange);
+
+  /** @param {Delta} delta @param {Delta | undefined} before @param {unknown} source */
+  #onTyped = (delta, before, source) => {
+    if (source === this.#source || (this.#isShowing && source === undefined)) {
+      this.#hasTold = true;
+      return;
+    }
+    const typed = new this.#Delta(delta.ops);
+    if (this.#isShowing && source === "user" && !this.#hasTold) return void this.#within.push(typed);
+    const shown = before?.length?.() ?? this.#quill.getContents().length() - growthOf(typed);
+    if (shown + growthOf(this.#held) !== this.#document.length) return this.#onParted(typed);
+    const held = this.#held;
+    this.#held = typed.transform(held, false);
+    this.#take(held.transform(typed, true));
   };
+
+  // The editor shows something else than the document, so nobody knows where it was typed. One that can't show it is given up.
+  /** @param {Delta} typed */
+  #onParted(typed) {
+    this.#setRight();
+    if (this.#quill.getContents().length() !== this.#document.length) this.#close();
+    this.#document.dispatchEvent(new TroubleEvent(new RichdError(0, "Parted"), typed, false));
+  }
+
+  /**
+   * Hands on what was typed, or takes it out of the editor again.
+   * @param {Delta} typed
+   */
+  #take(typed) {
+    const [rest, uploads] = this.#upload === undefined ? [typed, []] : this.#withoutUploads(typed);
+    try {
+      if (rest.ops.length > 0) this.#document.apply(rest);
+    } catch (error) {
+      if (!(error instanceof RichdError)) throw error;
+      if (error.name === "Closed") return this.#close();
+      return this.#setRight();
+    }
+    for (const place of this.#places) place.index = rest.transformPosition(place.index);
+    for (const upload of uploads) this.#start(upload);
+    if (uploads.length > 0) this.#setRight();
+  }
+
+  /**
+   * What was typed without what is uploaded first, and where that will stand.
+   * @param {Delta} typed
+   * @returns {[Delta, { index: number, op: Op }[]]}
+   */
+  #withoutUploads(typed) {
+    const rest = new this.#Delta();
+    const uploads = [];
+    let index = 0;
+    for (const op of typed.ops) {
+      const [value] = typeof op.insert === "object" ? Object.values(op.insert) : [];
+      if (typeof value === "string" && value.startsWith("data:")) {
+        uploads.push({ index, op });
+        continue;
+      }
+      rest.push(op);
+      if (op.delete === undefined) index += lengthOf(op);
+    }
+    return [rest.chop(), uploads];
+  }
+
+  /** @param {{ index: number, op: Op }} upload */
+  async #start({ index, op }) {
+    const [[name, value]] = Object.entries(op.insert);
+    const place = { index };
+    this.#places.add(place);
+    try {
+      const url = await this.#upload(value, name);
+      this.#uploaded.push({ place, op: { ...op, insert: { [name]: url } } });
+      this.#show();
+    } catch (error) {
+      this.#places.delete(place);
+      const lost = new this.#Delta().retain(place.index).push(op);
+      if (!this.#ending.signal.aborted) this.#document.dispatchEvent(new TroubleEvent(error, lost, false));
+    }
+  }
+
+  /** @param {Delta} change */
+  #onChange(change) {
+    this.#held = this.#held.compose(change);
+    for (const place of this.#places) place.index = change.transformPosition(place.index);
+    this.#show();
+  }
+
+  #afterComposition() {
+    this.#isComposing = false;
+    this.#show();
+  }
+
+  // Shows what is held, and puts in what was uploaded, unless a character is being composed.
+  #show() {
+    if (this.#isComposing || this.#ending.signal.aborted) return;
+    this.#quill.update?.("user"); // what is in the page, and wasn't told yet, was done before
+    const change = this.#held;
+    this.#held = new this.#Delta();
+    if (change.ops.length > 0) this.#update(change);
+    const reachesEnd = reachOf(change) === this.#document.length - growthOf(change);
+    if (reachesEnd && this.#addLineEnd()) this.#setRight(); // somebody took it away
+    for (const { place, op } of this.#uploaded.splice(0)) {
+      this.#places.delete(place);
+      this.#quill.updateContents(new this.#Delta().retain(place.index).push(op), "user");
+    }
+  }
+
+  /**
+   * Changes the editor. What its user did and it tells meanwhile was done before, and is moved past the change; where it doesn't tell the
+   * change itself, that is in what it tells.
+   * @param {Delta} change
+   */
+  #update(change) {
+    this.#tell(() => this.#quill.updateContents(change, this.#source));
+    if (this.#within.length === 0) return;
+    const typed = this.#within.splice(0).reduce((all, next) => all.compose(next));
+    if (this.#hasTold) this.#take(change.transform(typed, true));
+    else this.#take(this.#differenceOf(this.#document.contents, this.#quill.getContents()));
+    this.#setRight();
+  }
+
+  // Makes the editor show the document, whatever it shows now.
+  #setRight() {
+    this.#held = new this.#Delta();
+    const change = this.#differenceOf(this.#quill.getContents(), this.#document.contents);
+    if (change.ops.length > 0) this.#tell(() => this.#quill.updateContents(change, this.#source));
+    if (this.#within.splice(0).length > 0) this.#take(this.#differenceOf(this.#document.contents, this.#quill.getContents()));
+  }
+
+  /** @param {Delta} from @param {Delta} to @returns {Delta} */
+  #differenceOf(from, to) {
+    return new this.#Delta(difference(from, to).ops);
+  }
 }

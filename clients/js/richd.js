@@ -1,49 +1,65 @@
 // A client of richd: one session at a time, which is begun again after a cut, with any number of calls and documents in it.
 
-import { Document } from "./document.js";
+import { RichDocument } from "./document.js";
+import { Emitter } from "./emitter.js";
 import { Refusal, RichdError } from "./errors.js";
+import { StateEvent } from "./events.js";
 import { follow } from "./follow.js";
-import { pause, within } from "./limits.js";
+import { within } from "./limits.js";
 import { Line } from "./line.js";
 import { News } from "./news.js";
 import { Pauses } from "./pauses.js";
 import { Session } from "./session.js";
+import { takeSource, thisPage } from "./sources.js";
+import { onWaking } from "./waking.js";
 
-export { Document, RichdError };
+export { RichDocument, RichDocument as Document, RichdError };
 
 const PATIENCE = 30_000; // milliseconds
+const MOST_DOCS = 1_000; // of which something is kept though nothing is asked; then the number of the oldest one is asked for anew
 
 /**
  * @typedef {import("./delta.js").Op} Op
  * @typedef {import("./limits.js").Limits} Limits
  *
+ * @typedef {"connected" | "offline" | "full" | "closed"} ClientState  "full" is "offline" where the server has no place
+ *
  * @typedef {object} Options
- * @property {string} [source]  the name of whoever makes the changes, which one program has at a time. Without it, a new one
+ * @property {string} [source]  the name of whoever makes the changes, which one program has at a time. Without it a page takes one of its
+ *     browser's, and a program a new one
  * @property {boolean} [isNew]  the source was never used before, so its numbers needn't be asked for
- * @property {number} [timeout]  how many milliseconds a call may take that names no other, and `connect`: 30,000 if it isn't given
+ * @property {number} [timeout]  how many milliseconds a call may take that names no other: 30,000 if it isn't given. Where it is given,
+ *     `connect` ends by it too
+ * @property {number} [patience]  after so many milliseconds without a byte the connection is cut, and begun again; after half of them the
+ *     server is asked whether it is there. 30,000 if it isn't given
  * @property {AbortSignal} [signal]  closes the client
  */
 
 /**
- * Connects to a server: `{ host, port }`, `{ command, args }` for a program of one's own, or `{ url }` for a WebSocket.
+ * Connects to a server: `{ host, port }`, `{ command, args }` for a program of one's own, or `{ url }` for a WebSocket. It waits until a
+ * server is there, however long that takes; who shows a state meanwhile makes a `Client`, and waits for its `connected`.
  * @param {import("./links.js").Address & Options} options
  */
 export async function connect(options) {
-  const made = options.source === undefined ? { source: await newSource(), isNew: true } : {};
-  const client = new Client({ timeout: PATIENCE, ...options, ...made });
+  const client = new Client(options);
   await client.connected();
   return client;
 }
 
-async function newSource() {
-  const crypto = globalThis.crypto ?? (await import("node:crypto")).webcrypto;
-  const bytes = crypto.getRandomValues(new Uint8Array(12));
-  return "js-" + [...bytes].map((byte) => byte.toString(16).padStart(2, "0")).join("");
-}
-
-/** Sends the events "connected" and "cut". */
-export class Client extends EventTarget {
+/**
+ * Connects by itself, and again after each cut. It sends "state" where its state is another than before, "connected" as a session begins, and
+ * "cut" as one ends by itself.
+ * @template {{ [name: string]: Event }} [More={}]
+ * @extends {Emitter<{ state: StateEvent<ClientState>, connected: Event, cut: Event } & More>}
+ */
+export class Client extends Emitter {
   #options;
+  /** @type {string | undefined} */
+  #source;
+  #isNew; // nothing was ever changed by the source
+  #release = () => {}; // gives the source back
+  /** @type {ClientState} */
+  #state = "offline";
   /** @type {Session | null} */
   #session = null;
   /** @type {Promise<void>} */
@@ -54,21 +70,31 @@ export class Client extends EventTarget {
   #closing = new AbortController();
   /** @type {Map<string, { line: Line, news: News }>} */
   #docs = new Map();
+  #hasForgotten = false; // one of them
 
   /** @param {import("./links.js").Address & Options} options */
   constructor(options) {
     super();
     this.#options = options;
+    this.#source = options.source;
+    this.#isNew = options.isNew ?? false;
     options.signal?.addEventListener("abort", () => this.#shut(options.signal.reason));
+    const endWaking = onWaking(() => this.#wake());
+    this.#closing.signal.addEventListener("abort", endWaking);
     this.#begin();
   }
 
-  /** The source's name. */
+  /** The source's name: where a new one is made up, once the first session begins. */
   get source() {
-    return this.#options.source;
+    return this.#source;
   }
 
-  /** Waits for the first session. */
+  /** @returns {ClientState} */
+  get state() {
+    return this.#state;
+  }
+
+  /** Waits until it is connected. */
   async connected() {
     try {
       await within(this.#beginning, this.#options, () => new RichdError(0, "Timeout", this.#trouble));
@@ -172,7 +198,7 @@ export class Client extends EventTarget {
    * @param {import("./document.js").OpenOptions} [options]
    */
   open(doc, options) {
-    return Document.open(this, doc, options);
+    return RichDocument.open(this, doc, options);
   }
 
   /** Ends the session, once all that was sent is answered. What wasn't sent ends with "Closed". */
@@ -181,6 +207,7 @@ export class Client extends EventTarget {
     this.#stop(new RichdError(0, "Closed"));
     session?.end();
     await session?.ended;
+    this.#release();
   }
 
   /**
@@ -194,19 +221,24 @@ export class Client extends EventTarget {
     return { rev };
   }
 
-  /** @param {string} doc @param {import("./session.js").Message} message @param {boolean} isCommand @param {Limits} [limits] */
+  /**
+   * @param {string} doc
+   * @param {import("./session.js").Message} message
+   * @param {boolean} isCommand
+   * @param {Limits & Pick<import("./line.js").Item, "hold" | "kept">} [limits]
+   */
   async #ask(doc, message, isCommand, limits) {
     this.#closing.signal.throwIfAborted();
     const { line } = this.#of(doc);
     /** @type {any} */
-    const item = { message: { ...message, doc }, isCommand };
+    const item = { message: { ...message, doc }, isCommand, onRetry: limits?.onRetry, hold: limits?.hold, kept: limits?.kept };
     const answer = new Promise((resolve, reject) => {
       item.settle = (/** @type {any} */ error, /** @type {any} */ reply) => (error ? reject(error) : resolve(reply));
     });
     line.add(item);
     try {
       const late = () => item.trouble ?? new RichdError(0, "Timeout");
-      return await within(answer, { timeout: this.#options.timeout, ...limits }, late);
+      return await within(answer, { timeout: this.#options.timeout ?? PATIENCE, ...limits }, late);
     } catch (error) {
       line.remove(item);
       throw error;
@@ -216,12 +248,22 @@ export class Client extends EventTarget {
   /** @param {string} doc */
   #of(doc) {
     if (!this.#docs.has(doc)) {
-      const line = new Line(doc, this.#options.isNew);
+      if (this.#docs.size >= MOST_DOCS) this.#forget();
+      const line = new Line(doc, this.#isNew && !this.#hasForgotten);
       const news = new News((message, settle) => line.add({ message: { ...message, doc }, isCommand: false, settle }));
       line.session = this.#session;
       this.#docs.set(doc, { line, news });
     }
     return this.#docs.get(doc);
+  }
+
+  #forget() {
+    for (const [doc, { line, news }] of this.#docs) {
+      if (!line.isIdle || !news.isIdle) continue;
+      this.#docs.delete(doc);
+      this.#hasForgotten = true;
+      return;
+    }
   }
 
   #begin(isAgain = false) {
@@ -233,29 +275,53 @@ export class Client extends EventTarget {
   async #tryToBegin(isAgain) {
     const { signal } = this.#closing;
     for (; ; isAgain = true) {
-      if (isAgain) await pause(this.#pauses.next(), signal);
+      if (isAgain && !signal.aborted) await this.#pauses.wait();
       signal.throwIfAborted();
+      if (this.#source === undefined) await this.#takeSource();
       try {
-        this.#session = await Session.begin(this.#options, this.source, {
+        this.#session = await Session.begin(this.#options, this.#source, {
           onNews: (line) => this.#docs.get(line.doc)?.news.take(line),
           onEnd: () => this.#onCut(),
-          patience: PATIENCE,
+          patience: this.#options.patience ?? PATIENCE,
           signal,
         });
         if (!signal.aborted) break;
         this.#session.cut();
       } catch (error) {
         signal.throwIfAborted();
-        if (error.code === "ENOENT") throw error; // there is no such program
+        if (error.code === "ENOENT" || error instanceof TypeError) throw error; // no such program, or no such link here
         if (error.code > 0 && error.code !== Refusal.NoMemory) throw error; // the name is none
         this.#trouble = error;
+        this.#tell(error.cause?.name === "Full" ? "full" : "offline");
       }
     }
     for (const { line, news } of this.#docs.values()) {
       line.session = this.#session;
       news.renew();
     }
+    this.#tell("connected");
     this.dispatchEvent(new Event("connected"));
+  }
+
+  async #takeSource() {
+    const { source, isNew, release } = await takeSource(thisPage());
+    [this.#source, this.#isNew, this.#release] = [source, isNew, release];
+    if (this.#closing.signal.aborted) release();
+    if (isNew) for (const { line } of this.#docs.values()) line.beginNumbers();
+  }
+
+  // The network may be back: it connects at once, or looks whether the connection that there is still is one.
+  #wake() {
+    this.#pauses.reset();
+    this.#pauses.end();
+    this.#session?.check();
+  }
+
+  /** @param {ClientState} state */
+  #tell(state) {
+    if (state === this.#state || this.#state === "closed") return;
+    this.#state = state;
+    this.dispatchEvent(new StateEvent(state));
   }
 
   #onCut() {
@@ -263,6 +329,7 @@ export class Client extends EventTarget {
     this.#session = null;
     for (const { line } of this.#docs.values()) line.session = null;
     if (this.#closing.signal.aborted) return this.#stop(this.#closing.signal.reason);
+    this.#tell("offline");
     this.dispatchEvent(new Event("cut"));
     this.#begin(true);
   }
@@ -273,16 +340,19 @@ export class Client extends EventTarget {
    */
   #stop(error) {
     this.#closing.abort(error);
+    this.#pauses.end();
     for (const { line, news } of this.#docs.values()) {
       line.session = null;
       line.refuse(error);
       news.end(error);
     }
+    this.#tell("closed");
   }
 
   /** @param {any} error */
   #shut(error) {
     this.#stop(error);
     this.#session?.cut();
+    this.#release();
   }
 }

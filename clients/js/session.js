@@ -1,9 +1,10 @@
 // One session: a link, the lines that go over it, and the replies in the order of the messages.
 
 import { Refusal, RichdError } from "./errors.js";
+import { Heartbeat } from "./heartbeat.js";
+import { LineReader, isReplyTo, readLine } from "./lines.js";
 import { openLink } from "./links.js";
-
-const MAX_LINE = 65_536; // bytes, without the line's end
+import { MAX_LINE } from "./operations.js";
 
 /**
  * @typedef {object} Message  a line that is sent: its kind, and the members that this kind has
@@ -24,25 +25,27 @@ const MAX_LINE = 65_536; // bytes, without the line's end
  * @property {import("./delta.js").Op[][]} [deltas]
  * @property {number} [news]
  * @property {number} [ended]
+ * @property {number} [code]
+ * @property {string} [error]
  *
  * @callback Settle  is called once for each message, in their order, before any later line is read
  * @param {RichdError | null} error
  * @param {any} [reply]
  */
 
+/** A message that changes nothing: it is of no document. @type {Message} */
+const NOTHING = { do: "unsubscribe", doc: "-" };
+
 export class Session {
   /** @type {import("./links.js").Link} */
   #link;
-  #part = ""; // of the line that is still being read
-  #decoder = new TextDecoder();
-  /** @type {Settle[]} */
+  #reader = new LineReader();
+  /** @type {{ message: Message, settle: Settle }[]} */
   #waiting = [];
-  /** @type {ReturnType<typeof setTimeout> | undefined} */
-  #timer;
+  /** @type {Heartbeat} */
+  #heartbeat;
   /** @type {{ onNews: (line: Reply) => void, onEnd: () => void }} */
   #listener;
-  /** @type {number} */
-  #patience;
   #isEnding = false;
   #hasEnded = false;
   #lines = 0; // that came
@@ -59,18 +62,25 @@ export class Session {
    * @param {object} options
    * @param {(line: Reply) => void} options.onNews  is called with each line of news
    * @param {() => void} options.onEnd  is called when the session ends that was begun
-   * @param {number} options.patience  after so many milliseconds in which nothing came, though a reply is due, the session is cut
+   * @param {number} options.patience  after so many milliseconds in which nothing came the session is cut; after half of them it asks
    * @param {AbortSignal} [options.signal]  cuts the session while it begins
    */
   static async begin(address, source, { onNews, onEnd, patience, signal }) {
     const session = new Session();
     session.#listener = { onNews, onEnd: () => {} };
-    session.#patience = patience;
-    const link = await openLink(address, {
-      onBytes: (bytes) => session.#read(session.#decoder.decode(bytes, { stream: true })),
-      onClose: (cause) => session.#close(cause),
-    });
+    const listener = {
+      onBytes: (/** @type {Uint8Array} */ bytes) => session.#read(bytes),
+      onClose: (/** @type {Error | undefined} */ cause) => session.#close(cause),
+    };
+    const link = await openLink(address, listener, patience);
     session.#link = link;
+    session.#heartbeat = new Heartbeat({
+      patience,
+      isDue: () => session.#waiting.length > 0 || session.#isEnding,
+      ask: () => session.send(NOTHING, () => {}),
+      giveUp: () => session.cut(),
+    });
+    if (session.#hasEnded) session.#heartbeat.end();
     const cut = () => link.cut();
     signal?.addEventListener("abort", cut);
     if (signal?.aborted) cut();
@@ -104,15 +114,21 @@ export class Session {
     const line = new TextEncoder().encode(JSON.stringify(message) + "\n");
     if (this.#hasEnded) return settle(new RichdError(0, "Cut"));
     if (line.length > MAX_LINE + 1) return settle(new RichdError(Refusal.LineTooLong, "LineTooLong"));
-    this.#waiting.push(settle);
-    if (this.#waiting.length === 1) this.#watch();
+    if (this.#waiting.length === 0 && message !== NOTHING) this.#heartbeat.begin();
+    this.#waiting.push({ message, settle });
     this.#link.send(line);
+  }
+
+  /** Asks whether the other end is there, and cuts the session where it doesn't answer soon. */
+  check() {
+    this.#heartbeat.check();
   }
 
   /** Ends the session once all that was sent is answered. */
   end() {
     this.#isEnding = true;
-    this.#watch();
+    this.#heartbeat.begin();
+    this.#endLink();
   }
 
   /** Ends the session at once. */
@@ -121,51 +137,44 @@ export class Session {
     this.#close();
   }
 
-  /** @param {string} text */
-  #read(text) {
+  /** @param {Uint8Array} bytes */
+  #read(bytes) {
     if (this.#hasEnded) return;
-    this.#watch();
-    const lines = text.split("\n");
-    for (let index = 0; index + 1 < lines.length; index += 1) {
-      const line = this.#part + lines[index];
-      this.#part = "";
-      this.#take(line);
-    }
-    this.#part += lines.at(-1);
+    this.#heartbeat?.begin();
+    const lines = this.#reader.read(bytes);
+    if (lines === undefined) return this.cut();
+    for (const line of lines) this.#take(line);
   }
 
+  // Takes a line. One that no server says here ends the session.
   /** @param {string} text */
   #take(text) {
-    let line;
-    try {
-      line = JSON.parse(text);
-    } catch {
-      line = null;
+    if (this.#hasEnded) return;
+    const line = readLine(text);
+    if (line === undefined) return this.cut();
+    if (line.news !== undefined || line.ended !== undefined) {
+      this.#lines += 1;
+      return this.#listener.onNews(line);
     }
-    if (typeof line !== "object" || line === null) return this.cut(); // no richd
+    const { message, settle } = this.#waiting[0] ?? {};
+    if (message === undefined || (line.code === undefined && !isReplyTo(line, message))) return this.cut();
     this.#lines += 1;
-    if ("news" in line || "ended" in line) return this.#listener.onNews(line);
-    const settle = this.#waiting.shift();
-    if (settle === undefined) return this.cut();
-    if ("code" in line) settle(new RichdError(line.code, line.error));
+    this.#waiting.shift();
+    if (line.code !== undefined) settle(new RichdError(line.code, line.error));
     else settle(null, line);
-    this.#watch();
+    this.#endLink();
   }
 
-  // Cuts the session where nothing comes for too long that is due: the other end may be gone without a word.
-  #watch() {
-    clearTimeout(this.#timer);
-    if (this.#hasEnded) return;
-    if (this.#waiting.length > 0 || this.#isEnding) this.#timer = setTimeout(() => this.cut(), this.#patience);
-    if (this.#waiting.length === 0 && this.#isEnding) this.#link.end();
+  #endLink() {
+    if (!this.#hasEnded && this.#waiting.length === 0 && this.#isEnding) this.#link.end();
   }
 
   /** @param {Error} [cause] */
   #close(cause) {
     if (this.#hasEnded) return;
     this.#hasEnded = true;
-    clearTimeout(this.#timer);
-    for (const settle of this.#waiting.splice(0)) settle(new RichdError(0, "Cut", cause));
+    this.#heartbeat?.end();
+    for (const { settle } of this.#waiting.splice(0)) settle(new RichdError(0, "Cut", cause));
     this.#end();
     this.#listener.onEnd();
   }

@@ -1,7 +1,7 @@
 // The page: two editors on one document. Each has a client, and so a session, of its own.
 
 import { bind } from "../../clients/js/quill.js";
-import { connect } from "../../clients/js/richd.js";
+import { Client } from "../../clients/js/richd.js";
 import { Editable } from "./editable.js";
 
 const DOC = "letter";
@@ -35,24 +35,28 @@ function editorIn(section, Quill) {
   return editor;
 }
 
+const STATES = { saved: "saved", saving: "saving", refused: "refused", offline: "no connection", full: "the server is full", storeFailed: "the server's disk failed", closed: "closed" };
+
 async function begin(section, Quill) {
   // Without a name the client has a new one each time the page is loaded. A page that has users takes theirs, for one tab at a time.
-  const client = await connect({ url });
+  const client = new Client({ url });
+  const stateLine = section.querySelector(".state");
+  const show = (state, revision) => {
+    stateLine.classList.toggle("cut", state !== "saved" && state !== "saving");
+    stateLine.textContent = `${revision === undefined ? "" : `revision ${revision}, `}${STATES[state]}`;
+  };
+  const showWaiting = () => client.state !== "connected" && show(client.state);
+  client.addEventListener("state", showWaiting);
+  showWaiting();
+  await client.connected();
+  client.removeEventListener("state", showWaiting);
+
   const shared = await client.open(DOC, { create: [{ insert: "\n" }] });
   const editor = editorIn(section, Quill);
   bind(editor, shared);
-
-  const state = section.querySelector(".state");
-  let isCut = false;
-  const show = () => {
-    state.classList.toggle("cut", isCut);
-    state.textContent = isCut ? "no connection" : `revision ${shared.revision}${shared.isSaved ? ", saved" : ", saving"}`;
-  };
-  client.addEventListener("cut", () => show((isCut = true)));
-  client.addEventListener("connected", () => show((isCut = false)));
-  shared.addEventListener("trouble", ({ error }) => (state.title = error.message));
-  shared.addEventListener("progress", show);
-  show();
+  shared.addEventListener("trouble", ({ error }) => (stateLine.title = error.message));
+  shared.addEventListener("progress", () => show(shared.state, shared.revision));
+  show(shared.state, shared.revision);
   return { client, editor, shared };
 }
 

@@ -2,6 +2,7 @@
 
 import assert from "node:assert/strict";
 import test from "node:test";
+import { LineReader } from "../lines.js";
 import { firstUnused } from "../numbers.js";
 import { Pauses } from "../pauses.js";
 import { connect } from "../richd.js";
@@ -337,4 +338,87 @@ test("a line that no server takes is refused at once", async (t) => {
   await client.create("d", [{ insert: "ab" }]);
   await assert.rejects(client.edit("d", [{ insert: "é".repeat(33_000) }], 1), { name: "LineTooLong", code: 23 });
   assert.deepEqual(await client.edit("d", [{ insert: "é".repeat(30_000) }], 1), { rev: 2 });
+});
+
+const WRONG = [
+  '{"doc":"d","news":2}',
+  '{"doc":"d","news":2,"ops":null}',
+  '{"doc":"d","news":2,"ops":["x"]}',
+  '{"doc":"d","news":2,"ops":[{}]}',
+  '{"doc":"d","news":-1,"ops":[]}',
+  '{"doc":"d","ended":"x"}',
+  '{"code":"13","error":"TooOld"}',
+  '{"ok":1}',
+  "[]",
+];
+const WRONG_REPLIES = [
+  '{"doc":"d","ok":"doc","ops":[{"insert":"x"}]}',
+  '{"doc":"d","ok":"doc","ops":[{"retain":1}],"rev":1}',
+  '{"doc":"e","ok":"doc","ops":[],"rev":1}',
+  '{"doc":"d","ok":"taken","n":1,"rev":1}',
+];
+
+test("a line that no server says ends the session, and what was asked is asked again", async (t) => {
+  const wrong = [...WRONG, ...WRONG_REPLIES];
+  const { client } = await scriptedPair(t, (message, session) => (wrong.length > 0 ? session.say(wrong.shift() + "\n") : session.reply(contents(message))));
+  const cuts = [];
+  client.addEventListener("cut", () => cuts.push(wrong.length));
+  const pauses = t.mock.method(Pauses.prototype, "next", () => 0);
+  assert.deepEqual(await client.fetch("d"), { rev: 1, ops: [{ insert: "d" }] });
+  assert.deepEqual(cuts, [...WRONG, ...WRONG_REPLIES].map((_, index, all) => all.length - index - 1));
+  assert.ok(pauses.mock.callCount() >= cuts.length);
+});
+
+test("a line that is no UTF-8 ends the session, and so does one that is too long", async (t) => {
+  let sessions = 0;
+  const { client } = await scriptedPair(t, (message, session) => {
+    sessions += 1;
+    if (sessions === 1) session.say(Buffer.from([0x22, 0xff, 0x22, 0x0a]));
+    else session.reply(contents(message));
+  });
+  assert.deepEqual(await client.fetch("d"), { rev: 1, ops: [{ insert: "d" }] });
+  assert.equal(sessions, 2);
+  const reader = new LineReader(8);
+  const read = (text) => reader.read(Buffer.from(text));
+  assert.deepEqual(["ab\ncd", "ef\n\ng", "hijklmn"].map(read), [["ab"], ["cdef", ""], []]);
+  assert.equal(read("o"), undefined);
+});
+
+test("news that reach past the document's end let it be fetched anew, and not without a pause", async (t) => {
+  let fetches = 0;
+  const { client } = await scriptedPair(t, (message, session) => {
+    if (message.do === "fetch") fetches += 1;
+    if (message.do === "fetch") session.reply(contents(message));
+    if (message.do === "subscribe") session.reply({ doc: "d", ok: "subscribed", rev: 1 });
+    if (message.do === "subscribe" && fetches < 4) session.reply({ doc: "d", news: 2, ops: [{ retain: 9 }, { insert: "x" }] });
+    if (message.do === "unsubscribe") session.reply({ doc: message.doc, ok: "unsubscribed" });
+  });
+  const waits = t.mock.method(Pauses.prototype, "wait", async () => {});
+  const document = await client.open("d");
+  await until(() => fetches === 4);
+  assert.deepEqual(document.contents.ops, [{ insert: "d" }]);
+  assert.equal(waits.mock.callCount(), 2);
+});
+
+test("who follows and doesn't read gets each revision all the same, and few are kept", async (t) => {
+  const { client, server } = await pair(t, {}, {});
+  await client.create("d", [{ insert: "ab" }]);
+  const news = client.follow("d", 0);
+  assert.equal((await news.next()).value.rev, 1);
+  for (let rev = 1; rev < 2_500; rev += 1) server.documents.answer({ do: "edit", doc: "d", n: rev, base: rev, ops: [] }, "other");
+  await client.fetch("d");
+  await client.fetch("d");
+  for (let rev = 2; rev <= 2_500; rev += 1) assert.equal((await news.next()).value.rev, rev);
+  await news.return();
+});
+
+test("of a thousand documents something is kept, and the numbers of the others are asked for anew", async (t) => {
+  const { client, server } = await pair(t, {}, {});
+  const docs = Array.from({ length: 1_003 }, (_, index) => `d${index}`);
+  await Promise.all(docs.slice(0, 1_000).map((doc) => client.create(doc, [])));
+  for (const doc of docs.slice(1_000)) await client.create(doc, []);
+  for (const doc of ["d0", "d1", "d2", "d3", "d999", "d1002"]) {
+    assert.deepEqual(await client.edit(doc, [], 1), { rev: 2 });
+    assert.equal(server.documents.newest(doc), 2);
+  }
 });

@@ -94,6 +94,44 @@ test("both orders of two changes come to the same, and an inverse takes a change
   }
 });
 
+test("a difference keeps what both have: lines, words, beginnings, attributes beside them", () => {
+  const rows = [
+    ["one\ntwo\n", "two\none\n", [{ delete: 4 }, { retain: 4 }, { insert: "one\n" }]],
+    ["the quick fox", "a quick red fox", [{ insert: "a" }, { delete: 3 }, { retain: 6 }, { insert: " red" }]],
+    ["hell", "hello", [{ retain: 4 }, { insert: "o" }]],
+    ["a\u{1f600}b", "a\u{1f601}b", [{ retain: 1 }, { insert: "\u{1f601}" }, { delete: 2 }]],
+    ["\u6771\u4eac\u90fd", "\u6771\u4eac\u5e02", [{ retain: 2 }, { insert: "\u5e02" }, { delete: 1 }]],
+    ["", "x", [{ insert: "x" }]],
+    ["x", "", [{ delete: 1 }]],
+  ];
+  for (const [from, to, ops] of rows) assert.deepEqual(difference({ ops: [{ insert: from }] }, { ops: [{ insert: to }] }).ops, ops, from);
+  const old = [{ insert: "one two", attributes: { bold: true, size: 1 } }, { insert: { image: "p" } }, { insert: "\n" }];
+  const young = [{ insert: "one ", attributes: { size: 2 } }, { insert: "two", attributes: { bold: true, size: 1 } }, { insert: { image: "q" } }, { insert: "\n" }];
+  const wanted = [{ retain: 4, attributes: { bold: null, size: 2 } }, { retain: 3 }, { insert: { image: "q" } }, { delete: 1 }];
+  assert.deepEqual(difference({ ops: old }, { ops: young }).ops, wanted);
+});
+
+test("a difference of long texts comes soon, whatever they have in common", () => {
+  const text = "The quick brown fox, it jumps.\n".repeat(3_000);
+  const lines = Array.from({ length: 3_000 }, (_, index) => `line ${(index * 7_919) % 3_000}\n`);
+  for (const [from, to] of [[text, [...text].reverse().join("")], [lines.join(""), lines.reverse().join("")]]) {
+    const change = difference({ ops: [{ insert: from }] }, { ops: [{ insert: to }] });
+    assert.deepEqual(new Delta([{ insert: from }]).compose(change).ops, [{ insert: to }]);
+  }
+});
+
+test("each part of an edit does something, though the next operation is long", () => {
+  const image = { insert: { image: "A".repeat(100) } };
+  const edit = new Delta([{ retain: 5 }, image, { retain: 3 }, { insert: "x", attributes: { link: "B".repeat(100) } }, { delete: 1 }]);
+  const parts = [];
+  for (let rest = edit; rest.ops.length > 0; ) {
+    let first;
+    [first, rest] = parted(rest, 64);
+    parts.push(first.ops);
+  }
+  assert.deepEqual(parts, [[{ retain: 5 }, image], [{ retain: 9 }, edit.ops[3]], [{ retain: 10 }, { delete: 1 }]]);
+});
+
 test("an edit in parts does the same", () => {
   const draw = new Draw(3);
   for (let number = 0; number < CASES; number += 1) {

@@ -3,6 +3,7 @@
 import assert from "node:assert/strict";
 import test from "node:test";
 import { Delta } from "../delta.js";
+import { difference } from "../difference.js";
 import { connect } from "../richd.js";
 import { Draw } from "./draw.js";
 import { served, until } from "./fake.js";
@@ -103,6 +104,53 @@ test("where the past is no longer held, what was typed is moved onto what is fet
   for (const { contents } of [document, shown]) assert.deepEqual(contents.ops, newest());
 });
 
+const PAGE = "Title\nFirst paragraph, about tea.\nSecond paragraph, about milk.\nThird paragraph, about bread.\nEnd\n";
+
+/** What two did at the same time to a page, the first while the second was away, and the past is no longer held. */
+async function awayed(t, options) {
+  const { open, newest, server } = await prepared(t, {}, [{ insert: PAGE }]);
+  const document = await (await open()).client.open("d", options);
+  const shown = shownBy(document);
+  const rebased = [];
+  document.addEventListener("rebased", ({ from, to }) => rebased.push([from, to]));
+  server.sessions.at(-1).cut();
+  const at = (text) => PAGE.indexOf(text);
+  shown.type([{ retain: at("First") }, { retain: 5, attributes: { bold: true } }]);
+  shown.type([{ retain: at("milk") }, { insert: "oat " }]);
+  shown.type([{ retain: at("Third") + 4 }, { delete: "Third paragraph, about bread.\n".length }]);
+  const edits = [
+    [{ retain: PAGE.length - 1 }, { insert: "ing" }],
+    [{ retain: at("paragraph, about tea"), attributes: { size: 2 } }],
+    [{ insert: "A new " }],
+    [{ retain: 6 + at("milk.") + 4 }, { insert: ", cold" }],
+  ];
+  for (const [index, ops] of edits.entries()) server.documents.answer({ do: "edit", doc: "d", n: index + 1, base: index + 1, ops }, "other");
+  server.documents.raise("d", 5);
+  await document.flush();
+  for (const { contents } of [document, shown]) assert.deepEqual(contents.ops, newest());
+  assert.deepEqual(rebased, [[1, 5]]);
+  return newest();
+}
+
+test("what was typed while away keeps its place, its deletions and its formats", async (t) => {
+  const merged = await awayed(t);
+  assert.equal(merged.map(({ insert }) => insert).join(""), "A new Title\nFirst paragraph, about tea.\nSecond paragraph, about oat milk, cold.\nEnding\n");
+  const first = merged.find(({ insert }) => insert === "First");
+  assert.deepEqual(first.attributes, { size: 2, bold: true });
+});
+
+test("where the page's deltas have a `diff` it is asked", async (t) => {
+  let asked = 0;
+  class Other extends Delta {
+    diff(other) {
+      asked += 1;
+      return new Other(difference(this, other).ops);
+    }
+  }
+  await awayed(t, { Delta: Other });
+  assert.equal(asked, 1);
+});
+
 test("an edit that was taken, but behind what is no longer held, is shown once", async (t) => {
   const spoil = (message, session) => {
     if (message.do === "edit" && session.source !== "creator") session.documents.raise("d", 3);
@@ -140,14 +188,185 @@ test("what is refused for good is taken back, and told", async (t) => {
   for (const { contents } of [document, shown]) assert.deepEqual(contents.ops, newest());
 });
 
+/** The troubles that a document tells, as the error's name, what is lost, and whether it is final. */
+function troublesOf(document) {
+  const troubles = [];
+  document.addEventListener("trouble", ({ error, delta, isFinal }) => troubles.push([error.name, delta.ops, isFinal]));
+  return troubles;
+}
+
+test("what can't be sent is refused at once, and isn't shown", async (t) => {
+  const { open, newest, server } = await prepared(t, {}, [{ insert: "a\u{1f600}b\n" }]);
+  const document = await open();
+  const image = { insert: { image: "data:image/png;base64," + "A".repeat(70_000) } };
+  const refused = [
+    ["LineTooLong", [{ retain: 3 }, image]],
+    ["LineTooLong", [{ retain: 1, attributes: { link: "A".repeat(70_000) } }]],
+    ["PastEnd", [{ retain: 6 }, { insert: "x" }]],
+    ["PastEnd", [{ retain: 3 }, { delete: 3 }]],
+    ["CutsPair", [{ retain: 2 }, { insert: "x" }]],
+    ["CutsPair", [{ retain: 1 }, { delete: 1 }]],
+    ["CutsPair", [{ retain: 2, attributes: { bold: true } }]],
+    ["CutsPair", [{ insert: "lone \ud83d half" }]],
+    ["BadOps", [{ insert: { mention: { id: 1 } } }]],
+    ["BadOps", [{ insert: { image: "a", alt: "b" } }]],
+    ["BadOps", [{ retain: 1, attributes: { "line-height": 1.5 } }]],
+    ["BadOps", [{ insert: "x", retain: 1 }]],
+    ["BadOps", [{ insert: "x", id: 1 }]],
+    ["BadOps", [{}]],
+    ["BadOps", ["x"]],
+  ];
+  const troubles = troublesOf(document);
+  for (const [name, ops] of refused) assert.throws(() => document.apply(ops), { name }, JSON.stringify(ops).slice(0, 60));
+  assert.deepEqual(troubles, refused.map(([name, ops]) => [name, ops, false]));
+  assert.deepEqual(document.contents.ops, newest());
+  assert.ok(document.isSaved);
+  // a retain at the end does nothing, so it may reach further; so do attributes that say nothing
+  document.apply([{ insert: "x", attributes: { bold: null, italic: undefined } }, { retain: 99 }]);
+  await document.flush();
+  assert.deepEqual(newest(), [{ insert: "xa\u{1f600}b\n" }]);
+  assert.equal(server.documents.newest("d"), 2);
+});
+
+test("an image that a line takes alone is sent alone", async (t) => {
+  const { open, newest, server } = await prepared(t);
+  const document = await open();
+  const image = { insert: { image: "A".repeat(60_000) } };
+  document.apply([{ retain: 2 }, { insert: "before " }, image, { insert: " after" }]);
+  await document.flush();
+  assert.deepEqual(newest(), [{ insert: "Hebefore " }, image, { insert: " afterllo\n" }]);
+  assert.ok(server.documents.newest("d") <= 4);
+});
+
+test("an edit that stays too wide in one part is taken back", async (t) => {
+  let sent = 0;
+  const refuse = ({ do: kind }) => (kind === "edit" ? ((sent += 1), { code: 17, error: "TooWide" }) : undefined);
+  const { open } = await prepared(t, { refuse });
+  const document = await open();
+  const troubles = troublesOf(document);
+  const lost = [{ insert: { image: "A".repeat(60_000) } }];
+  document.apply(lost);
+  await assert.rejects(document.flush(), { code: 17 });
+  assert.deepEqual([sent, troubles], [1, [["TooWide", lost, false]]]);
+});
+
+test("a server that says PastEnd each time is asked some times, and the edit is taken back", async (t) => {
+  let sent = 0;
+  const refuse = ({ do: kind }) => (kind === "edit" ? ((sent += 1), { code: 14, error: "PastEnd" }) : undefined);
+  const { open, newest } = await prepared(t, { refuse });
+  const document = await open();
+  const troubles = troublesOf(document);
+  document.apply([{ insert: "x" }]);
+  await assert.rejects(document.flush(), { code: 14 });
+  assert.deepEqual([sent, troubles], [5, [["PastEnd", [{ insert: "x" }], false]]]);
+  assert.deepEqual(document.contents.ops, newest());
+});
+
+test("a refusal that the client doesn't know takes back what was typed, and tells it", async (t) => {
+  const refuse = ({ do: kind }) => (kind === "edit" ? { code: 60, error: "NotAllowed" } : undefined);
+  const { open, newest } = await prepared(t, { refuse });
+  const document = await open();
+  const troubles = troublesOf(document);
+  document.apply([{ insert: "one" }]);
+  await Promise.resolve();
+  document.apply([{ retain: 3 }, { insert: " two" }]);
+  await assert.rejects(document.flush(), { code: 60, name: "NotAllowed" });
+  assert.deepEqual(troubles, [["NotAllowed", [{ insert: "one two" }], false]]);
+  assert.deepEqual(document.contents.ops, newest());
+});
+
+test("a document that may not be followed is closed, whatever the number of the refusal", async (t) => {
+  const refuse = ({ do: kind }) => (kind === "subscribe" ? { code: 61, error: "NotAllowed" } : undefined);
+  const { open } = await prepared(t, { refuse });
+  const document = await open();
+  const troubles = troublesOf(document);
+  await until(() => document.isClosed);
+  assert.deepEqual(troubles, [["NotAllowed", [], true]]);
+  assert.equal(document.state, "closed");
+});
+
+/** The states that a document tells. */
+function statesOf(document) {
+  const states = [document.state];
+  document.addEventListener("state", ({ state }) => {
+    assert.equal(state, document.state);
+    assert.notEqual(state, states.at(-1));
+    states.push(state);
+  });
+  return states;
+}
+
+test("one state: saved, saving, offline, refused, closed", async (t) => {
+  const isHeavy = (message) => message.do === "edit" && message.ops.some(({ insert }) => insert === "heavy");
+  const { open, server, creator } = await prepared(t, { refuse: (message) => (isHeavy(message) ? { code: 16, error: "TooHeavy" } : undefined) });
+  const document = await open();
+  const states = statesOf(document);
+  const toldBy = async (act) => {
+    const before = states.length;
+    await act();
+    return states.splice(before);
+  };
+  assert.deepEqual(states, ["saved"]);
+  assert.deepEqual(await toldBy(async () => (document.apply([{ insert: "x" }]), document.flush())), ["saving", "saved"]);
+  const cut = async () => {
+    server.sessions.at(-1).cut();
+    await until(() => document.state === "offline");
+    document.apply([{ insert: "y" }]);
+    await document.flush();
+  };
+  assert.deepEqual(await toldBy(cut), ["offline", "saving", "saved"]);
+  assert.deepEqual(await toldBy(async () => (document.apply([{ insert: "heavy" }]), document.flush().catch(() => {}))), ["saving", "refused"]);
+  assert.deepEqual(await toldBy(async () => (document.apply([{ insert: "z" }]), document.flush())), ["saving", "saved"]);
+  assert.deepEqual(await toldBy(async () => assert.throws(() => document.apply([{ retain: 99 }, { insert: "z" }]))), ["refused"]);
+  assert.deepEqual(await toldBy(async () => (document.apply([{ insert: "z" }]), document.flush())), ["saving", "saved"]);
+  const deleted = async () => (await creator.delete("d"), until(() => document.isClosed));
+  assert.deepEqual(await toldBy(deleted), ["closed"]);
+  const closed = await creator.open("e", { create: [{ insert: "\n" }] });
+  const last = statesOf(closed);
+  await creator.close();
+  assert.deepEqual(last, ["saved", "closed"]);
+});
+
+test("a store that failed is told, and the edit is sent until it is taken", async (t) => {
+  let failures = 2;
+  const refuse = ({ do: kind }) => (kind === "edit" && failures-- > 0 ? { code: 21, error: "StoreFailed" } : undefined);
+  const { open, newest } = await prepared(t, { refuse });
+  const document = await open();
+  const states = statesOf(document);
+  document.apply([{ insert: "x" }]);
+  await document.flush();
+  assert.deepEqual(states, ["saved", "saving", "storeFailed", "saved"]);
+  assert.deepEqual(newest(), [{ insert: "xHello\n" }]);
+});
+
+test("whoever reads what is shown, or is told of a change, or typed something, can't change the document by it", async (t) => {
+  const { open, newest, creator } = await prepared(t, {}, [{ insert: "Hello", attributes: { bold: true } }, { insert: { image: "p" } }]);
+  const document = await open();
+  const { contents } = document;
+  contents.insert("x").ops.splice(0, 1);
+  assert.throws(() => (document.contents.ops[0].insert = "x"), TypeError);
+  assert.throws(() => (document.contents.ops[0].attributes.bold = false), TypeError);
+  assert.throws(() => (document.contents.ops[1].insert.image = "q"), TypeError);
+  const typed = [{ insert: "typed", attributes: { size: 1 } }];
+  document.apply(typed);
+  typed[0].attributes.size = 2;
+  document.addEventListener("change", ({ delta }) => (delta.ops[0].attributes.size = 2));
+  await document.flush();
+  await creator.edit("d", [{ insert: "told", attributes: { size: 1 } }], 2);
+  await until(() => document.revision === 3);
+  assert.deepEqual(document.contents.ops, newest());
+});
+
 test("a deletion ends a document that is open, and says so", async (t) => {
   const { creator, open } = await prepared(t);
   const document = await open();
-  const trouble = new Promise((resolve) => document.addEventListener("trouble", ({ error }) => resolve(error)));
+  const troubles = troublesOf(document);
   await creator.delete("d");
   document.apply([{ insert: "typed" }]);
   await assert.rejects(document.flush(), { code: 40 });
-  assert.equal((await trouble).code, 40);
+  await until(() => troubles.at(-1)?.[2]);
+  assert.deepEqual(troubles.map(([name]) => name), Array.from(troubles, () => "Deleted"));
+  assert.deepEqual(troubles.flatMap(([, ops]) => ops), [{ insert: "typed" }]);
 });
 
 test("what is too long for a line, or for the journal, is sent in parts", async (t) => {

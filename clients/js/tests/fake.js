@@ -9,13 +9,14 @@ export async function until(holds) {
 }
 
 /**
- * Listens on a free port, and calls `onLine` with each message and its session. A session has `reply`, and `cut`.
+ * Listens on a free port, and calls `onLine` with each message and its session. A session has `reply`, `say`, and `cut`.
  * @param {(message: any, session: any, sessions: any[]) => void} onLine
  */
 export async function scripted(onLine) {
   const sessions = [];
   const server = net.createServer((socket) => {
-    const session = { reply: (...lines) => socket.write(lines.map((line) => JSON.stringify(line) + "\n").join("")), cut: () => socket.destroy() };
+    const session = { say: (data, then) => socket.write(data, then), cut: () => socket.destroy() };
+    session.reply = (...lines) => session.say(lines.map((line) => JSON.stringify(line) + "\n").join(""));
     sessions.push(session);
     let text = "";
     socket.setEncoding("utf8");

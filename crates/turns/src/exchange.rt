@@ -162,7 +162,6 @@ impl Exchange {
     }
 
     // Gives a job up that came back undone, so that another one may be due. The document is looked at again.
-    #[tactic(auto, using(crate::proofs::Writing::keeps_call, crate::proofs::Writing::upkeep_none, crate::proofs::Writing::upkeep_still))]
     fn give_up<D: Disk, J: Site>(&mut self, flusher: &mut Flusher<D, J>, job: &Job)
         ensures upkeep { IsUnrefused flusher.old flusher.new }
         ensures given_up { Contains (kept_jobs (store_of flusher.old)) job.now

@@ -120,7 +120,7 @@ fn a_full_journal_that_cannot_be_freed_fails_the_store(rt: HostRuntime) {
     runs(&rt, &serve, &mut input.as_bytes(), (0, replies, ""));
     set_last_number(&rt, path);
     let mut input = HELLO.as_bytes().chain(FULL_LINES.as_bytes());
-    let errors = "error 37 JournalFull\nerror 21 StoreFailed\n";
+    let errors = "error 35 StillNeeded\nerror 21 StoreFailed\n";
     let wanted = (1, LAST_REPLIES, errors);
     runs(&rt, &serve, &mut input, wanted);
     remove(&rt, path);

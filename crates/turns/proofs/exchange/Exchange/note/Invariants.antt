@@ -1,6 +1,6 @@
 use Rattle.std.proofs.Common.{◌<◌, ℕ, get_or}
 use Rattle.std.specs.Prelude.{Contains}
-use Rattle.revision.specs.declared.Taken.{Taken}
+use Rattle.revision.specs.Command.{Taken}
 use Rattle.turns.specs.Waiting.{StaysIn}
 use Rattle.turns.proofs.exchange.Exchange.note.Given as goal
 
