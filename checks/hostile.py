@@ -289,17 +289,6 @@ def news_in_time():
             assert took < 1, f"news {number + 1} took {took:.2f} s"
 
 
-def many_reads():
-    """A conversation of more than 200,000 reads: each piece is sent once the one before it was answered."""
-    with session_soon() as stream:
-        for _ in range(200_100):
-            stream.socket.sendall(b"\n")
-            got = stream.socket.recv(len(BAD_LINE))
-            if got != BAD_LINE:
-                got += read_up_to(stream, len(BAD_LINE) - len(got))
-            assert got == BAD_LINE, got
-
-
 rows = [
     line_without_end,
     longest_line,
@@ -315,7 +304,6 @@ rows = [
     dear_lines,
     stopped_server,
     news_in_time,
-    many_reads,
 ]
 
 

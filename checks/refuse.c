@@ -5,7 +5,7 @@
 // REFUSE_AT     which request of this kind is refused, from 1; none is where it is 0
 // REFUSE_HOW    of a write: whether none, half or all of it is written before it fails. Of a read or a write also: short (it does half, and
 //               says so) or interrupted (it does nothing, and is to be tried again), which a program has to bear without a word. Of an accept:
-//               the number of the error. Reads of standard input and of connections are interrupted
+//               the number of the error. A read of standard input or of a connection is interrupted, or short, so it gives one byte
 // REFUSE_MORE   where it is there: onward, so each later request of the kind is refused too, or slow, so none is, and each takes 50 ms
 // REFUSE_STORE  the path of the store's file
 // REFUSE_COUNT  the path of a file of 16 bytes: in the first 8 the requests of this kind are counted, over all programs that share it, and
@@ -102,12 +102,21 @@ int accept4(int listener, struct sockaddr *of, socklen_t *length, int flags) {
     if (refused('a')) { errno = atoi(how); return -1; }
     return syscall(SYS_accept4, listener, of, length, flags);
 }
+// A read of standard input or of a connection is interrupted, or gives one byte.
+static int is_interrupted(size_t *length) {
+    if (is("short")) {
+        *length = *length > 0;
+        return 0;
+    }
+    errno = EINTR;
+    return 1;
+}
 ssize_t read(int file, void *to, size_t length) {
-    if (file == 0 && refused('i')) { errno = EINTR; return -1; }
+    if (file == 0 && refused('i') && is_interrupted(&length)) return -1;
     return syscall(SYS_read, file, to, length);
 }
 ssize_t recv(int file, void *to, size_t length, int flags) {
-    if (refused('p')) { errno = EINTR; return -1; }
+    if (refused('p') && is_interrupted(&length)) return -1;
     return syscall(SYS_recvfrom, file, to, length, flags, NULL, NULL);
 }
 int open(const char *path, int flags, ...) {

@@ -13,7 +13,8 @@ closed could get its number, and what the program prints would stand over the st
 - a server that runs has /dev/null under each number that was closed;
 - where /dev/null can't be opened the program ends with `error 34 Fault`, its cause, and status 1, and the store is unchanged, or not made.
 
-Then `serve` is played with a read of standard input, or of a connection, that a signal cuts short: each line gets its reply.
+Then `serve` is played with a read of standard input, or of a connection, that a signal cuts short, and with more than 200,000 reads, each of
+one byte: each line gets its reply.
 
 Run ./demo first, which builds crates/richd/out/richd, or name another program in RICHD. It needs a C compiler, `cc`, and Linux's /proc. The
 stores lie in a temporary folder (TMPDIR).
@@ -34,6 +35,8 @@ from refusing import FAULT, PATIENCE, S, Disagreement, Refusal, agree, content_o
 SUBSETS = [closed for count in range(4) for closed in itertools.combinations(range(3), count)]
 LINES = b'{"do":"hello","source":"x"}\n{"do":"create","doc":"stolen","n":1,"ops":[{"insert":"!"}]}\n'
 GREETING = b'{"ok":"hello"}\n'
+BAD_LINE = b'{"code":1,"error":"BadLine"}\n'
+READS, LONG = 200_000, 2_000  # reads of one byte, and the bytes of a line
 WIDE = ["--slots", "2", "--slot", "4096", "--docs", "4", "--cell", "4096", *S[8:]]
 
 
@@ -244,34 +247,63 @@ def play_without_device(row, folder, closed, library):
         ends_as(ended, closed, (1, b"", FAULT))
 
 
+class Session:
+    """A session over standard input, or over a connection, whose reads are refused."""
+
+    def __init__(self, folder, refusal):
+        folder.begin()
+        words = ["serve", folder.store] + (["--listen", "127.0.0.1:0"] if refusal.kind == "peer" else [])
+        self.process = refusal.start(words, stdin=subprocess.PIPE, stdout=subprocess.PIPE)
+        self.connection, self.sends, self.replies = None, self.process.stdin.write, self.process.stdout
+        if refusal.kind == "peer":
+            port = int(self.process.stdout.readline().rsplit(b":", 1)[1])
+            self.connection = socket.create_connection(("127.0.0.1", port), PATIENCE)
+            self.sends, self.replies = self.connection.sendall, self.connection.makefile("rb")
+
+    def ask(self, line):
+        """The reply to a line, nothing where the session has ended."""
+        try:
+            self.sends(line)
+            return self.replies.readline()
+        except (BrokenPipeError, ConnectionError):
+            return b""
+
+    def end(self):
+        if self.connection is not None:
+            self.connection.close()
+            self.process.terminate()
+        try:
+            self.process.stdin.close()
+        except BrokenPipeError:
+            pass
+        status = self.process.wait(PATIENCE)
+        agree(self.connection is not None or status == 0, f"status {status}")
+
+
 def play_interrupted(folder, library, kind, at):
     """A read is cut short, and each line gets its reply all the same."""
-    folder.begin()
     refusal = Refusal(library, folder.path, kind, at)
-    given = lines("b", EDIT, {"do": "fetch", "doc": "d"}, {"do": "undo", "doc": "d", "n": 2}).splitlines(keepends=True)
-    words = ["serve", folder.store] + (["--listen", "127.0.0.1:0"] if kind == "peer" else [])
-    process = refusal.start(words, stdin=subprocess.PIPE, stdout=subprocess.PIPE)
-    connection = None
+    session = Session(folder, refusal)
     try:
-        sends, replies = process.stdin.write, process.stdout
-        if kind == "peer":
-            connection = socket.create_connection(("127.0.0.1", int(process.stdout.readline().rsplit(b":", 1)[1])), PATIENCE)
-            sends, replies = connection.sendall, connection.makefile("rb")
-        for line in given:
-            try:
-                sends(line)
-            except (BrokenPipeError, ConnectionError):
-                raise Disagreement("the session was ended") from None
-            reply = replies.readline()
+        for line in lines("b", EDIT, {"do": "fetch", "doc": "d"}, {"do": "undo", "doc": "d", "n": 2}).splitlines(keepends=True):
+            reply = session.ask(line)
             agree(b'"code"' not in reply and reply.endswith(b"\n"), f"{line!r} gets {reply!r}")
         agree(refusal.met(), "no read was cut short")
     finally:
-        if connection is not None:
-            connection.close()
-            process.terminate()
-        process.stdin.close()
-        process.wait()
-    agree(connection is not None or process.returncode == 0, f"status {process.returncode}")
+        session.end()
+
+
+def play_many(folder, library, kind):
+    """Each read gives one byte."""
+    refusal = Refusal(library, folder.path, kind, 1, "short", "onward")
+    session = Session(folder, refusal)
+    try:
+        for number in range(READS // LONG + 1):
+            reply = session.ask(b" " * (LONG - 1) + b"\n")
+            agree(reply == BAD_LINE, f"after some {number * LONG} reads the reply is {reply!r}")
+        agree(refusal.count() > READS, f"it has made {refusal.count()} reads")
+    finally:
+        session.end()
 
 
 played, failed = 0, 0
@@ -300,5 +332,6 @@ with tempfile.TemporaryDirectory() as place:
     for kind, of in (("input", "standard input"), ("peer", "a connection")):
         for at in (1, 2, 3):
             play(f"read {at} of {of} is cut short", play_interrupted, folder, library, kind, at)
+        play(f"{READS} reads of {of}", play_many, folder, library, kind)
 print(f"{'FAILED' if failed else 'ok'}: {played} runs with streams closed or reads cut short, {failed} failed")
 sys.exit(1 if failed else 0)

@@ -4,6 +4,7 @@ ghost use Rattle.recovery.specs.Jobs.{with_job, without_job};
 ghost use Rattle.recovery.specs.Open.{kept_jobs};
 ghost use Rattle.flusher.specs.Holding.{store_of};
 ghost use Rattle.turns.specs.Exchanging.{document_of, due_in, IsFirstLookedAt};
+ghost use Rattle.turns.specs.Waiting.{StaysIn, behind_first};
 ghost use Rattle.turns.specs.Writing.{IsUpkeep, IsUnrefused};
 
 use crate::queue::Queue;
@@ -67,8 +68,9 @@ pub(crate) fn exchange_with(
 impl Exchange {
     /// Looks at the documents of a batch in the next turn.
     pub(crate) fn note(&mut self, batch: &[Taken])
-        ensures { All (λ taken. taken.document < self.old.queue.room
+        ensures waits { All (λ taken. taken.document < self.old.queue.room
             → Contains self.new.queue.numbers taken.document) batch.now }
+        ensures stays { StaysIn self.old.queue self.new.queue }
     {
         for taken in batch {
             self.queue.add(taken.document_number());
@@ -148,6 +150,7 @@ impl Exchange {
         ensures given_up { IfErr done (λ back. Contains (kept_jobs (store_of flusher.old)) back.job
             → kept_jobs (store_of flusher.new) ≡ without_job back.job.document (kept_jobs (store_of flusher.old))) }
         ensures waits { document_of done < self.old.queue.room → Contains self.new.queue.numbers (document_of done) }
+        ensures stays { StaysIn self.old.queue self.new.queue }
     {
         match done {
             Ok(composed) => self.put(alloc, flusher, composed),
@@ -159,12 +162,12 @@ impl Exchange {
     }
 
     // Gives a job up that came back undone, so that another one may be due. The document is looked at again.
-    #[tactic(auto, using(crate::proofs::Writing::keeps_call, crate::proofs::Writing::upkeep_none, crate::proofs::Writing::upkeep_still))]
     fn give_up<D: Disk, J: Site>(&mut self, flusher: &mut Flusher<D, J>, job: &Job)
         ensures upkeep { IsUnrefused flusher.old flusher.new }
         ensures given_up { Contains (kept_jobs (store_of flusher.old)) job.now
             → kept_jobs (store_of flusher.new) ≡ without_job job.now.document (kept_jobs (store_of flusher.old)) }
         ensures waits { job.now.document < self.old.queue.room → Contains self.new.queue.numbers job.now.document }
+        ensures stays { StaysIn self.old.queue self.new.queue }
     {
         flusher.give_up_job(job);
         self.queue.add(job.document_number());
@@ -182,6 +185,7 @@ impl Exchange {
         ensures upkeep { IsUpkeep result flusher.old flusher.new }
         ensures kept { IfOk result (λ more. more ≡ false → self.new.unput ≡ Some composed) }
         ensures waits { composed.document < self.old.queue.room → Contains self.new.queue.numbers composed.document }
+        ensures stays { StaysIn self.old.queue self.new.queue }
     {
         self.queue.add(composed.job().document_number());
         match flusher.put_milestone(alloc, &composed) {
@@ -229,6 +233,7 @@ impl Exchange {
         ensures upkeep { IsUnrefused flusher.old flusher.new }
         ensures looked_at { IsFirstLookedAt self.old.every (store_of flusher.old) self.old.queue.numbers
             (store_of flusher.new) self.new.queue.numbers }
+        ensures stays { StaysIn (behind_first self.old.queue) self.new.queue }
     {
         let Some(document) = self.queue.next() else {
             return false;
@@ -253,6 +258,7 @@ impl Exchange {
         ensures some { IfOk result (λ job. IfSome job (λ handed. (handed.document ≡ document)
             × (kept_jobs (store_of flusher.new) ≡ with_job handed (kept_jobs (store_of flusher.old))))) }
         ensures again { OnErr result (document < self.old.queue.room → Contains self.new.queue.numbers document) }
+        ensures stays { StaysIn self.old.queue self.new.queue }
     {
         match due_job(alloc, flusher, document, self.every) {
             Ok(job) => Ok(job),
@@ -274,6 +280,7 @@ impl Exchange {
     // Sends a job to the composers, and tells whether there was a place. Else it is kept.
     fn send<R: Wait>(&mut self, rt: &R, job: Job) -> bool
         ensures kept { result ≡ false → self.new.unsent ≡ Some job }
+        ensures queue { self.new.queue ≡ self.old.queue }
     {
         match self.composers.hand_out(rt, job) {
             Ok(()) => true,

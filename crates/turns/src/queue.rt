@@ -1,5 +1,6 @@
 //! The documents whose jobs are looked at next.
 ghost use Rattle.std.specs.Prelude.{◌≡◌, ◌⊎◌, ◌<◌, ◌++◌, ◌∷◌, [], length, Contains, MatchOption, IfOk, IfSome, IsOkUnless};
+ghost use Rattle.turns.specs.Waiting.{StaysIn};
 
 use refusal::Refusal;
 use std::alloc::Global;
@@ -54,6 +55,7 @@ impl Queue {
         ensures behind { (self.new.numbers ≡ self.old.numbers)
             ⊎ (self.new.numbers ≡ self.old.numbers ++ document ∷ []) }
         ensures room { self.new.room ≡ self.old.room }
+        ensures stays { StaysIn self.old self.new }
     {
         let place = document as usize;
         if place < self.is_in.len() && !self.is_in[place] {
