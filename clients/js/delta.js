@@ -2,12 +2,19 @@
 
 /**
  * @typedef {string | number | boolean} Value
+ * @typedef {Record<string, Value>} Embed  one name and one value
  * @typedef {Record<string, Value | null>} Attributes
- * @typedef {object} Op  exactly one of the first three, and attributes or not on the first two
- * @property {string | Record<string, Value>} [insert]
- * @property {number} [retain]
- * @property {number} [delete]
- * @property {Attributes} [attributes]
+ *
+ * @typedef {Insert | Retain | Delete} Op
+ * @typedef {{ insert: string | Embed, attributes?: Attributes, retain?: undefined, delete?: undefined }} Insert
+ * @typedef {{ retain: number, attributes?: Attributes, insert?: undefined, delete?: undefined }} Retain
+ * @typedef {{ delete: number, insert?: undefined, retain?: undefined, attributes?: undefined }} Delete
+ *
+ * @typedef {object} QuillDelta  a delta of quill-delta, whose types leave open what an attribute is
+ * @property {{ insert?: string | Record<string, unknown>, retain?: number | Record<string, unknown>, delete?: number, attributes?: Record<string, unknown> }[]} ops
+ * @property {(other: any, priority?: boolean) => any} transform
+ *
+ * @typedef {new (ops?: any) => QuillDelta} DeltaClass
  */
 
 /**

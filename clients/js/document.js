@@ -2,8 +2,9 @@
 
 import { Delta as OwnDelta } from "./delta.js";
 import { difference } from "./difference.js";
+import { Emitter } from "./emitter.js";
 import { Refusal, RichdError } from "./errors.js";
-import { ChangeEvent, RebasedEvent, StateEvent, TroubleEvent } from "./events.js";
+import { ChangeEvent, DoubtEvent, RebasedEvent, StateEvent, TroubleEvent, UnkeptEvent } from "./events.js";
 import { History, Steps } from "./history.js";
 import { cutsPair, growthOf, reachOf, takenOver } from "./operations.js";
 import { parted } from "./parting.js";
@@ -31,8 +32,9 @@ const NEVER = { timeout: Infinity }; // an edit is sent until it is answered
  *
  * @typedef {object} OpenOptions
  * @property {Op[]} [create]  what the document is created with where it isn't there
- * @property {typeof OwnDelta} [Delta]  what composes and transforms: quill-delta's class, by default that of the page's Quill or of the
+ * @property {import("./delta.js").DeltaClass} [Delta]  what composes and transforms: quill-delta's class, by default that of the page's Quill or of the
  *     package where there is one
+ * @property {import("./keeping.js").Keeper} [keeper]  keeps what isn't on the server's disk yet; `richd/offline` gives one
  */
 
 /** @returns {Promise<typeof OwnDelta>} */
@@ -93,8 +95,11 @@ async function fetchCreated(client, name, ops) {
  *
  * `base` is the document at `revision`. What is shown is `base`, with `sent` behind it, and `typed` behind that. News that comes while
  * `sent` has no answer is held until it has one: only then is it known which revision is its own.
+ *
+ * @extends {Emitter<{ change: ChangeEvent, trouble: TroubleEvent, doubt: DoubtEvent, unkept: UnkeptEvent, rebased: RebasedEvent,
+ *   state: StateEvent<DocumentState>, progress: Event }>}
  */
-export class Document extends EventTarget {
+export class RichDocument extends Emitter {
   /** @type {import("./richd.js").Client} */
   #client;
   /** @type {string} */
@@ -112,6 +117,10 @@ export class Document extends EventTarget {
   #sent = null;
   /** @type {number | null} the revision that `sent` made, once it is answered */
   #taken = null;
+  /** @type {number | undefined} the number of `sent`, where there is a keeper and it may have left */
+  #number;
+  /** @type {import("./keeping.js").Keeper | undefined} */
+  #keeper;
   /** @type {Delta} */
   #typed;
   /** @type {{ ops: Op[], rev: number }[]} */
@@ -139,17 +148,26 @@ export class Document extends EventTarget {
    * @param {OpenOptions} [options]
    */
   static async open(client, name, options) {
-    const document = new Document();
+    const document = new RichDocument();
     document.#client = client;
     document.#name = name;
-    document.#Delta = options?.Delta ?? (await deltaClass());
+    document.#Delta = /** @type {any} */ (options?.Delta) ?? (await deltaClass());
     document.#typed = new document.#Delta();
-    const { rev, ops } = options?.create === undefined ? await client.fetch(name) : await fetchCreated(client, name, options.create);
-    document.#begin(rev, new document.#Delta(ops));
-    document.#contents = document.#base;
-    document.#length = document.#base.length();
+    document.#keeper = options?.keeper;
+    const kept = await document.#keeper?.load();
+    if (kept !== undefined) {
+      document.#restore(kept);
+    } else {
+      const { rev, ops } = options?.create === undefined ? await client.fetch(name) : await fetchCreated(client, name, options.create);
+      document.#begin(rev, new document.#Delta(ops));
+      document.#contents = document.#base;
+    }
+    document.#length = document.#contents.length();
     client.addEventListener("state", document.#tell);
     document.#state = document.state;
+    document.#keeper?.watch(document, () => document.#snapshot());
+    if (document.#sent !== null) document.#sendOff();
+    else if (kept !== undefined) document.#goOn();
     return document;
   }
 
@@ -199,16 +217,21 @@ export class Document extends EventTarget {
     return this.#sent === null && this.#typed.ops.length === 0;
   }
 
+  /** Whether what is shown would outlive the page: it is on the server's disk, or kept. */
+  get isKept() {
+    return this.isSaved || (this.#keeper?.isUpToDate ?? false);
+  }
+
   /**
    * Changes what is shown by something that was typed. Throws what a server would refuse it by, as BadOps, LineTooLong or PastEnd: then it
    * isn't shown, and "trouble" tells of it too.
-   * @param {Op[] | { ops: Op[] }} ops
+   * @param {Op[] | { ops: Op[] } | import("./delta.js").QuillDelta} ops
    */
   apply(ops) {
     if (this.#isClosed) throw new RichdError(0, "Closed");
     let delta;
     try {
-      delta = this.#readTyped(ops);
+      delta = this.#readTyped(/** @type {Op[] | { ops: Op[] }} */ (ops));
     } catch (error) {
       this.#isRefused = true;
       this.#tell();
@@ -326,7 +349,21 @@ export class Document extends EventTarget {
     const [first, rest] = parted(this.#typed, this.#room);
     this.#sent = new this.#Delta(first.ops);
     this.#typed = new this.#Delta(rest.ops);
-    this.#client.edit(this.#name, first.ops, this.#revision, { ...NEVER, onRetry: (error) => this.#onRetry(error) }).then(
+    this.#number = undefined;
+    this.#sendOff();
+  }
+
+  // Sends `sent`, again where it has a number. With a keeper it leaves once it is written, with its number.
+  #sendOff() {
+    const keeper = this.#keeper;
+    const hold = keeper && (async (/** @type {number} */ number) => {
+      if (number === this.#number) return keeper.confirmLease();
+      await keeper.askLease();
+      this.#number = number;
+      await keeper.write();
+    });
+    const limits = { ...NEVER, onRetry: (/** @type {RichdError} */ error) => this.#onRetry(error), hold, kept: this.#number, signal: keeper?.signal };
+    this.#client.edit(this.#name, this.#sent.ops, this.#revision, limits).then(
       ({ rev }) => {
         this.#hasStoreFailed = false;
         if (this.#typed.ops.length === 0) this.#room = Math.min(ROOM, 2 * this.#room);
@@ -336,6 +373,24 @@ export class Document extends EventTarget {
       },
       (error) => this.#onRefusal(error),
     );
+  }
+
+  /** @returns {import("./keeping.js").Snapshot} */
+  #snapshot() {
+    const [base, revision, isStale, sent, typed] = [this.#base, this.#revision, this.#isStale, this.#sent, this.#typed];
+    return { base, revision, isStale, sent, number: sent === null ? undefined : this.#number, typed };
+  }
+
+  // Begins with what was kept. What was to be sent, and never left, is typed.
+  /** @param {import("./keeping.js").Kept} kept */
+  #restore({ base, revision, isStale, sent, number, typed }) {
+    const [leaving, behind] = [new this.#Delta(sent ?? []), new this.#Delta(typed)];
+    this.#begin(revision, new this.#Delta(base));
+    this.#isStale = isStale;
+    this.#contents = this.#base.compose(leaving).compose(behind);
+    this.#number = number;
+    this.#sent = number === undefined ? null : leaving;
+    this.#typed = number === undefined ? leaving.compose(behind) : behind;
   }
 
   // Takes over what has come, and sends what there is to be sent.
@@ -410,6 +465,7 @@ export class Document extends EventTarget {
   #onRefusal(error) {
     this.#hasStoreFailed = false;
     if (error.name === "Closed") return this.#stop(error);
+    if (error.name === "InDoubt") return this.#leaveOut();
     const isTooLong = [Refusal.TooManyOps, Refusal.TooWide, Refusal.LineTooLong].includes(error.code);
     const isElsewhere = [Refusal.Future, Refusal.TooOld].includes(error.code) || (error.code === Refusal.PastEnd && this.#pastEnds < MOST_PAST_ENDS);
     const typed = this.#sent.compose(this.#typed);
@@ -425,6 +481,15 @@ export class Document extends EventTarget {
     } else {
       this.#drop(typed, error);
     }
+    this.#goOn();
+  }
+
+  // Takes what was sent out of what is shown. Where it was taken it comes as others' changes do.
+  #leaveOut() {
+    const [inDoubt, revision] = [this.#sent, this.#revision];
+    this.#sent = null;
+    this.#show(inDoubt.invert(this.#base));
+    this.dispatchEvent(new DoubtEvent(inDoubt, revision));
     this.#goOn();
   }
 
@@ -497,6 +562,8 @@ export class Document extends EventTarget {
     if (this.#isClosed) return;
     this.#isClosed = true;
     this.#leave();
+    if (error instanceof RichdError && error.code > 0) this.#keeper?.forget(error);
+    else this.#keeper?.close(error);
     this.#pauses.end();
     this.#client.removeEventListener("state", this.#tell);
     for (const { reject } of this.#waiting.splice(0)) reject(error);

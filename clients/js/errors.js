@@ -1,8 +1,16 @@
 // What may go wrong.
 
 /**
+ * @typedef {"Timeout" | "Closed" | "Cut" | "Full" | "Parted" | "InDoubt"} OwnName  of an error of the client itself
+ * @typedef {"BadLine" | "BadMessage" | "BadOps" | "TooManyOps" | "NoHello" | "NoDocument" | "Exists" | "BadName" | "Gap" | "OldNumber"
+ *   | "TooManySources" | "Future" | "TooOld" | "PastEnd" | "CutsPair" | "TooHeavy" | "TooWide" | "RevisionsSpent" | "NothingToUndo"
+ *   | "TooManyDocuments" | "StoreFailed" | "NoMemory" | "LineTooLong" | "Deleted"} RefusalName  of a refusal of the server
+ */
+
+/**
  * A refusal of the server, with its number and name (13 and "TooOld"), or one of the client itself, with 0 for its number:
- * "Timeout", "Closed", "Cut" and "Full" as causes of a call that had no connection, and "Parted" of an editor that showed something else.
+ * "Timeout", "Closed", "Cut" and "Full" as causes of a call that had no connection, "Parted" of an editor that showed something else, and
+ * "InDoubt" of an edit that was kept, and isn't sent again.
  */
 export class RichdError extends Error {
   /**
@@ -13,7 +21,8 @@ export class RichdError extends Error {
   constructor(code, name, cause) {
     super(code === 0 ? name : `${code} ${name}`, cause === undefined ? undefined : { cause });
     this.code = code;
-    this.name = name;
+    /** @type {OwnName | RefusalName} */
+    this.name = /** @type {any} */ (name);
   }
 }
 

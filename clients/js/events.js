@@ -29,6 +29,19 @@ export class TroubleEvent extends Event {
 }
 
 /**
+ * An edit that was sent before the page was loaded, and of which can't be known whether it was taken. It isn't sent again, and isn't shown:
+ * where it was taken it comes as others' changes do. `delta` is the edit, on the document at `revision`.
+ */
+export class DoubtEvent extends Event {
+  /** @param {Delta} delta @param {number} revision */
+  constructor(delta, revision) {
+    super("doubt");
+    this.delta = delta;
+    this.revision = revision;
+  }
+}
+
+/**
  * The document was fetched anew, as its past from revision `from` on is no longer held: what was typed meanwhile was moved onto revision `to`,
  * past what makes one of the other. The history has ended.
  */
@@ -50,5 +63,14 @@ export class StateEvent extends Event {
   constructor(state) {
     super("state");
     this.state = state;
+  }
+}
+
+/** What is shown couldn't be kept, by `error`. It is tried again, and nothing that isn't kept is sent meanwhile. */
+export class UnkeptEvent extends Event {
+  /** @param {unknown} error */
+  constructor(error) {
+    super("unkept");
+    this.error = error;
   }
 }

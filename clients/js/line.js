@@ -1,13 +1,12 @@
 // What is asked of one document, in the order in which it was asked. It numbers the source's commands.
 
-import { Refusal } from "./errors.js";
+import { Refusal, RichdError } from "./errors.js";
 import { firstUnused } from "./numbers.js";
 import { Pauses } from "./pauses.js";
 
 const MOST_COMMANDS = 16; // that are on their way: a server answers so many of a source's last numbers as taken before
 
 /**
- * @typedef {import("./errors.js").RichdError} RichdError
  * @typedef {import("./session.js").Reply} Reply
  *
  * @typedef {object} Item  something that was asked
@@ -22,6 +21,11 @@ const MOST_COMMANDS = 16; // that are on their way: a server answers so many of 
  *   sent again
  * @property {RichdError} [trouble]  what it was refused by, and is sent again for all the same
  * @property {(error: RichdError) => void} [onRetry]  is told of each
+ * @property {(number: number) => Promise<void>} [hold]  is waited for before it is sent under a number
+ * @property {number} [holding]  the number that it is held for
+ * @property {number} [held]  the number that it was held for
+ * @property {number} [kept]  the number under which it was sent before this program began, if it was
+ * @property {boolean} [isInDoubt]  its number is neither the next one nor the last one that is used, so it may be another's
  */
 
 /**
@@ -49,7 +53,12 @@ export class Line {
    */
   constructor(doc, isNew) {
     this.#doc = doc;
-    if (isNew) this.#number = 1;
+    if (isNew) this.beginNumbers();
+  }
+
+  /** The source turns out to be new, before there is a session. */
+  beginNumbers() {
+    this.#number = 1;
   }
 
   /** Whether nothing of it is asked, or waits. */
@@ -105,6 +114,8 @@ export class Line {
         if (commands === 0) this.#learn();
         return;
       }
+      if (item.isInDoubt) return this.#end(item, new RichdError(0, "InDoubt"));
+      if (!item.isSent && item.hold !== undefined && item.held !== item.number) return this.#hold(item);
       if (item.isCommand) commands += 1;
       if (!item.isSent) this.#send(item);
     }
@@ -113,11 +124,49 @@ export class Line {
   /** @param {Item} item */
   #hasNumber(item) {
     if (item.number !== undefined) return true;
+    if (item.kept !== undefined) return this.#hasKeptNumber(item);
     item.number = item.message.do === "create" && !this.#isDeleted ? 1 : this.#number;
     item.counts = item.number !== undefined && item.number === this.#number;
     if (item.counts) this.#number += 1;
     if (item.message.do === "delete" && item.number !== undefined) this.#isDeleted = true;
     return item.number !== undefined;
+  }
+
+  // Of a command that was kept it isn't known whether it was taken: then its number is the last one that is used, else the next one.
+  /** @param {Item} item */
+  #hasKeptNumber(item) {
+    if (this.#number === undefined) return false;
+    item.counts = item.kept === this.#number;
+    item.isInDoubt = !item.counts && item.kept !== this.#number - 1;
+    if (item.counts) this.#number += 1;
+    Object.assign(item, { number: item.kept, sendings: 1 });
+    return true;
+  }
+
+  /** @param {Item} item */
+  #hold(item) {
+    const { number } = item;
+    if (item.holding === number) return;
+    item.holding = number;
+    item.hold(number).then(
+      () => {
+        item.held = number;
+        this.#pump();
+      },
+      (error) => this.#items.includes(item) && this.#end(item, error),
+    );
+  }
+
+  /**
+   * Ends a command that isn't sent: its number is free.
+   * @param {Item} item
+   * @param {any} error
+   */
+  #end(item, error) {
+    this.#free(item, item.number);
+    this.#items.splice(this.#items.indexOf(item), 1);
+    item.settle(error);
+    this.#pump();
   }
 
   /**

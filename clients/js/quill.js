@@ -9,7 +9,7 @@ import { growthOf, reachOf } from "./operations.js";
 /**
  * @typedef {import("./delta.js").Op} Op
  * @typedef {import("./delta.js").Delta} Delta
- * @typedef {import("./document.js").Document} Document
+ * @typedef {import("./document.js").RichDocument} RichDocument
  *
  * @callback Upload  keeps what an embed has as a data URL, as a pasted image does, and gives the URL that is put in its place
  * @param {string} dataUrl
@@ -26,7 +26,7 @@ import { growthOf, reachOf } from "./operations.js";
  * refuses is taken out of the editor again, and the document's "trouble" tells of it; so it does where the editor is found to show something
  * else than the document ("Parted"). Where the document is closed the editor is disabled.
  * @param {any} quill
- * @param {Document} document
+ * @param {RichDocument} document
  * @param {BindOptions} [options]
  * @returns {() => void} ends the binding
  */
@@ -58,7 +58,7 @@ class Binding {
   #uploaded = [];
   #ending = new AbortController();
 
-  /** @param {any} quill @param {Document} document @param {BindOptions} [options] */
+  /** @param {any} quill @param {RichDocument} document @param {BindOptions} [options] */
   constructor(quill, document, options) {
     this.#quill = quill;
     this.#document = document;

@@ -1,6 +1,7 @@
 // A client of richd: one session at a time, which is begun again after a cut, with any number of calls and documents in it.
 
-import { Document } from "./document.js";
+import { RichDocument } from "./document.js";
+import { Emitter } from "./emitter.js";
 import { Refusal, RichdError } from "./errors.js";
 import { StateEvent } from "./events.js";
 import { follow } from "./follow.js";
@@ -9,9 +10,10 @@ import { Line } from "./line.js";
 import { News } from "./news.js";
 import { Pauses } from "./pauses.js";
 import { Session } from "./session.js";
+import { takeSource, thisPage } from "./sources.js";
 import { onWaking } from "./waking.js";
 
-export { Document, RichdError };
+export { RichDocument, RichDocument as Document, RichdError };
 
 const PATIENCE = 30_000; // milliseconds
 const MOST_DOCS = 1_000; // of which something is kept though nothing is asked; then the number of the oldest one is asked for anew
@@ -23,7 +25,8 @@ const MOST_DOCS = 1_000; // of which something is kept though nothing is asked; 
  * @typedef {"connected" | "offline" | "full" | "closed"} ClientState  "full" is "offline" where the server has no place
  *
  * @typedef {object} Options
- * @property {string} [source]  the name of whoever makes the changes, which one program has at a time. Without it, a new one
+ * @property {string} [source]  the name of whoever makes the changes, which one program has at a time. Without it a page takes one of its
+ *     browser's, and a program a new one
  * @property {boolean} [isNew]  the source was never used before, so its numbers needn't be asked for
  * @property {number} [timeout]  how many milliseconds a call may take that names no other: 30,000 if it isn't given. Where it is given,
  *     `connect` ends by it too
@@ -43,20 +46,18 @@ export async function connect(options) {
   return client;
 }
 
-async function newSource() {
-  const crypto = globalThis.crypto ?? (await import("node:crypto")).webcrypto;
-  const bytes = crypto.getRandomValues(new Uint8Array(12));
-  return "js-" + [...bytes].map((byte) => byte.toString(16).padStart(2, "0")).join("");
-}
-
 /**
  * Connects by itself, and again after each cut. It sends "state" where its state is another than before, "connected" as a session begins, and
  * "cut" as one ends by itself.
+ * @template {{ [name: string]: Event }} [More={}]
+ * @extends {Emitter<{ state: StateEvent<ClientState>, connected: Event, cut: Event } & More>}
  */
-export class Client extends EventTarget {
+export class Client extends Emitter {
   #options;
   /** @type {string | undefined} */
   #source;
+  #isNew; // nothing was ever changed by the source
+  #release = () => {}; // gives the source back
   /** @type {ClientState} */
   #state = "offline";
   /** @type {Session | null} */
@@ -76,6 +77,7 @@ export class Client extends EventTarget {
     super();
     this.#options = options;
     this.#source = options.source;
+    this.#isNew = options.isNew ?? false;
     options.signal?.addEventListener("abort", () => this.#shut(options.signal.reason));
     const endWaking = onWaking(() => this.#wake());
     this.#closing.signal.addEventListener("abort", endWaking);
@@ -196,7 +198,7 @@ export class Client extends EventTarget {
    * @param {import("./document.js").OpenOptions} [options]
    */
   open(doc, options) {
-    return Document.open(this, doc, options);
+    return RichDocument.open(this, doc, options);
   }
 
   /** Ends the session, once all that was sent is answered. What wasn't sent ends with "Closed". */
@@ -205,6 +207,7 @@ export class Client extends EventTarget {
     this.#stop(new RichdError(0, "Closed"));
     session?.end();
     await session?.ended;
+    this.#release();
   }
 
   /**
@@ -218,12 +221,17 @@ export class Client extends EventTarget {
     return { rev };
   }
 
-  /** @param {string} doc @param {import("./session.js").Message} message @param {boolean} isCommand @param {Limits} [limits] */
+  /**
+   * @param {string} doc
+   * @param {import("./session.js").Message} message
+   * @param {boolean} isCommand
+   * @param {Limits & Pick<import("./line.js").Item, "hold" | "kept">} [limits]
+   */
   async #ask(doc, message, isCommand, limits) {
     this.#closing.signal.throwIfAborted();
     const { line } = this.#of(doc);
     /** @type {any} */
-    const item = { message: { ...message, doc }, isCommand, onRetry: limits?.onRetry };
+    const item = { message: { ...message, doc }, isCommand, onRetry: limits?.onRetry, hold: limits?.hold, kept: limits?.kept };
     const answer = new Promise((resolve, reject) => {
       item.settle = (/** @type {any} */ error, /** @type {any} */ reply) => (error ? reject(error) : resolve(reply));
     });
@@ -241,8 +249,7 @@ export class Client extends EventTarget {
   #of(doc) {
     if (!this.#docs.has(doc)) {
       if (this.#docs.size >= MOST_DOCS) this.#forget();
-      const isNew = this.#options.isNew || this.#options.source === undefined;
-      const line = new Line(doc, isNew && !this.#hasForgotten);
+      const line = new Line(doc, this.#isNew && !this.#hasForgotten);
       const news = new News((message, settle) => line.add({ message: { ...message, doc }, isCommand: false, settle }));
       line.session = this.#session;
       this.#docs.set(doc, { line, news });
@@ -270,7 +277,7 @@ export class Client extends EventTarget {
     for (; ; isAgain = true) {
       if (isAgain && !signal.aborted) await this.#pauses.wait();
       signal.throwIfAborted();
-      this.#source ??= await newSource();
+      if (this.#source === undefined) await this.#takeSource();
       try {
         this.#session = await Session.begin(this.#options, this.#source, {
           onNews: (line) => this.#docs.get(line.doc)?.news.take(line),
@@ -282,7 +289,7 @@ export class Client extends EventTarget {
         this.#session.cut();
       } catch (error) {
         signal.throwIfAborted();
-        if (error.code === "ENOENT") throw error; // there is no such program
+        if (error.code === "ENOENT" || error instanceof TypeError) throw error; // no such program, or no such link here
         if (error.code > 0 && error.code !== Refusal.NoMemory) throw error; // the name is none
         this.#trouble = error;
         this.#tell(error.cause?.name === "Full" ? "full" : "offline");
@@ -294,6 +301,13 @@ export class Client extends EventTarget {
     }
     this.#tell("connected");
     this.dispatchEvent(new Event("connected"));
+  }
+
+  async #takeSource() {
+    const { source, isNew, release } = await takeSource(thisPage());
+    [this.#source, this.#isNew, this.#release] = [source, isNew, release];
+    if (this.#closing.signal.aborted) release();
+    if (isNew) for (const { line } of this.#docs.values()) line.beginNumbers();
   }
 
   // The network may be back: it connects at once, or looks whether the connection that there is still is one.
@@ -339,5 +353,6 @@ export class Client extends EventTarget {
   #shut(error) {
     this.#stop(error);
     this.#session?.cut();
+    this.#release();
   }
 }

@@ -1,0 +1,123 @@
+/**
+ * Sends "change" for what others did, "trouble" where something typed is lost, "rebased" where it was fetched anew, "state" where its state is
+ * another than before, and "progress" where `revision` or `isSaved` may have changed.
+ *
+ * `base` is the document at `revision`. What is shown is `base`, with `sent` behind it, and `typed` behind that. News that comes while
+ * `sent` has no answer is held until it has one: only then is it known which revision is its own.
+ *
+ * @extends {Emitter<{ change: ChangeEvent, trouble: TroubleEvent, doubt: DoubtEvent, unkept: UnkeptEvent, rebased: RebasedEvent,
+ *   state: StateEvent<DocumentState>, progress: Event }>}
+ */
+export class RichDocument extends Emitter<{
+    change: ChangeEvent;
+    trouble: TroubleEvent;
+    doubt: DoubtEvent;
+    unkept: UnkeptEvent;
+    rebased: RebasedEvent;
+}> {
+    /**
+     * @param {import("./richd.js").Client} client
+     * @param {string} name
+     * @param {OpenOptions} [options]
+     */
+    static open(client: import("./richd.js").Client, name: string, options?: OpenOptions | undefined): Promise<RichDocument>;
+    constructor();
+    get name(): string;
+    /** The last revision of the server's that is in what is shown. */
+    get revision(): number;
+    /**
+     * What is shown: a delta of the reader's own, of operations that are frozen.
+     * @returns {Delta}
+     */
+    get contents(): OwnDelta;
+    /** How many units are shown: UTF-16 code units, and embeds. */
+    get length(): number;
+    /** Undo and redo of what was typed here. */
+    get history(): History;
+    /** Whether it is followed no longer: it was closed, or trouble came that is final. */
+    get isClosed(): boolean;
+    /** @returns {DocumentState} */
+    get state(): DocumentState;
+    /** Whether all that was typed is on the server's disk. */
+    get isSaved(): boolean;
+    /** Whether what is shown would outlive the page: it is on the server's disk, or kept. */
+    get isKept(): boolean;
+    /**
+     * Changes what is shown by something that was typed. Throws what a server would refuse it by, as BadOps, LineTooLong or PastEnd: then it
+     * isn't shown, and "trouble" tells of it too.
+     * @param {Op[] | { ops: Op[] } | import("./delta.js").QuillDelta} ops
+     */
+    apply(ops: Op[] | {
+        ops: Op[];
+    } | import("./delta.js").QuillDelta): void;
+    /**
+     * Waits until all that was typed is on the server's disk.
+     * @returns {Promise<number>} the revision then
+     */
+    flush(): Promise<number>;
+    /** Follows it no longer. What was sent is still answered; what wasn't is dropped. */
+    close(): void;
+    #private;
+}
+/**
+ * How a document stands, the first of these that holds:
+ * - `closed`: nothing more is taken, as trouble said that was final, or `close` was called;
+ * - `offline`: there is no connection, `full`: because the server has no place; what is typed is sent once there is one;
+ * - `storeFailed`: the server's store has failed; what was typed is sent until the server is started anew;
+ * - `refused`: what was typed last was refused, and is no longer shown, as trouble said;
+ * - `saving`: something typed isn't on the server's disk yet;
+ * - `saved`: all is.
+ */
+export type DocumentState = "closed" | "offline" | "full" | "storeFailed" | "refused" | "saving" | "saved";
+/**
+ * How a document stands, the first of these that holds:
+ * - `closed`: nothing more is taken, as trouble said that was final, or `close` was called;
+ * - `offline`: there is no connection, `full`: because the server has no place; what is typed is sent once there is one;
+ * - `storeFailed`: the server's store has failed; what was typed is sent until the server is started anew;
+ * - `refused`: what was typed last was refused, and is no longer shown, as trouble said;
+ * - `saving`: something typed isn't on the server's disk yet;
+ * - `saved`: all is.
+ */
+export type Op = import("./delta.js").Op;
+/**
+ * How a document stands, the first of these that holds:
+ * - `closed`: nothing more is taken, as trouble said that was final, or `close` was called;
+ * - `offline`: there is no connection, `full`: because the server has no place; what is typed is sent once there is one;
+ * - `storeFailed`: the server's store has failed; what was typed is sent until the server is started anew;
+ * - `refused`: what was typed last was refused, and is no longer shown, as trouble said;
+ * - `saving`: something typed isn't on the server's disk yet;
+ * - `saved`: all is.
+ */
+export type Delta = import("./delta.js").Delta;
+/**
+ * How a document stands, the first of these that holds:
+ * - `closed`: nothing more is taken, as trouble said that was final, or `close` was called;
+ * - `offline`: there is no connection, `full`: because the server has no place; what is typed is sent once there is one;
+ * - `storeFailed`: the server's store has failed; what was typed is sent until the server is started anew;
+ * - `refused`: what was typed last was refused, and is no longer shown, as trouble said;
+ * - `saving`: something typed isn't on the server's disk yet;
+ * - `saved`: all is.
+ */
+export type OpenOptions = {
+    /**
+     * what the document is created with where it isn't there
+     */
+    create?: import("./delta.js").Op[] | undefined;
+    /**
+     * what composes and transforms: quill-delta's class, by default that of the page's Quill or of the
+     * package where there is one
+     */
+    Delta?: import("./delta.js").DeltaClass | undefined;
+    /**
+     * keeps what isn't on the server's disk yet; `richd/offline` gives one
+     */
+    keeper?: import("./keeping.js").Keeper | undefined;
+};
+import { ChangeEvent } from "./events.js";
+import { TroubleEvent } from "./events.js";
+import { DoubtEvent } from "./events.js";
+import { UnkeptEvent } from "./events.js";
+import { RebasedEvent } from "./events.js";
+import { Emitter } from "./emitter.js";
+import { Delta as OwnDelta } from "./delta.js";
+import { History } from "./history.js";

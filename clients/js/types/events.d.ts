@@ -1,0 +1,58 @@
+/**
+ * @typedef {import("./delta.js").Delta} Delta
+ * @typedef {import("./errors.js").RichdError} RichdError
+ */
+/** What others did, or an undo: `delta` changes what was shown before to `contents`. */
+export class ChangeEvent extends Event {
+    /** @param {Delta} delta */
+    constructor(delta: Delta);
+    delta: import("./delta.js").Delta;
+}
+/**
+ * Something that was typed is lost: `delta` is what, as a change of what is left without it, and `error` says why. Where `isFinal` holds
+ * the document is closed, and shows what it last showed.
+ */
+export class TroubleEvent extends Event {
+    /** @param {RichdError} error @param {Delta} delta @param {boolean} isFinal */
+    constructor(error: RichdError, delta: Delta, isFinal: boolean);
+    error: import("./errors.js").RichdError;
+    delta: import("./delta.js").Delta;
+    isFinal: boolean;
+}
+/**
+ * An edit that was sent before the page was loaded, and of which can't be known whether it was taken. It isn't sent again, and isn't shown:
+ * where it was taken it comes as others' changes do. `delta` is the edit, on the document at `revision`.
+ */
+export class DoubtEvent extends Event {
+    /** @param {Delta} delta @param {number} revision */
+    constructor(delta: Delta, revision: number);
+    delta: import("./delta.js").Delta;
+    revision: number;
+}
+/**
+ * The document was fetched anew, as its past from revision `from` on is no longer held: what was typed meanwhile was moved onto revision `to`,
+ * past what makes one of the other. The history has ended.
+ */
+export class RebasedEvent extends Event {
+    /** @param {number} from @param {number} to */
+    constructor(from: number, to: number);
+    from: number;
+    to: number;
+}
+/**
+ * How it stands, `state`, is another than before.
+ * @template {string} State
+ */
+export class StateEvent<State extends string> extends Event {
+    /** @param {State} state */
+    constructor(state: State);
+    state: State;
+}
+/** What is shown couldn't be kept, by `error`. It is tried again, and nothing that isn't kept is sent meanwhile. */
+export class UnkeptEvent extends Event {
+    /** @param {unknown} error */
+    constructor(error: unknown);
+    error: unknown;
+}
+export type Delta = import("./delta.js").Delta;
+export type RichdError = import("./errors.js").RichdError;

@@ -1,0 +1,92 @@
+/**
+ * Writes what a document is whenever it has changed, one write at a time. Where a write fails it tries again, after a while: until then
+ * nothing that isn't written leaves.
+ */
+export class Keeper {
+    /**
+     * @param {Store} store
+     * @param {Key} key  of the document, and behind it "base" for what the server has of it
+     * @param {() => Promise<Lease>} leaseOf  the lease that is held
+     */
+    constructor(store: Store, key: Key, leaseOf: () => Promise<Lease>);
+    /** @type {Promise<void>} when nothing more will be written */
+    ended: Promise<void>;
+    /** @returns {Promise<Kept | undefined>} */
+    load(): Promise<Kept | undefined>;
+    /**
+     * Keeps a document from here on, and has it tell of it by "progress" and "unkept".
+     * @param {EventTarget} document
+     * @param {() => Snapshot} read
+     */
+    watch(document: EventTarget, read: () => Snapshot): void;
+    /** Ends with the keeper: what hasn't left by then stays here. */
+    get signal(): AbortSignal;
+    /** Whether what is shown is written. */
+    get isUpToDate(): boolean;
+    /** Asks which lease is held, for edits that get their number now. */
+    askLease(): Promise<void>;
+    /** Waits until what is there now is written. */
+    write(): Promise<void>;
+    /** Throws InDoubt where a number was kept under another lease than the one that is held. */
+    confirmLease(): Promise<void>;
+    /**
+     * Writes what is there a last time.
+     * @param {any} reason
+     */
+    close(reason: any): void;
+    /**
+     * Drops what is kept.
+     * @param {any} reason
+     */
+    forget(reason: any): void;
+    #private;
+}
+export type Op = import("./delta.js").Op;
+export type Delta = import("./delta.js").Delta;
+export type Key = (string | number)[];
+/**
+ * what a page keeps, as database.js does in IndexedDB
+ */
+export type Store = {
+    /**
+     * undefined where there is nothing
+     */
+    get: (key: Key) => Promise<any>;
+    /**
+     * is done once all of it is on the disk, and does all or nothing
+     */
+    put: (pairs: [Key, any][], dropped?: Key[]) => Promise<void>;
+    keys: () => Promise<Key[]>;
+};
+/**
+ * under which name a document's edits are numbered, and for the how manieth time that name is lent
+ */
+export type Lease = {
+    name: string;
+    epoch: number;
+};
+/**
+ * what a document that types ahead is at a moment
+ */
+export type Snapshot = {
+    base: Delta;
+    revision: number;
+    isStale: boolean;
+    sent: Delta | null;
+    /**
+     * of `sent`, once it may leave
+     */
+    number?: number | undefined;
+    typed: Delta;
+};
+/**
+ * the same, as it was kept
+ */
+export type Kept = {
+    base: Op[];
+    revision: number;
+    isStale: boolean;
+    sent: Op[] | null;
+    number?: number | undefined;
+    typed: Op[];
+};
