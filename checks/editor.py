@@ -4,7 +4,7 @@
 usage: checks/editor.py [--quill FOLDER] [PICTURE]
 
 Keys go to both in turn for ten seconds, so that each edit is on its way while the other writes. In the middle the second editor's
-connection is cut. At the end both have the same contents, `richd dump` shows them too, and each character that was typed is there once.
+connection is cut. Then an input method composes a character in the first while the second is written in. At the end both have the same contents, `richd dump` shows them too, and each character that was typed is there once.
 A screenshot is left in PICTURE, else in editors.png in the temporary folder of the system.
 
 The editors are those of the page's own, or Quill where FOLDER has its quill.js and quill.snow.css. Then Ctrl+Z is pressed in the second before
@@ -123,6 +123,10 @@ class Browser:
             actions += [{"type": "keyDown", "value": one} for one in key] + [{"type": "keyUp", "value": one} for one in reversed(key)]
         self.call("POST", "/actions", {"actions": [{"type": "key", "id": "keyboard", "actions": actions}]})
 
+    def command(self, name, **parameters):
+        """A command of Chromium's own protocol."""
+        return self.call("POST", "/goog/cdp/execute", {"cmd": name, "params": parameters})
+
     def screenshot(self):
         return base64.b64decode(self.call("GET", "/screenshot"))
 
@@ -204,6 +208,21 @@ def undo_alone(browser):
     assert contents(browser)[0]["shared"] == before, f"Ctrl+Z made {contents(browser)} of {before}"
 
 
+def compose_beside(browser, ann, bob):
+    """An input method composes a character in ann's editor while bob's is written in: hers is left alone until the character is there."""
+    browser.run(PLACE, 0, None)
+    browser.command("Input.imeSetComposition", text="k", selectionStart=1, selectionEnd=1)
+    word, character = "beside", "\u304b"
+    browser.run("editors[1].editor.updateContents({ ops: [{ insert: arguments[0] }] }, 'user')", word)
+    bob.typed.update(word)
+    wait_until(lambda: word in json.dumps(contents(browser)[0]["shared"]), "the word in ann's document")
+    assert word not in json.dumps(contents(browser)[0]["editor"]), "ann's editor was changed while a character was composed"
+    browser.command("Input.imeSetComposition", text=character, selectionStart=1, selectionEnd=1)
+    browser.command("Input.insertText", text=character)
+    ann.typed.update(character)
+    wait_until(lambda: are_alike(contents(browser)), "the same contents after a composition")
+
+
 def write_together(browser, proxy):
     wait_until(lambda: browser.run("return globalThis.editors !== undefined"), "the page's editors")
     ann, bob = Writer(browser, 0, ANN, "ann"), Writer(browser, 1, BOB, "bob")
@@ -225,6 +244,7 @@ def write_together(browser, proxy):
         ann.turn()
         bob.turn()
     wait_until(lambda: are_alike(contents(browser)), "the same contents in both")
+    compose_beside(browser, ann, bob)
     assert len(proxy.web_sockets) == connections + 1, "no connection was begun again"
     return ann, bob, contents(browser)
 

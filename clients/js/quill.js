@@ -59,10 +59,10 @@ class Binding {
   #ending = new AbortController();
 
   /** @param {any} quill @param {RichDocument} document @param {BindOptions} [options] */
-  constructor(quill, document, { upload } = {}) {
+  constructor(quill, document, options) {
     this.#quill = quill;
     this.#document = document;
-    this.#upload = upload;
+    this.#upload = options?.upload;
     this.#Delta = /** @type {any} */ (document.contents.constructor);
     this.#held = new this.#Delta();
     if (!document.isClosed) this.#addLineEnd();
@@ -171,7 +171,7 @@ class Binding {
 
   /** @param {{ index: number, op: Op }} upload */
   async #start({ index, op }) {
-    const [[name, value]] = Object.entries(op.insert);
+    const [[name, value]] = /** @type {[string, string][]} */ (Object.entries(op.insert));
     const place = { index };
     this.#places.add(place);
     try {

@@ -14,6 +14,7 @@
  * @returns {Promise<T>}
  */
 export function within<T>(promise: Promise<T>, { signal, timeout }: Limits, late: () => Error): Promise<T>;
+export const LONGEST: number;
 export type Limits = {
     /**
      * ends the call with the signal's reason

@@ -20,7 +20,7 @@ export function cutsPair(delta: {
     ops: Op[];
 }): boolean;
 export const MAX_LINE: 65536;
-export function bytesOf(op: Op): number;
+export function bytesOf(op: Op | string): number;
 export function reachOf({ ops }: {
     ops: Op[];
 }): number;

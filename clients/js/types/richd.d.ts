@@ -11,7 +11,7 @@
  * @property {number} [timeout]  how many milliseconds a call may take that names no other: 30,000 if it isn't given. Where it is given,
  *     `connect` ends by it too
  * @property {number} [patience]  after so many milliseconds without a byte the connection is cut, and begun again; after half of them the
- *     server is asked whether it is there. 30,000 if it isn't given
+ *     server is asked whether it is there. 30,000 if it isn't given, `Infinity` for neither
  * @property {AbortSignal} [signal]  closes the client
  */
 /**
@@ -146,7 +146,7 @@ export type Options = {
     timeout?: number | undefined;
     /**
      * after so many milliseconds without a byte the connection is cut, and begun again; after half of them the
-     * server is asked whether it is there. 30,000 if it isn't given
+     * server is asked whether it is there. 30,000 if it isn't given, `Infinity` for neither
      */
     patience?: number | undefined;
     /**
