@@ -1,7 +1,7 @@
-// The page: two editors on one document. Each has a client, and so a session, of its own.
+// The page: two editors on one document. Each has a client, and so a session and a source, of its own. What is typed outlives the page.
 
+import { connect } from "../../clients/js/offline.js";
 import { bind } from "../../clients/js/quill.js";
-import { connect } from "../../clients/js/richd.js";
 import { Editable } from "./editable.js";
 
 const DOC = "letter";
@@ -35,35 +35,48 @@ function editorIn(section, Quill) {
   return editor;
 }
 
+/** Ctrl+Z takes back what was typed here, and Ctrl+Y brings it back. Quill does this by itself. */
+function addHistory(section, shared) {
+  section.addEventListener("keydown", (event) => {
+    const key = event.key.toLowerCase();
+    if (!(event.ctrlKey || event.metaKey) || (key !== "z" && key !== "y")) return;
+    event.preventDefault();
+    if (key === "y" || event.shiftKey) shared.history.redo();
+    else shared.history.undo();
+  });
+}
+
 async function begin(section, Quill) {
-  // Without a name the client has a new one each time the page is loaded. A page that has users takes theirs, for one tab at a time.
   const client = await connect({ url });
   const shared = await client.open(DOC, { create: [{ insert: "\n" }] });
   const editor = editorIn(section, Quill);
   bind(editor, shared);
+  if (Quill === undefined) addHistory(section, shared);
 
   const state = section.querySelector(".state");
-  let isCut = false;
   const show = () => {
-    state.classList.toggle("cut", isCut);
-    state.textContent = isCut ? "no connection" : `revision ${shared.revision}${shared.isSaved ? ", saved" : ", saving"}`;
+    state.classList.toggle("cut", !["saved", "saving"].includes(shared.state));
+    const kept = shared.isSaved ? "" : shared.isKept ? ", kept here" : ", not kept yet";
+    state.textContent = `revision ${shared.revision}, ${shared.state}${kept}`;
   };
-  client.addEventListener("cut", () => show((isCut = true)));
-  client.addEventListener("connected", () => show((isCut = false)));
-  shared.addEventListener("trouble", ({ error }) => (state.title = error.message));
-  shared.addEventListener("progress", show);
+  for (const name of ["progress", "state"]) shared.addEventListener(name, show);
+  shared.addEventListener("trouble", ({ error }) => (state.title = `lost: ${error.message}`));
+  shared.addEventListener("doubt", ({ delta }) => (state.title = `perhaps lost: ${JSON.stringify(delta.ops)}`));
   show();
   return { client, editor, shared };
 }
 
 const Quill = await loadQuill();
 const sections = [...document.querySelectorAll("section")];
+const editors = [];
+for (const section of sections) {
+  // one after the other, so that each has its source again when the page is loaded again
+  try {
+    editors.push(await begin(section, Quill));
+  } catch (error) {
+    section.querySelector(".state").textContent = error.message;
+    throw error;
+  }
+}
 /** For the console, and for checks/editor.py. */
-globalThis.editors = await Promise.all(
-  sections.map((section) =>
-    begin(section, Quill).catch((error) => {
-      section.querySelector(".state").textContent = error.message;
-      throw error;
-    }),
-  ),
-);
+globalThis.editors = editors;
