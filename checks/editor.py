@@ -1,7 +1,7 @@
 #!/usr/bin/env python3
 """Types in the editors of examples/editor, in two windows of a headless Chromium, through what befalls an editor.
 
-usage: checks/editor.py [PICTURE]
+usage: checks/editor.py [--quill FOLDER] [PICTURE]
 
 1. Keys go to both editors of a window in turn for ten seconds, so that each edit is on its way while the other writes. In the middle the
    second editor's connection is cut. Each character that was typed is there once.
@@ -14,9 +14,13 @@ usage: checks/editor.py [PICTURE]
 After each of these the four editors have the same contents, and at the end `richd dump` shows them too. A screenshot is left in PICTURE, else
 in editors.png in the temporary folder of the system, and one of each further state beside it, as editors-offline.png.
 
+The editors are those of the page's own, or Quill where FOLDER has its quill.js and quill.snow.css. At the beginning Ctrl+Z is pressed in the
+second before it has typed anything, which has to leave alone what the first typed.
+
 It wants Debian's chromium, chromium-driver, nodejs and node-ws, and the program that ./demo builds, or another that RICHD names. Where there
 is no Chromium it says so, and its status is 0.
 """
+import argparse
 import base64
 import collections
 import http.client
@@ -229,12 +233,22 @@ def text_of(ops):
     return "".join(op["insert"] if isinstance(op["insert"], str) else "*" for op in ops)
 
 
+def undo_alone(browser):
+    """Ctrl+Z of one who has typed nothing leaves alone what the other typed."""
+    before = contents(browser)[0]["shared"]
+    browser.run("editors[1].editor.setSelection(0, 0)")
+    browser.press(CONTROL + "z")
+    wait_until(lambda: are_alike(contents(browser)), "the same contents after Ctrl+Z")
+    assert contents(browser)[0]["shared"] == before, f"Ctrl+Z made {contents(browser)} of {before}"
+
+
 def write_together(browser, proxy):
     wait_until(lambda: browser.run("return globalThis.editors !== undefined"), "the page's editors")
     ann, bob = Writer(browser, 0, ANN, "ann"), Writer(browser, 1, BOB, "bob")
     ann.browser.run("editors[0].editor.setSelection(0, 0)")
     browser.press(ENTER)  # a line for each
     wait_until(lambda: are_alike(contents(browser)), "a line for each")
+    undo_alone(browser)
     connections = len(proxy.web_sockets)
     assert connections == 2, f"{connections} connections"
 
@@ -358,7 +372,7 @@ class Windows:
         self.show(self.there, "saved")
 
 
-def main(picture):
+def main(picture, quill):
     if not os.access(RICHD, os.X_OK):
         sys.exit(f"{RICHD} isn't there: ./demo builds it, or name another program in RICHD")
     if shutil.which("chromium") is None or shutil.which("chromedriver") is None:
@@ -367,7 +381,7 @@ def main(picture):
     failed = []
     with tempfile.TemporaryDirectory() as folder:
         store = os.path.join(folder, "store")
-        command = [str(ROOT / "examples/editor/run"), "--listen", "127.0.0.1:0"]
+        command = [str(ROOT / "examples/editor/run"), "--listen", "127.0.0.1:0", *(["--quill", quill] if quill else [])]
         served = subprocess.Popen(command, stdout=subprocess.PIPE, text=True, env={**os.environ, "STORE": store, "RICHD": RICHD})
         try:
             host, port = re.search(r"http://(.+):(\d+)/", served.stdout.readline()).groups()
@@ -410,4 +424,8 @@ def main(picture):
 
 
 if __name__ == "__main__":
-    sys.exit(main(sys.argv[1] if len(sys.argv) > 1 else os.path.join(tempfile.gettempdir(), "editors.png")))
+    parser = argparse.ArgumentParser(usage="checks/editor.py [--quill FOLDER] [PICTURE]")
+    parser.add_argument("--quill", metavar="FOLDER")
+    parser.add_argument("picture", nargs="?", default=os.path.join(tempfile.gettempdir(), "editors.png"))
+    words = parser.parse_args()
+    sys.exit(main(words.picture, words.quill))

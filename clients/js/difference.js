@@ -144,7 +144,9 @@ function betweenLines(old, young, between) {
     end = first === -1 ? 0 : old.length - first - 1;
   }
   const [one, other] = [old.slice(start, old.length - end), young.slice(start, young.length - end)];
-  return [["keep", start], ...(one === other ? [["keep", one.length]] : between(one, other)), ["keep", end]];
+  /** @type {Stretch[]} */
+  const middle = one === other ? [["keep", one.length]] : between(one, other);
+  return [["keep", start], ...middle, ["keep", end]];
 }
 
 /** @param {string} text @param {RegExp} part */

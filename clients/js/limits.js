@@ -1,5 +1,7 @@
 // How long something may take.
 
+export const LONGEST = 2 ** 31 - 1; // milliseconds of a timer
+
 /**
  * @typedef {object} Limits
  * @property {AbortSignal} [signal]  ends the call with the signal's reason
@@ -22,7 +24,7 @@ export function within(promise, { signal, timeout }, late) {
   /** @type {() => void} */
   let abort;
   const limited = new Promise((resolve, reject) => {
-    if (Number.isFinite(timeout)) timer = setTimeout(() => reject(late()), timeout);
+    if (Number.isFinite(timeout)) timer = setTimeout(() => reject(late()), Math.min(timeout, LONGEST));
     abort = () => reject(signal.reason);
     signal?.addEventListener("abort", abort);
     if (signal?.aborted) abort();

@@ -41,11 +41,11 @@ export class LineReader {
 
 /** @param {unknown} value */
 const isText = (value) => typeof value === "string";
-/** @param {unknown} value */
+/** @param {any} value */
 const isNumber = (value) => Number.isSafeInteger(value) && value >= 0;
-/** @param {unknown} ops */
+/** @param {any} ops */
 const areOps = (ops) => Array.isArray(ops) && ops.every(isOp);
-/** @param {unknown} ops */
+/** @param {any} ops */
 const areInserts = (ops) => areOps(ops) && ops.every(({ insert }) => insert !== undefined);
 
 /**

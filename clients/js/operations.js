@@ -16,8 +16,8 @@ const encoder = new TextEncoder();
  */
 
 /**
- * How many bytes an operation takes in a line.
- * @param {Op} op
+ * How many bytes an operation, or a text, takes in a line, with the comma behind it.
+ * @param {Op | string} op
  */
 export const bytesOf = (op) => encoder.encode(JSON.stringify(op)).length + 1;
 
@@ -36,7 +36,7 @@ function isValue(value, mayBeNull) {
   return Number.isSafeInteger(value) || typeof value === "boolean" || (mayBeNull && value === null);
 }
 
-/** @param {unknown} value */
+/** @param {any} value */
 const isLength = (value) => Number.isInteger(value) && value >= 0 && value <= MOST_LENGTH;
 
 /**

@@ -4,7 +4,7 @@ import { lengthOf } from "./delta.js";
 import { difference } from "./difference.js";
 import { RichdError } from "./errors.js";
 import { TroubleEvent } from "./events.js";
-import { growthOf } from "./operations.js";
+import { growthOf, reachOf } from "./operations.js";
 
 /**
  * @typedef {import("./delta.js").Op} Op
@@ -59,10 +59,10 @@ class Binding {
   #ending = new AbortController();
 
   /** @param {any} quill @param {RichDocument} document @param {BindOptions} [options] */
-  constructor(quill, document, { upload } = {}) {
+  constructor(quill, document, options) {
     this.#quill = quill;
     this.#document = document;
-    this.#upload = upload;
+    this.#upload = options?.upload;
     this.#Delta = /** @type {any} */ (document.contents.constructor);
     this.#held = new this.#Delta();
     if (!document.isClosed) this.#addLineEnd();
@@ -88,11 +88,12 @@ class Binding {
     this.#quill.enable?.(false);
   }
 
+  /** Returns whether the document had no line's end at its end. */
   #addLineEnd() {
-    const { contents } = this.#document;
-    const last = contents.ops.at(-1)?.insert;
-    if (typeof last === "string" && last.endsWith("\n")) return;
-    this.#document.apply(new this.#Delta().retain(contents.length()).insert("\n"));
+    const last = this.#document.contents.ops.at(-1)?.insert;
+    if (typeof last === "string" && last.endsWith("\n")) return false;
+    this.#document.apply(new this.#Delta().retain(this.#document.length).insert("\n"));
+    return true;
   }
 
   /** @param {() => void} change */
@@ -170,7 +171,7 @@ class Binding {
 
   /** @param {{ index: number, op: Op }} upload */
   async #start({ index, op }) {
-    const [[name, value]] = Object.entries(op.insert);
+    const [[name, value]] = /** @type {[string, string][]} */ (Object.entries(op.insert));
     const place = { index };
     this.#places.add(place);
     try {
@@ -203,6 +204,8 @@ class Binding {
     const change = this.#held;
     this.#held = new this.#Delta();
     if (change.ops.length > 0) this.#update(change);
+    const reachesEnd = reachOf(change) === this.#document.length - growthOf(change);
+    if (reachesEnd && this.#addLineEnd()) this.#setRight(); // somebody took it away
     for (const { place, op } of this.#uploaded.splice(0)) {
       this.#places.delete(place);
       this.#quill.updateContents(new this.#Delta().retain(place.index).push(op), "user");

@@ -5,7 +5,7 @@ import { Emitter } from "./emitter.js";
 import { Refusal, RichdError } from "./errors.js";
 import { StateEvent } from "./events.js";
 import { follow } from "./follow.js";
-import { within } from "./limits.js";
+import { LONGEST, within } from "./limits.js";
 import { Line } from "./line.js";
 import { News } from "./news.js";
 import { Pauses } from "./pauses.js";
@@ -31,7 +31,7 @@ const MOST_DOCS = 1_000; // of which something is kept though nothing is asked; 
  * @property {number} [timeout]  how many milliseconds a call may take that names no other: 30,000 if it isn't given. Where it is given,
  *     `connect` ends by it too
  * @property {number} [patience]  after so many milliseconds without a byte the connection is cut, and begun again; after half of them the
- *     server is asked whether it is there. 30,000 if it isn't given
+ *     server is asked whether it is there. 30,000 if it isn't given, `Infinity` for neither
  * @property {AbortSignal} [signal]  closes the client
  */
 
@@ -282,7 +282,7 @@ export class Client extends Emitter {
         this.#session = await Session.begin(this.#options, this.#source, {
           onNews: (line) => this.#docs.get(line.doc)?.news.take(line),
           onEnd: () => this.#onCut(),
-          patience: this.#options.patience ?? PATIENCE,
+          patience: Math.min(this.#options.patience ?? PATIENCE, LONGEST),
           signal,
         });
         if (!signal.aborted) break;

@@ -27,8 +27,7 @@ export class Editable {
   #contents = new Delta([{ insert: "\n" }]);
   #listeners = new Set();
   #typing = {}; // attributes that were set with nothing selected, for what is typed next
-  #isComposing = false;
-  #held = new Delta(); // what the others did while a character is composed of several keys
+  #isComposing = false; // a character of several keys: until it ends the text is the browser's, and `bind` leaves it alone
 
   constructor(element) {
     this.#element = element;
@@ -40,6 +39,15 @@ export class Editable {
     element.addEventListener("compositionstart", () => (this.#isComposing = true));
     element.addEventListener("compositionend", () => this.#afterComposition());
     this.#render();
+  }
+
+  /** Where the text is, of which `bind` asks when a character is composed. */
+  get root() {
+    return this.#element;
+  }
+
+  enable(isEnabled = true) {
+    this.#element.contentEditable = String(isEnabled);
   }
 
   getContents() {
@@ -57,9 +65,7 @@ export class Editable {
   }
 
   updateContents({ ops }, source = "api") {
-    const change = new Delta([...ops]);
-    if (this.#isComposing) this.#held = this.#held.compose(change);
-    else this.#change(change, source);
+    this.#change(new Delta([...ops]), source);
   }
 
   on(name, listener) {
@@ -135,7 +141,7 @@ export class Editable {
     this.#readBack();
   }
 
-  // Takes over what the browser itself did to the text, and what was held meanwhile.
+  // Takes over what the browser itself did to the text.
   #readBack() {
     const text = this.#element.textContent;
     const shown = { ops: [{ insert: text.endsWith("\n") ? text : text + "\n" }] };
@@ -143,12 +149,7 @@ export class Editable {
     for (const op of difference({ ops: [{ insert: textOf(this.#contents) }] }, shown).ops) {
       typed.push(op.insert === undefined ? op : { ...op, attributes: this.#attributesFor(typed.length()) });
     }
-    const held = this.#held;
-    const selected = this.#selected()?.map((index) => held.transformPosition(index, true));
-    this.#held = new Delta();
-    this.#contents = this.#contents.compose(held);
-    this.#render(selected);
-    this.#change(held.transform(typed, true), "user", selected);
+    this.#change(typed, "user", this.#selected());
   }
 
   // The selection, where it lies in this text.

@@ -35,6 +35,8 @@ function editorIn(section, Quill) {
   return editor;
 }
 
+const STATES = { offline: "no connection", full: "the server is full", storeFailed: "the server's disk failed" }; // others are named as they are
+
 /** Ctrl+Z takes back what was typed here, and Ctrl+Y brings it back. Quill does this by itself. */
 function addHistory(section, shared) {
   section.addEventListener("keydown", (event) => {
@@ -48,21 +50,28 @@ function addHistory(section, shared) {
 
 async function begin(section, Quill) {
   const client = await connect({ url });
+  const stateLine = section.querySelector(".state");
+  const show = (state, words) => {
+    stateLine.classList.toggle("cut", state !== "saved" && state !== "saving");
+    stateLine.textContent = [...words, STATES[state] ?? state].join(", ");
+  };
+  const showWaiting = () => show(client.state, []);
+  client.addEventListener("state", showWaiting);
+  showWaiting();
   const shared = await client.open(DOC, { create: [{ insert: "\n" }] });
+  client.removeEventListener("state", showWaiting);
+
   const editor = editorIn(section, Quill);
   bind(editor, shared);
   if (Quill === undefined) addHistory(section, shared);
-
-  const state = section.querySelector(".state");
-  const show = () => {
-    state.classList.toggle("cut", !["saved", "saving"].includes(shared.state));
-    const kept = shared.isSaved ? "" : shared.isKept ? ", kept here" : ", not kept yet";
-    state.textContent = `revision ${shared.revision}, ${shared.state}${kept}`;
+  const showDocument = () => {
+    const kept = shared.isSaved ? [] : [shared.isKept ? "kept here" : "not kept yet"];
+    show(shared.state, [`revision ${shared.revision}`, ...kept]);
   };
-  for (const name of ["progress", "state"]) shared.addEventListener(name, show);
-  shared.addEventListener("trouble", ({ error }) => (state.title = `lost: ${error.message}`));
-  shared.addEventListener("doubt", ({ delta }) => (state.title = `perhaps lost: ${JSON.stringify(delta.ops)}`));
-  show();
+  shared.addEventListener("trouble", ({ error }) => (stateLine.title = error.message));
+  shared.addEventListener("doubt", ({ delta }) => (stateLine.title = `perhaps lost: ${JSON.stringify(delta.ops)}`));
+  for (const name of ["progress", "state"]) shared.addEventListener(name, showDocument);
+  showDocument();
   return { client, editor, shared };
 }
 

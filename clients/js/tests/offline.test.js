@@ -87,6 +87,20 @@ test("what was typed without a server is shown after a reload, and sent once the
   assert.deepEqual(again.contents.ops, newest());
 });
 
+test("what isn't kept is opened once there is a server", async (t) => {
+  let isAway = true;
+  const { load } = await prepared(t, { spoil: (_, session) => isAway && session.source !== "creator" && (session.cut(), true) });
+  const { open, client } = await load(undefined, { timeout: 200 });
+  let isOpen = false;
+  const opening = open().then((document) => ((isOpen = true), document));
+  await new Promise((resolve) => setTimeout(resolve, 300));
+  assert.equal(isOpen, false);
+  isAway = false;
+  assert.equal(textOf((await opening).contents), "Hello\n");
+  const never = client.open("none");
+  await assert.rejects(never, { name: "NoDocument" });
+});
+
 test("an edit leaves once it is written with its number, and one write is made at a time", async (t) => {
   const edits = [];
   const { load, browser } = await prepared(t, { spoil: (message) => (message.base < 2 ** 52 && edits.push(message.n), false) });

@@ -39,7 +39,7 @@ async function prepared(t, ops = [{ insert: "\n" }], faults = {}) {
     const document = await client.open("d");
     const troubles = [];
     document.addEventListener("trouble", ({ error, delta, isFinal }) => troubles.push([error.name, delta.ops, isFinal]));
-    return { client, document, quill, troubles, unbind: bind(quill, document, options) };
+    return { server: server.address, client, document, quill, troubles, unbind: bind(quill, document, options) };
   };
   const settled = async (...people) => {
     await Promise.all(people.map(({ document }) => document.flush()));
@@ -153,6 +153,21 @@ test("what a module of the editor does about another's change is taken", async (
   await until(() => text() === "@bob (away)\n");
   await settled(ann, bob);
   areAlike(ann, bob);
+});
+
+test("a line's end that somebody takes away at the end is put there again", async (t) => {
+  const { person, settled, areAlike, text } = await prepared(t, [{ insert: "Hello\n" }]);
+  const ann = await person();
+  const bob = await connect(ann.server);
+  t.after(() => bob.close());
+  await bob.edit("d", [{ retain: 1 }, { delete: 5 }], 1);
+  await until(() => text() === "H\n");
+  await settled(ann);
+  areAlike(ann);
+  ann.quill.press(1, "i");
+  await settled(ann);
+  assert.equal(text(), "Hi\n");
+  assert.deepEqual(ann.troubles, []);
 });
 
 test("what the document refuses is taken out of the editor again", async (t) => {

@@ -144,6 +144,7 @@ export class Quill extends EventEmitter {
   #change(change, source) {
     const before = this.#contents;
     this.#contents = before.compose(change);
+    if (!`${this.#contents.ops.at(-1)?.insert}`.endsWith("\n")) this.#contents.insert("\n"); // which Quill never does without
     if (change.ops.length === 0 || source === "silent") return change;
     this.emit("editor-change", "text-change", change, before, source);
     this.emit("text-change", change, before, source);

@@ -24,7 +24,8 @@ function conversationOf(name) {
 
 test("the conversation of docs/PROTOCOL.md", needsRichd, async (t) => {
   const proxy = await proxied(t, await new Store(t).serve());
-  const [ann, bob] = [await connected(t, proxy.address, { source: "ann" }), await connected(t, proxy.address, { source: "bob", isNew: true })];
+  const quiet = { ...proxy.address, patience: Infinity }; // it asks nothing but what is said here
+  const [ann, bob] = [await connected(t, quiet, { source: "ann" }), await connected(t, quiet, { source: "bob", isNew: true })];
   const newSession = async (client) => {
     const connecting = new Promise((resolve) => client.addEventListener("connected", resolve, { once: true }));
     proxy.cut(client.source);
