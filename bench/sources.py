@@ -35,10 +35,10 @@ def processor_time(store, lines):
 def with_sources(store, sources):
     """A document that the first source created, and to which each other one has sent an edit without effect."""
     with Server(store) as server:
-        with server.connect("s0") as client:
+        with server.connect("s0", is_new=True) as client:
             client.create("d", [{"insert": "x" * LETTERS}])
         for number in range(1, sources):
-            with server.connect(f"s{number}") as client:
+            with server.connect(f"s{number}", is_new=True) as client:
                 client.edit("d", [], base=number)
 
 

@@ -3,10 +3,10 @@
 
 usage: checks/clients.py [SECONDS] [SEED]     (default: 300 seconds)
 
-The server is killed and started again, connections are cut, or lose what the server says; documents are deleted, what was done is undone, pages
-are loaded anew, characters are composed meanwhile. Rounds of some ten seconds, each on a store of its own, end with all three editors, their
-documents and `richd dump` alike, and each character there once. The last line has the counts. The editor is the stub of Quill of the client's
-own tests.
+The server is killed and started again, connections are cut, or lose what the server says; documents are deleted, what was done is undone,
+pages are loaded anew before all is saved, characters are composed meanwhile. Rounds of some ten seconds, each on a store of its own, end with
+all three editors, their documents and `richd dump` alike, and each character there once. The last line has the counts. The editor is the stub
+of Quill of the client's own tests.
 
 It wants Debian's nodejs, and the program that ./demo builds, or another that RICHD names.
 """

@@ -41,20 +41,21 @@ class Wire(TcpLink):
 
 
 class Editor:
-    """Somebody who edits, and what is to be kept between two sessions."""
+    """Somebody who edits, and counts his commands himself, so that the client asks for no number."""
 
     def __init__(self, source):
-        self.source, self.numbers = source, {}
+        self.source, self.number = source, 0
 
     def __enter__(self):
-        self.client = richd.connect(
-            link=self.opened, source=self.source, numbers=self.numbers, timeout=PATIENCE, trace=self.trace
-        )
+        self.client = richd.connect(link=self.opened, source=self.source, timeout=PATIENCE, trace=self.trace)
         return self
 
     def __exit__(self, *cause):
-        self.numbers = self.client.numbers()
         self.client.close()
+
+    def next(self):
+        self.number += 1
+        return self.number
 
     def opened(self):
         self.wire = Wire(*server.address)
@@ -68,23 +69,23 @@ def converse():
     """What the page tells."""
     ann, bob = Editor("ann"), Editor("bob")
     with ann:
-        ann.client.create(DOC, [{"insert": "Hello world"}])
+        ann.client.create(DOC, [{"insert": "Hello world"}], number=ann.next())
         ann.client.since(DOC, 0)
     with bob:
         bob.client.fetch(DOC)
-        bob.client.edit(DOC, [{"insert": "Oh. "}], base=1)
+        bob.client.edit(DOC, [{"insert": "Oh. "}], base=1, number=bob.next())
     with ann:
-        ann.client.edit(DOC, BOLD, base=1)
+        ann.client.edit(DOC, BOLD, base=1, number=ann.next())
         ann.client.since(DOC, 1)
 
         # The reply is lost.
         ann.wire.is_deaf = True
-        lost = ann.client.ahead.edit(DOC, MARK, base=3)
+        lost = ann.client.ahead.edit(DOC, MARK, base=3, number=ann.next())
         assert lost.result(PATIENCE) == richd.Taken(4, again=True)
 
         changes = ann.client.follow(DOC, 3)
         marked = changes.next(PATIENCE)
-        ann.client.undo(DOC)
+        ann.client.undo(DOC, number=ann.next())
         unmarked = changes.next(PATIENCE)
         changes.close()
         while not held[-1][2].startswith('{"doc":"demo","ok":"unsubscribed"'):

@@ -113,7 +113,7 @@ class Writer:
         self.random = random.Random(number)
         self.may_connect = threading.Event()
         self.may_connect.set()
-        self.client = richd.connect(link=self.connected, source=self.source, timeout=PATIENCE)
+        self.client = richd.connect(link=self.connected, source=self.source, is_new=True, timeout=PATIENCE)
 
     def connected(self):
         self.may_connect.wait()

@@ -7,6 +7,7 @@ usage: checks/docs.py     in any folder; it prints a line for each finding, and 
   broken, and with what the head imports.
 - What README.md and the files of docs/ quote as code exists: one file has all words of a name as State::plan, and a path is that of a file.
 - Each `old:` of an edit stands once in its file, as the pairs before it leave that.
+- docs/PROMISES.md names each edit, and its column of edits names no other: as EDIT, or as CRATE/EDIT where two crates have the name.
 - The files that docs/PROMISES.md says to read have so many lines, and together so many hundreds.
 - crates.txt lists each crate, behind those that it stands on.
 
@@ -62,6 +63,22 @@ def check_edits():
                     find(edit, f"this stands {text.count(old)} times: {old.strip()}")
             elif key == "new":
                 text = text.replace(old, value)
+
+
+def check_named_edits():
+    document = TOP / "docs/PROMISES.md"
+    edits = sorted(CRATES.glob("*/must-fail/*.edit"))
+    names = [it.stem for it in edits]
+    named = {it.stem if names.count(it.stem) == 1 else f"{it.parent.parent.name}/{it.stem}": it for it in edits}
+    for name, edit in named.items():
+        if f"`{name}`" not in document.read_text():
+            find(edit, f"docs/PROMISES.md doesn't name it as `{name}`")
+    in_table = False
+    for line in document.read_text().splitlines():
+        in_table = line.endswith("| Edits |") or in_table and line.startswith("|")
+        for name in re.findall(r"`([^`]+)`", line.split("|")[-2]) if in_table else []:
+            if name not in named:
+                find(document, f"there is no edit `{name}`")
 
 
 # Each name that a text imports, with its whole path.
@@ -165,6 +182,7 @@ def check_lengths():
 
 check_order()
 check_edits()
+check_named_edits()
 check_callers()
 check_quoted()
 check_lengths()

@@ -10,6 +10,7 @@ beginning by more than MOST for each place (Linux tells it). A row that fails sa
 Run ./demo first, which builds crates/richd/out/richd, or name another program in RICHD. The store lies in a temporary folder (TMPDIR).
 """
 import os
+import signal
 import socket
 import sys
 import tempfile
@@ -173,8 +174,8 @@ def closed_in_mid_reply():
             for stream in streams:
                 assert len(read_up_to(stream, part)) == part
                 end(stream)
-    with server.connect("s", numbers={"middle": edits}, timeout=PATIENCE) as client:
-        assert client.edit("middle", [{"insert": "!"}], 1) == richd.Taken(edits + 1, again=True)
+    with server.connect("s", timeout=PATIENCE) as client:
+        assert client.edit("middle", [{"insert": "!"}], 1, number=edits) == richd.Taken(edits + 1, again=True)
         assert client.fetch("middle") == richd.Contents(edits + 1, [{"insert": "!" * edits + "x" * 15_000}])
 
 
@@ -254,6 +255,40 @@ def dear_lines():
         stream.close()
 
 
+def stopped_server():
+    """The server is stopped by a signal and goes on: what waits, what is in the middle of a line and what follows is served on."""
+    with session_soon() as silent, session_soon() as half, session_soon() as follower, server.connect("writer", timeout=PATIENCE) as writer:
+        assert writer.create("stopped", []) == richd.Taken(1)
+        expect(follower, spelled(subscribe("stopped", 1)), b'{"doc":"stopped","ok":"subscribed","rev":1}\n')
+        half.send(b"{")
+        for number in range(1, 6):
+            time.sleep(0.15)  # by now each session waits in a read
+            server.process.send_signal(signal.SIGSTOP)
+            time.sleep(0.05)
+            server.process.send_signal(signal.SIGCONT)
+            assert writer.edit("stopped", [{"insert": "x"}], number) == richd.Taken(number + 1)
+            news = b'{"doc":"stopped","news":%d,"ops":[{"insert":"x"}]}\n' % (number + 1)
+            got = read_up_to(follower, len(news))
+            assert got == news, (got, news)
+        expect(silent, b"{\n", BAD_LINE)
+        expect(half, b"\n", BAD_LINE)
+
+
+def news_in_time():
+    """Who sends nothing is told of each edit within a second."""
+    with session_soon() as follower, server.connect("writer", timeout=PATIENCE) as writer:
+        assert writer.create("news", []) == richd.Taken(1)
+        expect(follower, spelled(subscribe("news", 1)), b'{"doc":"news","ok":"subscribed","rev":1}\n')
+        for number in range(1, 8):
+            time.sleep(0.13 * number)
+            begin = time.monotonic()
+            assert writer.edit("news", [{"insert": "x"}], number) == richd.Taken(number + 1)
+            news = b'{"doc":"news","news":%d,"ops":[{"insert":"x"}]}\n' % (number + 1)
+            got, took = read_up_to(follower, len(news)), time.monotonic() - begin
+            assert got == news, (got, news)
+            assert took < 1, f"news {number + 1} took {took:.2f} s"
+
+
 rows = [
     line_without_end,
     longest_line,
@@ -267,6 +302,8 @@ rows = [
     never_reads,
     never_reads_news,
     dear_lines,
+    stopped_server,
+    news_in_time,
 ]
 
 

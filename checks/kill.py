@@ -63,7 +63,7 @@ class Writer:
 
     def __init__(self, number, place):
         self.source, self.own = f"s{number}", f"own{number}"
-        self.client = richd.connect(link=lambda: TcpLink(*place.server.address), source=self.source, timeout=PATIENCE)
+        self.client = richd.connect(link=lambda: TcpLink(*place.server.address), source=self.source, is_new=True, timeout=PATIENCE)
         self.base = {self.own: 1, SHARED: 1}  # the newest revision that is known
         self.revisions = {self.own: [], SHARED: []}  # of the numbers 1 and so on
         self.sent = []
@@ -103,8 +103,8 @@ class Writer:
         """Sends the last numbers again, the oldest first."""
         revisions = self.revisions[doc]
         for number in range(max(1, len(revisions) - WINDOW + 1), len(revisions) + 1):
-            with server.connect(self.source, numbers={doc: number}, timeout=PATIENCE) as other:
-                answer = other.edit(doc, [], self.base[doc])
+            with server.connect(self.source, timeout=PATIENCE) as other:
+                answer = other.edit(doc, [], self.base[doc], number=number)
                 assert answer == richd.Taken(revisions[number - 1], True), (doc, number, answer)
 
     def go_on(self, server):
@@ -112,10 +112,11 @@ class Writer:
         for doc in (self.own, SHARED):
             self.base[doc] = self.client.fetch(doc).rev
             self.send_again(server, doc)
-            beyond = {doc: self.client.numbers()[doc] + 1}
-            with server.connect(self.source, numbers=beyond, timeout=PATIENCE) as other:
+            beyond = self.client.next_number(doc) + 1
+            with server.connect(self.source, timeout=PATIENCE) as other:
+                assert other.next_number(doc) == beyond - 1
                 try:
-                    raise AssertionError(other.edit(doc, [], self.base[doc]))
+                    raise AssertionError(other.edit(doc, [], self.base[doc], number=beyond))
                 except richd.Refused as refusal:
                     assert refusal.code == GAP, refusal
         self.edit_both()

@@ -1,5 +1,5 @@
 #!/usr/bin/env python3
-"""Feeds one document by eight sessions at once, and looks how far its newest milestone is behind.
+"""Feeds one document by eight sessions at once, and looks how far its newest milestone is behind. And by one session, and looks where it is.
 
 usage: checks/milestones.py [SECONDS] [SESSIONS]     (default: 10 seconds, 8 sessions)
 
@@ -7,6 +7,9 @@ Twice a new store that keeps 4,096 revisions is served, with milestones 16 and t
 its own: it puts a letter before the document of all and takes the next one away, as fast as it is answered. Then the program is
 killed. `dump` shows how far back the document's past is held by the newer milestone, which is the milestone's own revision: it has
 to be at most 2,000 revisions behind the newest one. The journal takes all that is written, so each milestone is one of the composers'.
+
+Then one session edits the document, and at the end with pauses, in which a milestone is composed and put: the newest one has to be
+at the last multiple, of 16, of 256, and of 100.
 
 Run ./demo first, which builds crates/richd/out/richd, or name another program in RICHD. The stores lie in a temporary folder (TMPDIR).
 """
@@ -76,11 +79,36 @@ def row(folder, every):
             thread.start()
         for thread in threads:
             thread.join()
-    _, revision, floor, _ = dump(store, "--pick", "newer").split(" ", 3)
+    revision, floor = newest_and_floor(store)
     print(f"{every} revisions apart: {revision} revisions, the newest milestone is at {floor}")
-    return int(revision) - int(floor) <= BEHIND
+    return revision - floor <= BEHIND
+
+
+def newest_and_floor(store):
+    """The document's revision, and that of its newest milestone."""
+    _, revision, floor, _ = dump(store, "--pick", "newer").split(" ", 3)
+    return int(revision), int(floor)
+
+
+def row_of_one(folder, every):
+    """One session edits the document, slowly once its last multiple is reached."""
+    store, multiple = os.path.join(folder, f"one{every}"), 3 * every
+    format_store(store, "--docs", "1", "--keep", "4096", "--slots", "2", "--slot", str(SLOT))
+    with Server(store, "--every", str(every)) as server:
+        session = Session(server.address, "first")
+        session.create()
+        session.number = 1
+        while session.revision < multiple + 12:
+            session.edit()
+            if session.revision >= multiple:
+                time.sleep(0.1)
+    revision, floor = newest_and_floor(store)
+    print(f"{every} revisions apart, by one session: {revision} revisions, the newest milestone is at {floor}")
+    return floor == multiple
 
 
 with tempfile.TemporaryDirectory() as folder:
     if not all([row(folder, every) for every in ("16", "256")]):
         sys.exit("a milestone is too far behind")
+    if not all([row_of_one(folder, every) for every in (16, 100, 256)]):
+        sys.exit("a milestone isn't at the last multiple")

@@ -1,9 +1,12 @@
 // Refuses one request of the program that it is preloaded into, as the system may. refusing.py builds it, and says what to refuse:
 //
-// REFUSE_KIND   memory (of the C library), thread, or read, write or sync of the store's file
+// REFUSE_KIND   memory (of the C library), thread, or read, write or sync of the store's file; accept of a connection, input (a read of standard
+//               input), peer (a read of a connection), or null (an opening of /dev/null)
 // REFUSE_AT     which request of this kind is refused, from 1; none is where it is 0
 // REFUSE_HOW    of a write: whether none, half or all of it is written before it fails. Of a read or a write also: short (it does half, and
-//               says so) or interrupted (it does nothing, and is to be tried again), which a program has to bear without a word
+//               says so) or interrupted (it does nothing, and is to be tried again), which a program has to bear without a word. Of an accept:
+//               the number of the error. A read of standard input or of a connection is interrupted, or short, so it gives one byte
+// REFUSE_MORE   where it is there: onward, so each later request of the kind is refused too, or slow, so none is, and each takes 50 ms
 // REFUSE_STORE  the path of the store's file
 // REFUSE_COUNT  the path of a file of 16 bytes: in the first 8 the requests of this kind are counted, over all programs that share it, and
 //               the others get how many reads of the store's file the program had made before the request that is refused
@@ -12,10 +15,12 @@
 #include <errno.h>
 #include <fcntl.h>
 #include <pthread.h>
+#include <stdarg.h>
 #include <stdatomic.h>
 #include <stdlib.h>
 #include <string.h>
 #include <sys/mman.h>
+#include <sys/socket.h>
 #include <sys/stat.h>
 #include <sys/syscall.h>
 #include <unistd.h>
@@ -25,7 +30,7 @@ typedef int creates(pthread_t *, const pthread_attr_t *, void *(*)(void *), void
 
 static char kind; // the first letter of REFUSE_KIND
 static unsigned long at;
-static const char *how, *store;
+static const char *how, *store, *more;
 static _Atomic unsigned long *count, reads;
 static creates *create;
 
@@ -34,6 +39,7 @@ __attribute__((constructor)) static void begin(void) {
     at = strtoul(getenv("REFUSE_AT"), NULL, 10);
     how = getenv("REFUSE_HOW");
     store = getenv("REFUSE_STORE");
+    more = getenv("REFUSE_MORE") ? getenv("REFUSE_MORE") : "";
     int file = open(getenv("REFUSE_COUNT"), O_RDWR);
     count = mmap(NULL, 16, PROT_READ | PROT_WRITE, MAP_SHARED, file, 0);
     close(file);
@@ -41,7 +47,13 @@ __attribute__((constructor)) static void begin(void) {
 }
 
 static int refused(char of) {
-    if (kind != of || atomic_fetch_add(count, 1) + 1 != at) return 0;
+    if (kind != of) return 0;
+    unsigned long number = atomic_fetch_add(count, 1) + 1;
+    if (strcmp(more, "slow") == 0) {
+        usleep(50000);
+        return 0;
+    }
+    if (number != at && (number < at || strcmp(more, "onward") != 0)) return 0;
     count[1] = reads;
     return 1;
 }
@@ -84,6 +96,36 @@ ssize_t pwrite64(int file, const void *of, size_t length, off_t place) { return 
 static int sync_by(long number, int file) {
     if (of_store(file) && refused('s')) { errno = EIO; return -1; }
     return syscall(number, file);
+}
+
+int accept4(int listener, struct sockaddr *of, socklen_t *length, int flags) {
+    if (refused('a')) { errno = atoi(how); return -1; }
+    return syscall(SYS_accept4, listener, of, length, flags);
+}
+// A read of standard input or of a connection is interrupted, or gives one byte.
+static int is_interrupted(size_t *length) {
+    if (is("short")) {
+        *length = *length > 0;
+        return 0;
+    }
+    errno = EINTR;
+    return 1;
+}
+ssize_t read(int file, void *to, size_t length) {
+    if (file == 0 && refused('i') && is_interrupted(&length)) return -1;
+    return syscall(SYS_read, file, to, length);
+}
+ssize_t recv(int file, void *to, size_t length, int flags) {
+    if (refused('p') && is_interrupted(&length)) return -1;
+    return syscall(SYS_recvfrom, file, to, length, flags, NULL, NULL);
+}
+int open(const char *path, int flags, ...) {
+    va_list rest;
+    va_start(rest, flags);
+    int mode = flags & O_CREAT ? va_arg(rest, int) : 0;
+    va_end(rest);
+    if (strcmp(path, "/dev/null") == 0 && refused('n')) { errno = EACCES; return -1; }
+    return syscall(SYS_openat, AT_FDCWD, path, flags, mode);
 }
 int fsync(int file) { return sync_by(SYS_fsync, file); }
 int fdatasync(int file) { return sync_by(SYS_fdatasync, file); }

@@ -1,6 +1,7 @@
 """Runs of the program of which refuse.c refuses one request, and the count of what they show: for no_memory.py and faults.py."""
 import concurrent.futures
 import os
+import re
 import subprocess
 import sys
 import tempfile
@@ -12,6 +13,7 @@ richd = os.environ.get("RICHD") or os.path.join(HERE, "../crates/richd/out/richd
 PATIENCE = 10  # seconds: no answer and no end of the program takes longer
 
 NO_MEMORY, STORE_FAILED, FAULT = b"error 22 NoMemory\n", b"error 21 StoreFailed\n", b"error 34 Fault\n"
+CAUSE = rb"^error 34 Fault\nrichd: (?:opening|locking|making|reading|writing|syncing) [^\n]+: [^\n]+\n"
 S = ["--slots", "2", "--slot", "256", "--docs", "2", "--cell", "256", "--sources", "4", "--keep", "2"]
 
 
@@ -24,13 +26,21 @@ def agree(truth, what):
         raise Disagreement(what)
 
 
+def refusals_of(errors):
+    """The refusals on standard error. Behind each Fault a line has to say what was tried and the system's reason."""
+    told, count = re.subn(CAUSE, FAULT, errors, flags=re.M)
+    agree(count == told.count(FAULT), f"a Fault without its cause: {errors[:300]!r}")
+    return told
+
+
 class Refusal:
     """One request that is refused, over all programs that are started under it; none where `at` is 0."""
 
-    def __init__(self, library, folder, kind, at, how="none"):
+    def __init__(self, library, folder, kind, at, how="none", more=""):
         self.kind, self.at, self.how = kind, at, how
         self.count_path, self.store = os.path.join(folder, "count"), os.path.join(folder, "store")
         self.has_shown = False  # in the end of a run
+        self.begins = []  # how many requests had been made when each program was started
         with open(self.count_path, "wb") as file:
             file.write(bytes(16))
         self.variables = {
@@ -39,6 +49,7 @@ class Refusal:
             "REFUSE_KIND": kind,
             "REFUSE_AT": str(at),
             "REFUSE_HOW": how,
+            "REFUSE_MORE": more,
             "REFUSE_STORE": self.store,
             "REFUSE_COUNT": self.count_path,
         }
@@ -59,9 +70,13 @@ class Refusal:
         """Whether the refusal may show."""
         return self.how not in ("short", "interrupted")
 
+    def is_of_the_writer(self):
+        """Whether it is the first thread of a program that is refused, which is the one that writes. Each other one may be missing."""
+        return self.kind == "thread" and self.at - 1 in self.begins
+
     def is_of_the_file(self):
         """Whether it is a call of the store's file that fails; else it is memory or a thread that is refused."""
-        return self.kind not in ("memory", "thread")
+        return self.kind in ("read", "write", "sync")
 
     def ends_of_start(self):
         """What a program says that the refusal ends before it serves: NoMemory, or Fault where the file is at fault, or was being opened."""
@@ -87,6 +102,7 @@ class Refusal:
         return self.run(words) if self.shows_in(ended, wanted) else ended
 
     def start(self, words, **streams):
+        self.begins.append(self.count())
         return subprocess.Popen([richd, *words], env=self.variables, stderr=subprocess.PIPE, bufsize=0, **streams)
 
     def run(self, words):
@@ -98,7 +114,14 @@ class Refusal:
             process.kill()
             process.communicate()
             raise Disagreement(f"`{words[0]}` didn't end within {PATIENCE} s") from None
-        return process.returncode, output, errors
+        return process.returncode, output, refusals_of(errors)
+
+
+def library_in(folder):
+    """The library that refuses a request, built of refuse.c in this folder."""
+    library = os.path.join(folder, "refuse.so")
+    subprocess.run(["cc", "-O2", "-shared", "-fPIC", "-o", library, os.path.join(HERE, "refuse.c"), "-ldl"], check=True)
+    return library
 
 
 def undisturbed(*words):
@@ -162,8 +185,7 @@ def try_each(tally, rows, kinds, most, workers):
             return refusal.count()
 
     with tempfile.TemporaryDirectory() as folder, concurrent.futures.ThreadPoolExecutor(workers) as pool:
-        library = os.path.join(folder, "refuse.so")
-        subprocess.run(["cc", "-O2", "-shared", "-fPIC", "-o", library, os.path.join(HERE, "refuse.c"), "-ldl"], check=True)
+        library = library_in(folder)
         for name, row in rows:
             counts = {}  # of each kind, how many requests an undisturbed run makes
             for kind, how in kinds:

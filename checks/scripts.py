@@ -9,8 +9,9 @@ import selectors
 import subprocess
 import time
 
-from refusing import NO_MEMORY, PATIENCE, STORE_FAILED, S, Disagreement, Refusal, agree, content_of, undisturbed
+from refusing import FAULT, NO_MEMORY, PATIENCE, STORE_FAILED, S, Disagreement, Refusal, agree, content_of, refusals_of, undisturbed
 
+FAILED = FAULT + STORE_FAILED  # what is told when a call of the store's file fails, and at the end of the session
 WINDOW = 16  # how many of a source's last numbers are sent again after a start: those that the store answers by `again`
 
 
@@ -295,7 +296,7 @@ class Session:
             status = self.process.wait(PATIENCE)
         except subprocess.TimeoutExpired:
             raise Disagreement(f"`serve` didn't end within {PATIENCE} s after its input") from None
-        return status, self.process.stderr.read()
+        return status, refusals_of(self.process.stderr.read())
 
     def close(self):
         self.process.kill()
@@ -463,11 +464,12 @@ class Play:
     def check_stop(self, before, pending=None):
         """The program has ended by itself: it says why, and the file is as a stop leaves it."""
         status, errors = self.session.end()
+        agree(self.refusal.kind != "thread" or self.refusal.is_of_the_writer(), "a program ended for a thread that may be missing")
         if before is not None:
             wanted = self.refusal.ends_of_start()
             agree(content_of(self.refusal.store) == before, "a start that was refused changed the file")
         else:
-            wanted = [STORE_FAILED] if self.refusal.is_of_the_file() else [NO_MEMORY]
+            wanted = [FAILED] if self.refusal.is_of_the_file() else [NO_MEMORY]
             agree(self.refusal.kind != "thread", "a refused thread ended a session that had begun")
         agree(status == 1 and errors in wanted, f"the program ended with status {status}, {errors[:200]!r}")
         self.shows("an end")
@@ -485,7 +487,7 @@ class Play:
             is_held = any(it is not None and it[1] is None for it in held) if reply.get("code") == 40 else None
             agree(reply.get("code") == 21 or is_held or self.held(doc, reply) in held, f"a fetch after StoreFailed: {reply}")
         ended = self.session.end()
-        agree(ended == (1, STORE_FAILED), f"after StoreFailed the session ended with {ended}")
+        agree(ended == (1, FAILED), f"after StoreFailed the session ended with {ended}")
         self.check_held(message)
 
     def catch_up(self):
@@ -507,7 +509,7 @@ class Play:
         """Ends the session as it should end."""
         status, errors = self.session.end()
         if (status, errors) != (0, b""):
-            wanted = NO_MEMORY if self.refusal.kind == "memory" else STORE_FAILED
+            wanted = NO_MEMORY if self.refusal.kind == "memory" else FAILED
             agree((status, errors) == (1, wanted), f"a session ended with status {status}, {errors[:200]!r}")
             self.shows("an end")
         self.check_held(None)
@@ -535,7 +537,7 @@ class Play:
         if self.script.wanted is not None:
             for key, ops in self.told.items():
                 agree(self.script.wanted.told.get(key, ops) == ops, f"news of {key}: {ops}")
-        if self.refusal.met() and self.refusal.is_seen() and self.refusal.kind != "memory":
+        if self.refusal.met() and self.refusal.is_seen() and (self.refusal.is_of_the_file() or self.refusal.is_of_the_writer()):
             agree(self.seen, f"{self.refusal.kind} was refused, and nobody was told of it")
 
 

@@ -1,16 +1,18 @@
 """Three sessions at once over TCP, played to their end though one request of the program is refused: no_memory.py and faults.py play it.
 And how many sessions find a place at once where a thread is refused."""
 import json
+import re
 import socket
 import subprocess
 import threading
 import time
 
-from refusing import FAULT, NO_MEMORY, PATIENCE, STORE_FAILED, S, Disagreement, agree, content_of
+from refusing import FAULT, NO_MEMORY, PATIENCE, STORE_FAILED, S, Disagreement, agree, content_of, refusals_of
 from scripts import dumped, undisturbed
 
 SESSIONS, EDITS, SHARED = 3, 6, "all"
 PLACES = 64
+FEWER = rb"(?:richd: (\d+) of 64 sessions\n)?"
 GREETING = b'{"ok":"hello"}\n'
 
 
@@ -57,7 +59,7 @@ class Server:
             self.process.kill()
             self.process.communicate()
             raise Disagreement("a server that ends goes on") from None
-        status, self.process = self.process.returncode, None
+        status, errors, self.process = self.process.returncode, refusals_of(errors), None
         if self.address is None:
             wanted = self.refusal.ends_of_start()
         else:
@@ -77,11 +79,17 @@ class Server:
                 raise Disagreement("a session was closed, and the server goes on") from None
 
     def stop(self):
-        if self.process is not None:
-            self.process.terminate()
-            _, errors = self.process.communicate()
-            agree(errors == b"", f"the server says {errors[:200]!r}")
-            self.process = None
+        """Ends the server. How many sessions it had threads for: with fewer than it has places for it has said so. Where its store has
+        failed it has said that too, once."""
+        if self.process is None:
+            return PLACES
+        self.process.terminate()
+        _, errors = self.process.communicate()
+        self.process = None
+        found = re.fullmatch(FEWER + b"(%s)?" % FAULT, refusals_of(errors))
+        agree(found and (errors == b"" or self.refusal.met() and self.refusal.is_seen()), f"the server says {errors[:300]!r}")
+        agree(not found[2] or self.refusal.is_of_the_file(), f"the server says {errors[:300]!r}")
+        return int(found[1] or PLACES)
 
 
 class Client(threading.Thread):
@@ -304,4 +312,5 @@ def play_places(refusal):
             connection.close()
     least = PLACES - (refusal.at > 1 and refusal.met())
     agree(least <= places <= PLACES, f"{places} sessions find a place, and not {least} or {PLACES}")
-    server.stop()
+    told = server.stop()
+    agree(told == places, f"{places} sessions find a place, and it says {told}")

@@ -1,21 +1,29 @@
 #!/usr/bin/env python3
-"""Lists public calls that may answer NoMemory, and that nothing calls which `rt ci` runs. It isn't part of the gate.
+"""Lists the public functions that nothing calls which `rt ci` runs. It isn't part of the gate.
 
-usage: checks/uncalled.py [--direct]     in any folder; it prints a line for each call, and its status is 1 where there is one
+usage: checks/uncalled.py [--direct]     in any folder; it prints a line for each function, and its status is 1 where there is one
 
-No clause can say that memory is there, so a body that always answers NoMemory meets each contract. Hence each public call that may answer
-it is to be made once with ample memory: by a test, by a program, or by what these call. With --direct the calls count alone that stand in
-crates of tests and in programs.
+A public function is to be called by a program, a test or a law, or by what these call; what isn't has to stand in ALLOWED, with the reason why
+it is there. And no clause can say that memory is there, so a body that always answers NoMemory meets each contract. Hence a public call that may
+answer it is to be made once with ample memory: by a program or a test, or by what these call. With --direct the calls count alone that stand in
+crates of tests, in programs, and of the others in laws.
 
 It reads the sources of crates/, in the layout that `rt fmt` gives them. A call may answer NoMemory where its signature or its clauses name
 that or AllocError, or where it takes an allocator and returns a Result. It is called where its name stands before a bracket: a method behind
 a dot or its type's name. What type stands before a dot isn't known. So where several types have a method of one name, the file that calls
-it has to name the type too.
+it has to name the type too, or none of these types. A law is a function of a file laws.rt: its contract is what it is there for.
 """
 import collections
+import functools
 import pathlib
 import re
 import sys
+
+# What nobody calls, and why it is there.
+ALLOWED = {
+    "Ticket::order": "tells who has a ticket where its command stands in the order",
+    "Unsettled::shows": "its contract says what the token shows, as that of a law does",
+}
 
 CRATES = pathlib.Path(__file__).resolve().parent.parent / "crates"
 
@@ -43,11 +51,13 @@ def functions_of(path):
         if not head:
             continue
         indent, first, with_clauses = head[1], at - 1, False
-        last = first
-        while lines[last] != indent + "{" and not lines[last].endswith((";", "{}")):
+        last, depth = first, 0
+        while depth or lines[last] != indent + "{" and not lines[last].endswith((";", "{}")):
             with_clauses = with_clauses or re.match(rf"{indent}    (ghost|requires|ensures)\b", lines[last])
             if lines[last].endswith(" {") and not with_clauses:
                 break
+            if with_clauses:
+                depth += lines[last].count("{") - lines[last].count("}")
             last += 1
         at = last + 1
         if lines[last].endswith("{"):
@@ -70,17 +80,30 @@ texts = {it: code(it.read_text()) for it in paths}
 words = {it: set(re.findall(r"\w+", text)) for it, text in texts.items()}
 functions = [it for path in paths for it in functions_of(path)]
 named = collections.defaultdict(list)
+owners = collections.defaultdict(set)
 for it in functions:
     named[it.name].append(it)
+    owners[it.name].add(it.owner)
+
+
+@functools.cache
+def body_of(function):
+    return code(function.body)
 
 
 # What a text in this file, within what belongs to this type, may call.
+@functools.cache
 def called(path, text, owner):
+    return list(calls_in(path, text, owner))
+
+
+def calls_in(path, text, owner):
     for before, name in re.findall(r"((?:\w+::)+(?:<[^()]*>::)?|\.)?\b(\w+)(?:::<[^()]*>)?\(", text):
         for function in named[name]:
-            is_only = len({it.owner for it in named[name]}) == 1
+            is_only = len(owners[name]) == 1
             if before == ".":
-                is_it = function.owner and (is_only or function.owner in words[path])
+                near = owners[name] & words[path]
+                is_it = function.owner and (is_only or not near or function.owner in near)
             elif before and re.split("::", before.rstrip(":").split("::<")[0])[-1][0].isupper():
                 it = before.rstrip(":").split("::<")[0].split("::")[-1]
                 is_it = function.owner == (owner if it == "Self" else it)
@@ -106,15 +129,33 @@ def runs(path):
     return crate.name.endswith("_tests") or (crate / "src/main.rt").exists()
 
 
-reached, todo = set(), [it for path in paths if runs(path) for it in called(path, texts[path], None)]
-while todo:
-    function = todo.pop()
-    if function not in reached:
-        reached.add(function)
-        if "--direct" not in sys.argv:
-            todo.extend(called(function.path, code(function.body), function.owner))
+# The functions that these call, directly or not.
+def reached_from(begin):
+    reached, todo = set(), [it for path in begin for it in called(path, texts[path], None)]
+    while todo:
+        function = todo.pop()
+        if function not in reached:
+            reached.add(function)
+            if "--direct" not in sys.argv:
+                todo.extend(called(function.path, body_of(function), function.owner))
+    return reached
 
-missing = [it for it in functions if it not in reached and not runs(it.path) and may_want_memory(it) and is_public(it)]
+
+def is_missing(function):
+    if runs(function.path) or function.path in laws or not is_public(function):
+        return False
+    return function not in (run if may_want_memory(function) else run_or_law)
+
+
+laws = [it for it in paths if it.name == "laws.rt"]
+run = reached_from([it for it in paths if runs(it)])
+run_or_law = run | reached_from(laws)
+names = {it: f"{it.owner + '::' if it.owner else ''}{it.name}" for it in functions}
+missing = [it for it in functions if is_missing(it)]
 for it in missing:
-    print(f"{it.path.relative_to(CRATES.parent)}: {it.owner + '::' if it.owner else ''}{it.name}")
-sys.exit(1 if missing else 0)
+    if names[it] not in ALLOWED:
+        print(f"{it.path.relative_to(CRATES.parent)}: {names[it]}")
+stale = set(ALLOWED) - {names[it] for it in missing}
+for name in sorted(stale):
+    print(f"{name} stands in ALLOWED, and is called or gone")
+sys.exit(1 if stale or any(names[it] not in ALLOWED for it in missing) else 0)

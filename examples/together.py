@@ -3,7 +3,7 @@
 
     python3 examples/together.py HOST:PORT
 
-HOST:PORT is the address of a `richd serve STORE --listen HOST:PORT` over a store without a document "letter". Ann and bob have a
+HOST:PORT is the address of a `richd serve STORE --listen HOST:PORT` over a new store, so that nobody was ann or bob before. They have a
 session each, and type into the document, each before he has seen what the other typed; the server puts both in, and each is shown
 what the other wrote. Each line that is sent is printed behind `> `, each that comes behind `< `.
 """
@@ -19,7 +19,8 @@ import richd
 
 def session(address, source):
     host, port = address.rsplit(":", 1)
-    return richd.connect(host, int(port), source=source, timeout=30, trace=lambda way, line: print(f"{source} {way} {line}"))
+    trace = lambda way, line: print(f"{source} {way} {line}")
+    return richd.connect(host, int(port), source=source, is_new=True, trace=trace)
 
 
 def write_together(address):

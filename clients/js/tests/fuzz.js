@@ -1,5 +1,5 @@
-// Three who write at once with an editor each, over kills of the server, cuts, deaf lines, deletions, undos and reloads: checks/clients.py runs
-// it. usage: node fuzz.js SECONDS [SEED]
+// Three who write at once with an editor each, over kills of the server, cuts, deaf lines, deletions, undos, and reloads of pages that keep what
+// was typed. checks/clients.py runs it. usage: node fuzz.js SECONDS [SEED]
 //
 // A round has a store of its own and lasts some ten seconds. In the first of three only characters are put in, each one another: at the end each
 // is there once. The second deletes, formats, pastes and undoes too, and the third deletes the document meanwhile. At the end of each all three
@@ -8,7 +8,8 @@
 import { Delta } from "../delta.js";
 import { RichdError } from "../errors.js";
 import { bind } from "../quill.js";
-import { connect } from "../richd.js";
+import { connect } from "../offline.js";
+import { Browser } from "./browser.js";
 import { Draw } from "./draw.js";
 import { Store } from "./program.js";
 import { proxied } from "./proxy.js";
@@ -23,7 +24,7 @@ const SHAPES = [[], ["--keep", "3"], ["--keep", "16", "--slots", "2", "--slot", 
 const KINDS = ["characters", "changes", "deletions"];
 
 const draw = new Draw(seed);
-const count = { edits: 0, kills: 0, cuts: 0, "deaf lines": 0, deletions: 0, undos: 0, compositions: 0, reloads: 0, rounds: 0, revisions: 0 };
+const count = { edits: 0, kills: 0, cuts: 0, "deaf lines": 0, deletions: 0, undos: 0, compositions: 0, reloads: 0, "of them unsaved": 0, rounds: 0, revisions: 0 };
 const troubles = {};
 const differences = [];
 let characters = 0; // that were put in, in all rounds
@@ -35,14 +36,21 @@ const spelled = (ops) => JSON.stringify(ops.map(({ attributes, ...op }) => [op, 
 /** One who writes. */
 class Person {
   calls = new Set(); // that have no answer yet
+  browser = new Browser();
 
   constructor(name, round) {
     Object.assign(this, { name, round });
   }
 
-  async begin(isNew) {
-    this.client = await connect({ ...this.proxy.address, source: this.name, isNew, patience: PATIENCE });
+  async begin() {
+    this.page = this.browser.page(this.page?.tab);
+    this.client = await connect({ ...this.proxy.address, patience: PATIENCE, signal: this.page.signal }, this.page);
     await this.open();
+  }
+
+  end() {
+    this.unbind();
+    this.page.goes();
   }
 
   async open() {
@@ -56,7 +64,9 @@ class Person {
         await pause(50); // it was deleted again
       }
     }
+    const { signal } = this.page;
     this.document.addEventListener("trouble", ({ error, delta }) => {
+      if (signal.aborted) return; // the page is gone
       troubles[error.name] = (troubles[error.name] ?? 0) + 1;
       const isOurs = ["Parted", "BadOps", "PastEnd", "CutsPair"].includes(error.name);
       if (isOurs) this.round.differ(`${this.name}: ${error.message} of ${spelled(delta.ops)} on ${spelled(this.document.contents.ops)}`);
@@ -68,18 +78,16 @@ class Person {
     this.isComposing = false;
   }
 
-  /** Loads the page anew: what was typed is saved first, and the program that comes after it has the same name. */
+  /** Loads the page anew, once what is shown is kept, whether or not it is saved. */
   async reload() {
     this.endComposition();
+    await Promise.all(this.calls); // whose answer the next page wouldn't know
     this.quill.update();
-    const { document } = this;
-    await document.flush().catch(() => {});
-    await Promise.all(this.calls); // a name belongs to one program at a time
-    if (this.document !== document || !document.isSaved) return;
+    if (this.document.isClosed || !this.document.isKept) return;
     count.reloads += 1;
-    this.unbind();
-    await this.client.close();
-    await this.begin(false);
+    count["of them unsaved"] += this.document.isSaved ? 0 : 1;
+    this.end();
+    await this.begin();
   }
 
   endComposition() {
@@ -111,12 +119,12 @@ class Person {
     if (what < 8) return this.format();
     if (what < 9) return quill.type(this.place(), this.character()), pause(draw.below(5)), quill.update();
     if (what < 11) return this.compose(what);
-    if (what === 11) return draw.below(12) === 0 ? this.reload() : undefined;
+    if (what === 11) return draw.below(8) === 0 ? this.reload() : undefined;
     if (what < 17) return this.erase();
     if (what < 20) return quill.press(this.place(), draw.of(["and ", "\n", "\u00e9\u{1f600}", { image: draw.of(["p", "q"]) }]), draw.attributes(false));
     if (what < 21) return draw.below(20) === 0 ? quill.press(this.place(), "paste ".repeat(2_000 + draw.below(2_000))) : undefined;
     if (what < 29) return this.undo(what);
-    if (kind === "deletions" && draw.below(8) === 0) return this.delete();
+    if (kind === "deletions" && draw.below(3) === 0) return this.delete();
   }
 
   compose(what) {
@@ -186,17 +194,14 @@ class Round {
     this.people = Array.from({ length: PEOPLE }, (_, index) => new Person(`u${index}`, this));
     for (const person of this.people) {
       person.proxy = await proxied(this, this.address);
-      await person.begin(true);
+      await person.begin();
     }
     const working = [this.#disturb(), ...this.people.map((person) => this.#work(person))];
     await pause(ROUND);
     this.#isOver = true;
     await Promise.all(working);
     if (await this.#settle()) await this.#compare();
-    for (const { unbind, client } of this.people) {
-      unbind();
-      client.close().catch(() => {});
-    }
+    for (const person of this.people) person.end();
     for (const ending of this.#endings.reverse()) await ending();
     count.rounds += 1;
   }

@@ -10,14 +10,15 @@ Any number of tasks may call at once. What a cancelled task has asked for stays 
 from __future__ import annotations
 
 import asyncio
-import socket
-from typing import Any, Awaitable, Callable, Dict, List, Optional, Sequence, Tuple
+from typing import Any, Awaitable, Callable, List, Optional, Sequence, Tuple
 
-from .core import Core, Done, Pauses, Trace, new_source
+from .core import Done, Pauses, Request, Trace
 from .delta import Delta
 from .draft import fetch_or_create
+from .kept import Path
+from .link import prepare
 from .messages import Change, Closed, Contents, Since, Taken
-from .owner import LAST_WAIT, OwnedDocument, OwnedFollowing, Owner, Result, Told
+from .owner import LAST_WAIT, TIMEOUT, Name, OwnedDocument, OwnedFollowing, Owner, Result, Told
 
 PIECE = 65_536  # bytes that are taken at a time
 
@@ -30,8 +31,9 @@ async def connect(
     *,
     command: Optional[Sequence[str]] = None,
     source: Optional[str] = None,
-    numbers: Optional[Dict[str, int]] = None,
-    timeout: Optional[float] = None,
+    keep: Optional[Path] = None,
+    is_new: bool = False,
+    timeout: Optional[float] = TIMEOUT,
     trace: Optional[Trace] = None,
 ) -> Client:
     """A client of the server at a host's port, or of one that this command starts. All is as with `richd.connect`."""
@@ -41,14 +43,15 @@ async def connect(
     async def opened() -> Streams:
         return await (_over_tcp(host, port) if command is None else _over_pipes(command))
 
-    client = Client(opened, command is None, source or new_source(), numbers or {}, timeout, trace)
+    place = f"{host}:{port}" if command is None else " ".join(command)
+    client = Client(opened, command is None, place, Name.of(source, keep, is_new), timeout, trace)
     await client._begin()
     return client
 
 
 async def _over_tcp(host: Any, port: Any) -> Streams:
     reader, writer = await asyncio.open_connection(host, port)
-    writer.get_extra_info("socket").setsockopt(socket.IPPROTO_TCP, socket.TCP_NODELAY, 1)
+    prepare(writer.get_extra_info("socket"))
 
     async def end() -> None:
         writer.close()
@@ -77,53 +80,68 @@ class Client(Owner):
     """A session with a server, which begins anew on a new connection where one is cut. `connect` makes one.
 
     Each call raises `Refused` where the server refuses, TimeoutError where it takes longer than the client's timeout, `Closed` once
-    the client is closed. After a TimeoutError a command is still on its way, and is sent again where it has to be.
+    the client is closed. After a TimeoutError a command that was sent may still be taken, and is sent again where it has to be, and one that
+    wasn't is dropped; the error says which.
+
+    A command may be given a `number`, that of `next_number`, by who writes it down before it is sent: sent again under this number, in
+    another run too, it is taken once.
     """
 
     def __init__(
         self,
         opened: Callable[[], Awaitable[Streams]],
         waits_for_place: bool,
-        source: str,
-        numbers: Dict[str, int],
+        place: str,
+        name: Name,
         timeout: Optional[float],
         trace: Optional[Trace],
     ):
-        self.timeout = timeout
+        super().__init__(place, name, timeout, trace)
         self._opened, self._waits_for_place = opened, waits_for_place
-        self._core = Core(source, numbers, self._later, trace)
         self._writer: Optional[asyncio.StreamWriter] = None
         self._closing = asyncio.Event()
         self._changed: List[asyncio.Future[None]] = []  # of those who wait until something has come
         self._task = asyncio.get_running_loop().create_task(self._live())
 
-    async def create(self, doc: str, ops: Delta) -> Taken:
+    async def create(self, doc: str, ops: Delta, *, number: Optional[int] = None) -> Taken:
         """Makes a document of these inserts, at revision 1, or as the next revision where it is deleted."""
-        return await self._answer(lambda done: self._core.create(doc, ops, done))
+        taken: Taken = await self._answer(lambda done: self._core.create(doc, ops, done, number))
+        return taken
 
-    async def edit(self, doc: str, ops: Delta, base: int) -> Taken:
+    async def edit(self, doc: str, ops: Delta, base: int, *, number: Optional[int] = None) -> Taken:
         """Changes a document by what was made on its revision `base`. The server adapts it to what was taken since."""
-        return await self._answer(lambda done: self._core.edit(doc, ops, base, done))
+        taken: Taken = await self._answer(lambda done: self._core.edit(doc, ops, base, done, number))
+        return taken
 
-    async def undo(self, doc: str) -> Taken:
+    async def undo(self, doc: str, *, number: Optional[int] = None) -> Taken:
         """Takes back this source's last change of a document, past what others did since."""
-        return await self._answer(lambda done: self._core.undo(doc, done))
+        taken: Taken = await self._answer(lambda done: self._core.undo(doc, done, number))
+        return taken
 
-    async def delete(self, doc: str) -> Taken:
+    async def delete(self, doc: str, *, number: Optional[int] = None) -> Taken:
         """Deletes a document. Its name stays, and `create` makes it again."""
-        return await self._answer(lambda done: self._core.delete(doc, done))
+        taken: Taken = await self._answer(lambda done: self._core.delete(doc, done, number))
+        return taken
+
+    async def next_number(self, doc: str) -> int:
+        """The number of this source's next command of a document. Where it isn't known the server is asked, and nothing is written."""
+        number: int = await self._answer(lambda done: self._core.next_number(doc, done))
+        return number
 
     async def fetch(self, doc: str, rev: Optional[int] = None) -> Contents:
         """A document at a revision, or at the newest."""
-        return await self._answer(lambda done: self._core.fetch(doc, rev, done))
+        contents: Contents = await self._answer(lambda done: self._core.fetch(doc, rev, done))
+        return contents
 
     async def since(self, doc: str, rev: int) -> Since:
         """What changed a document after a revision."""
-        return await self._answer(lambda done: self._core.since(doc, rev, done))
+        since: Since = await self._answer(lambda done: self._core.since(doc, rev, done))
+        return since
 
     def follow(self, doc: str, rev: int) -> Following:
-        """The changes of a document after a revision, as they come: `async for change in client.follow(doc, rev)`. Where a revision
-        isn't held any more it raises `Refused` with code 13: fetch the document then, and follow it from there."""
+        """The changes of a document after a revision, as they come: `async for change in client.follow(doc, rev)`. Where the document is
+        deleted it raises `Refused` with code 40; where a revision isn't held any more, with 13: fetch the document then, and follow it from
+        there."""
         return Following(self, doc, rev)
 
     async def open(self, doc: str, create: Optional[Delta] = None) -> Document:
@@ -159,7 +177,7 @@ class Client(Owner):
                 future.set_result(None)
         return result
 
-    async def _answer(self, ask: Callable[[Done], None]) -> Any:
+    async def _answer(self, ask: Callable[[Done], Optional[Request]]) -> Any:
         future = asyncio.get_running_loop().create_future()
 
         def done(value: Any, error: Optional[Exception]) -> None:
@@ -170,8 +188,12 @@ class Client(Owner):
             else:
                 future.set_result(value)
 
-        self._do(lambda: ask(done))
-        return await _in_time(future, self.timeout, "no answer")
+        request = self._do(lambda: ask(done))
+        try:
+            return await asyncio.wait_for(future, self.timeout)
+        except asyncio.TimeoutError:
+            pass
+        raise TimeoutError(self._do(lambda: self._given_up(request)))
 
     async def _until(self, holds: Callable[[], Any]) -> None:
         """Waits until something holds."""
@@ -185,17 +207,29 @@ class Client(Owner):
 
     async def _begin(self) -> None:
         """Waits until the server greets for the first time."""
+        failure: Optional[Exception] = None
         try:
-            await _in_time(self._until(lambda: self._was_greeted or self._core.failure), self.timeout, "no greeting")
-        except TimeoutError:
+            await asyncio.wait_for(self._until(lambda: self._was_greeted or self._core.failure), self.timeout)
+            failure = self._core.failure
+        except asyncio.TimeoutError:
+            failure = TimeoutError(f"the server didn't greet in {self.timeout} seconds: {self._trouble}")
+        except asyncio.CancelledError:
             await self.close()
             raise
-        if self._core.failure is not None:
-            raise self._core.failure
+        if failure is not None:
+            await self.close()
+            raise failure
 
     # The client's own task
 
     async def _live(self) -> None:
+        try:
+            await self._begin_and_go_on()
+        finally:
+            self._fail(Closed("the client was ended"))  # as where its loop ends before it was closed
+            self._let_go()
+
+    async def _begin_and_go_on(self) -> None:
         pauses = Pauses()
         while self._core.failure is None:
             try:
@@ -223,10 +257,10 @@ class Client(Owner):
         except OSError:
             pass
         finally:
-            self._writer = None
+            had_session, self._writer = self._core.greeted, None
             self._do(self._core.cut)
             await end()
-        self._has_ended(self._waits_for_place)
+        self._has_ended(had_session, self._waits_for_place, self._closing.is_set())
 
     async def _read(self, reader: asyncio.StreamReader, pauses: Pauses) -> None:
         while True:

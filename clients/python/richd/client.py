@@ -8,14 +8,15 @@ import sys
 import threading
 from concurrent.futures import Future
 from concurrent.futures import TimeoutError as FutureTimeout
-from typing import Any, Callable, Dict, List, Optional, Sequence
+from typing import Any, Callable, List, Optional, Sequence
 
-from .core import Core, Done, Pauses, Trace, new_source
+from .core import Core, Done, Pauses, Request, Trace
 from .delta import Delta
 from .draft import fetch_or_create
+from .kept import Path
 from .link import Link, PipeLink, TcpLink
 from .messages import Change, Closed, Contents, Since, Taken
-from .owner import LAST_WAIT, OwnedDocument, OwnedFollowing, Owner, Result, Told
+from .owner import LAST_WAIT, TIMEOUT, Name, OwnedDocument, OwnedFollowing, Owner, Result, Told
 
 
 def connect(
@@ -25,17 +26,20 @@ def connect(
     command: Optional[Sequence[str]] = None,
     link: Optional[Callable[[], Link]] = None,
     source: Optional[str] = None,
-    numbers: Optional[Dict[str, int]] = None,
-    timeout: Optional[float] = None,
+    keep: Optional[Path] = None,
+    is_new: bool = False,
+    timeout: Optional[float] = TIMEOUT,
     trace: Optional[Trace] = None,
 ) -> Client:
     """A client of the server at a host's port, or of one that this command starts (`["richd", "serve", "notes"]`), or over what a
     function opens. Leave it by `with`, or call `close`.
 
-    `source` is the name under which its changes are taken; no other client may have it. Without one it makes up one that is new. A
-    client that goes on under its name after its program's end gives the `numbers` that its next commands have, by document.
-    `timeout` is for how many seconds a call waits, this one too; without it, as long as it takes. `trace(way, line)` is told each line,
-    with way `>` for one that is sent and `<` for one that comes.
+    `source` is the name under which its changes are taken: the same in each run of a program, and no other client may have it at the
+    time. Or `keep` is the path of a file that keeps a name of its own, made up in the first run; one client has it at a time. A name takes
+    one of a document's places for sources, for ever. `is_new` says that the source was never used, so that its numbers needn't be asked for.
+
+    `timeout` is for how many seconds a call waits, this one too; with None, as long as it takes. `trace(way, line)` is told each line, with
+    way `>` for one that is sent and `<` for one that comes.
     """
     openers: List[Callable[[], Link]] = []
     if host is not None and port is not None:
@@ -46,28 +50,25 @@ def connect(
         openers.append(link)
     if len(openers) != 1:
         raise TypeError("connect takes a host and a port, or a command, or a link")
-    return Client(openers[0], source or new_source(), numbers or {}, timeout, trace)
+    place = f"{host}:{port}" if host is not None else " ".join(command) if command is not None else "a link"
+    return Client(openers[0], place, Name.of(source, keep, is_new), timeout, trace)
 
 
 class Client(Owner):
     """A session with a server, which begins anew on a new connection where one is cut. `connect` makes one.
 
     Each call raises `Refused` where the server refuses, TimeoutError where it takes longer than the client's timeout, `Closed` once
-    the client is closed. After a TimeoutError a command is still on its way, and is sent again where it has to be.
+    the client is closed. After a TimeoutError a command that was sent may still be taken, and is sent again where it has to be, and one that
+    wasn't is dropped; the error says which.
+
+    A command may be given a `number`, that of `next_number`, by who writes it down before it is sent: sent again under this number, in
+    another run too, it is taken once.
     """
 
-    def __init__(
-        self,
-        open_link: Callable[[], Link],
-        source: str,
-        numbers: Dict[str, int],
-        timeout: Optional[float],
-        trace: Optional[Trace],
-    ):
-        self.timeout = timeout
+    def __init__(self, open_link: Callable[[], Link], place: str, name: Name, timeout: Optional[float], trace: Optional[Trace]):
         self._open_link = open_link
         self._changed = threading.Condition(threading.RLock())  # its lock is for all that follows
-        self._core = Core(source, numbers, self._later, trace)
+        super().__init__(place, name, timeout, trace)
         self._link: Optional[Link] = None
         self._is_closing = False
         self.ahead = Ahead(self)
@@ -77,26 +78,32 @@ class Client(Owner):
             is_there = self._changed.wait_for(lambda: self._core.greeted or self._core.failure, timeout)
             failure = self._core.failure
         if failure is not None:
+            self.close()
             raise failure
         if not is_there:
+            trouble = self._trouble
             self.close()
-            raise TimeoutError("the server didn't greet in time")
+            raise TimeoutError(f"the server didn't greet in {timeout} seconds: {trouble}")
 
-    def create(self, doc: str, ops: Delta) -> Taken:
+    def create(self, doc: str, ops: Delta, *, number: Optional[int] = None) -> Taken:
         """Makes a document of these inserts, at revision 1, or as the next revision where it is deleted."""
-        return self._wait(self.ahead.create(doc, ops))
+        return self._wait(self.ahead.create(doc, ops, number=number))
 
-    def edit(self, doc: str, ops: Delta, base: int) -> Taken:
+    def edit(self, doc: str, ops: Delta, base: int, *, number: Optional[int] = None) -> Taken:
         """Changes a document by what was made on its revision `base`. The server adapts it to what was taken since."""
-        return self._wait(self.ahead.edit(doc, ops, base))
+        return self._wait(self.ahead.edit(doc, ops, base, number=number))
 
-    def undo(self, doc: str) -> Taken:
+    def undo(self, doc: str, *, number: Optional[int] = None) -> Taken:
         """Takes back this source's last change of a document, past what others did since."""
-        return self._wait(self.ahead.undo(doc))
+        return self._wait(self.ahead.undo(doc, number=number))
 
-    def delete(self, doc: str) -> Taken:
+    def delete(self, doc: str, *, number: Optional[int] = None) -> Taken:
         """Deletes a document. Its name stays, and `create` makes it again."""
-        return self._wait(self.ahead.delete(doc))
+        return self._wait(self.ahead.delete(doc, number=number))
+
+    def next_number(self, doc: str) -> int:
+        """The number of this source's next command of a document. Where it isn't known the server is asked, and nothing is written."""
+        return self._wait(self.ahead.next_number(doc))
 
     def fetch(self, doc: str, rev: Optional[int] = None) -> Contents:
         """A document at a revision, or at the newest."""
@@ -107,8 +114,8 @@ class Client(Owner):
         return self._wait(self.ahead.since(doc, rev))
 
     def follow(self, doc: str, rev: int) -> Following:
-        """The changes of a document after a revision, as they come: `for change in client.follow(doc, rev)`. Where a revision isn't
-        held any more it raises `Refused` with code 13: fetch the document then, and follow it from there."""
+        """The changes of a document after a revision, as they come: `for change in client.follow(doc, rev)`. Where the document is deleted
+        it raises `Refused` with code 40; where a revision isn't held any more, with 13: fetch the document then, and follow it from there."""
         return Following(self, doc, rev)
 
     def open(self, doc: str, create: Optional[Delta] = None) -> Document:
@@ -143,11 +150,12 @@ class Client(Owner):
             self._changed.notify_all()
             return result
 
-    def _wait(self, future: Future[Result]) -> Result:
+    def _wait(self, answer: Answer[Result]) -> Result:
         try:
-            return future.result(self.timeout)
+            return answer.result(self.timeout)
         except FutureTimeout:
-            raise TimeoutError(f"no answer in {self.timeout} seconds") from None
+            pass
+        raise TimeoutError(self._do(lambda: self._given_up(answer.request)))
 
     def _later(self, seconds: float, action: Callable[[], None]) -> None:
         timer = threading.Timer(seconds, self._do, [action])
@@ -157,6 +165,12 @@ class Client(Owner):
     # The client's own threads: one reads, and one for each connection writes.
 
     def _live(self) -> None:
+        try:
+            self._begin_and_go_on()
+        finally:
+            self._let_go()
+
+    def _begin_and_go_on(self) -> None:
         pauses = Pauses()
         while True:
             try:
@@ -187,12 +201,12 @@ class Client(Owner):
             pass
         finally:
             with self._changed:
-                self._link = None
+                had_session, self._link = self._core.greeted, None
                 self._core.cut()
                 self._changed.notify_all()
             link.close()
             writer.join()
-        self._has_ended(link.waits_for_place)
+        self._has_ended(had_session, link.waits_for_place, self._is_closing)
 
     def _read(self, link: Link, pauses: Pauses) -> None:
         while True:
@@ -218,43 +232,52 @@ class Client(Owner):
                 return
 
 
+class Answer(Future[Result]):
+    """What a call that doesn't wait gives."""
+
+    request: Optional[Request] = None  # what is answered, where it is one
+
+
 class Ahead:
     """The calls of a client that don't wait. Each gives a future, so that the next can be sent before the answer comes."""
 
     def __init__(self, client: Client):
         self._client = client
 
-    def create(self, doc: str, ops: Delta) -> Future[Taken]:
-        return self._begin(lambda core, done: core.create(doc, ops, done))
+    def create(self, doc: str, ops: Delta, *, number: Optional[int] = None) -> Answer[Taken]:
+        return self._begin(lambda core, done: core.create(doc, ops, done, number))
 
-    def edit(self, doc: str, ops: Delta, base: int) -> Future[Taken]:
-        return self._begin(lambda core, done: core.edit(doc, ops, base, done))
+    def edit(self, doc: str, ops: Delta, base: int, *, number: Optional[int] = None) -> Answer[Taken]:
+        return self._begin(lambda core, done: core.edit(doc, ops, base, done, number))
 
-    def undo(self, doc: str) -> Future[Taken]:
-        return self._begin(lambda core, done: core.undo(doc, done))
+    def undo(self, doc: str, *, number: Optional[int] = None) -> Answer[Taken]:
+        return self._begin(lambda core, done: core.undo(doc, done, number))
 
-    def delete(self, doc: str) -> Future[Taken]:
-        return self._begin(lambda core, done: core.delete(doc, done))
+    def delete(self, doc: str, *, number: Optional[int] = None) -> Answer[Taken]:
+        return self._begin(lambda core, done: core.delete(doc, done, number))
 
-    def fetch(self, doc: str, rev: Optional[int] = None) -> Future[Contents]:
+    def next_number(self, doc: str) -> Answer[int]:
+        return self._begin(lambda core, done: core.next_number(doc, done))
+
+    def fetch(self, doc: str, rev: Optional[int] = None) -> Answer[Contents]:
         return self._begin(lambda core, done: core.fetch(doc, rev, done))
 
-    def since(self, doc: str, rev: int) -> Future[Since]:
+    def since(self, doc: str, rev: int) -> Answer[Since]:
         return self._begin(lambda core, done: core.since(doc, rev, done))
 
-    def _begin(self, ask: Callable[[Core, Done], None]) -> Future[Any]:
-        future: Future[Any] = Future()
+    def _begin(self, ask: Callable[[Core, Done], Optional[Request]]) -> Answer[Any]:
+        answer: Answer[Any] = Answer()
 
         def done(value: Any, error: Optional[Exception]) -> None:
-            if not future.set_running_or_notify_cancel():
+            if not answer.set_running_or_notify_cancel():
                 return  # nobody waits any more
             if error is not None:
-                future.set_exception(error)
+                answer.set_exception(error)
             else:
-                future.set_result(value)
+                answer.set_result(value)
 
-        self._client._do(lambda: ask(self._client._core, done))
-        return future
+        answer.request = self._client._do(lambda: ask(self._client._core, done))
+        return answer
 
 
 class Following(OwnedFollowing):
@@ -294,7 +317,7 @@ class Following(OwnedFollowing):
 class Document(OwnedDocument):
     """A document that one types into, and that others change meanwhile. `Client.open` makes one.
 
-    The functions that are given to `on_change` and `on_reset` are called in a thread of the client, and may not wait for its calls.
+    The functions that it is given are called in a thread of the client, and may not wait for its calls.
     """
 
     _owner: Client

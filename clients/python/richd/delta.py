@@ -32,7 +32,7 @@ def length(operation: Operation) -> int:
     if "insert" in operation:
         content = operation["insert"]
         return units(content) if isinstance(content, str) else 1
-    return operation["retain"] if "retain" in operation else operation["delete"]
+    return int(operation["retain"] if "retain" in operation else operation["delete"])
 
 
 def before(delta: Delta) -> int:

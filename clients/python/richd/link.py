@@ -13,6 +13,7 @@ LinkType = TypeVar("LinkType", bound="Link")
 PIECE = 65_536  # bytes that are taken at a time
 CONNECTING = 10.0  # seconds for a connection to be made
 PATIENCE = 5.0  # seconds for a program to end, once its input has
+SILENCE = 30  # seconds, about, after which a connection is cut whose other end answers nothing: its machine, not only its program, is gone
 
 
 class Link:
@@ -51,7 +52,7 @@ class TcpLink(Link):
     def __init__(self, host: str, port: int, timeout: Optional[float] = None):
         self.socket = socket.create_connection((host, port), CONNECTING)
         self.socket.settimeout(timeout)
-        self.socket.setsockopt(socket.IPPROTO_TCP, socket.TCP_NODELAY, 1)
+        prepare(self.socket)
 
     def send(self, data: bytes) -> None:
         self.socket.sendall(data)
@@ -77,6 +78,16 @@ class TcpLink(Link):
         except OSError:
             pass  # it is closed at the other end
         self.socket.close()
+
+
+def prepare(connection: socket.socket) -> None:
+    """Has small lines leave at once, and has the system find out that the other machine is gone, where it can."""
+    connection.setsockopt(socket.IPPROTO_TCP, socket.TCP_NODELAY, 1)
+    connection.setsockopt(socket.SOL_SOCKET, socket.SO_KEEPALIVE, 1)
+    options = {"TCP_KEEPIDLE": SILENCE // 2, "TCP_KEEPINTVL": SILENCE // 6, "TCP_KEEPCNT": 3, "TCP_USER_TIMEOUT": 1_000 * SILENCE}
+    for name, value in options.items():
+        if hasattr(socket, name):
+            connection.setsockopt(socket.IPPROTO_TCP, getattr(socket, name), value)
 
 
 class PipeLink(Link):

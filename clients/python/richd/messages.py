@@ -12,18 +12,26 @@ Message = Dict[str, Any]
 NO_DOCUMENT = 6
 EXISTS = 7
 GAP = 9
+OLD_NUMBER = 10
+FUTURE = 12
 TOO_OLD = 13
+PAST_END = 14
 STORE_FAILED = 21
 NO_MEMORY = 22
 DELETED = 40
 
 
 class Refused(Exception):
-    """The server refused a request: `code` is its number, as 13, and `name` its name, as TooOld."""
+    """The server refused a request: `code` is its number, as 13, and `name` its name, as TooOld. Where a document lost by it what was
+    typed, `lost` is that, as it would have changed the contents."""
 
     def __init__(self, code: int, name: str):
-        super().__init__(f"{code} {name}")
+        super().__init__(code, name)
         self.code, self.name = code, name
+        self.lost: Optional[Delta] = None
+
+    def __str__(self) -> str:
+        return f"{self.code} {self.name}"
 
 
 class Closed(ConnectionError):

@@ -4,7 +4,7 @@ from __future__ import annotations
 
 import os
 import subprocess
-from typing import Any, List, Optional, Tuple
+from typing import Any, List, Tuple
 
 from . import client
 
@@ -43,7 +43,7 @@ class Server:
         host, number = line.split()[1].rsplit(":", 1)
         self.address: Tuple[str, int] = host, int(number)
 
-    def connect(self, source: Optional[str] = None, **more: Any) -> client.Client:
+    def connect(self, source: str, **more: Any) -> client.Client:
         """A client of this server."""
         return client.connect(*self.address, source=source, **more)
 

@@ -3,6 +3,7 @@
 import asyncio
 import os
 import random
+import signal
 import tempfile
 import threading
 import time
@@ -60,8 +61,8 @@ class Served(unittest.TestCase):
         self.server = Server(self.store)
         self.addCleanup(lambda: self.server.kill())
 
-    def connect(self, source=None, **more):
-        client = self.server.connect(source, timeout=SECONDS, **more)
+    def connect(self, source="ann", **more):
+        client = self.server.connect(source, **{"timeout": SECONDS, **more})
         self.addCleanup(client.close)
         return client
 
@@ -77,13 +78,19 @@ class Calls(Served):
         self.assertEqual(ann.undo("d"), richd.Taken(3))
         changed = [[{"retain": 6}, {"retain": 5, "attributes": {"bold": value}}] for value in (True, None)]
         self.assertEqual(ann.since("d", 1), richd.Since(3, changed))
-        self.assertEqual(ann.numbers(), {"d": 4})
+        self.assertEqual(ann.next_number("d"), 4)
 
     def test_a_document_is_deleted_and_created_again(self):
         ann, bob = self.connect("ann"), self.connect("bob")
         ann.create("d", [{"insert": "a"}])
-        document = bob.open("d")
+        document, changes, ends = bob.open("d"), bob.follow("d", 1), []
+        document.on_end(ends.append)
         self.assertEqual(ann.delete("d"), richd.Taken(2))
+        with self.assertRaises(richd.Refused) as caught:
+            changes.next(SECONDS)
+        self.assertEqual(caught.exception.name, "Deleted")
+        wait_until(lambda: ends)
+        self.assertEqual(ends[0].name, "Deleted")
         for call in (ann.fetch, ann.undo, bob.delete):
             with self.assertRaises(richd.Refused) as caught:
                 call("d")
@@ -154,6 +161,30 @@ class Calls(Served):
         changes = ann.follow("d", 2)
         threading.Timer(0.5, ann.close).start()
         self.assertEqual([change.rev for change in changes], [3, 4])
+        self.assertEqual(list(changes), [])
+        self.assertEqual(list(ann.follow("d", 2)), [])
+
+    def test_following_ends_with_the_fault_that_ends_the_client(self):
+        ann, bob = self.connect("ann"), self.connect("bob")
+        ann.create("d", [])
+        ann.open("d").on_change(lambda ops: 1 // 0)
+        changes = ann.follow("d", 2)
+        bob.edit("d", [{"insert": "a"}], base=1)
+        with self.assertRaises(ZeroDivisionError):
+            for _ in changes:
+                pass
+
+    def test_what_a_client_and_its_documents_are_shown_as(self):
+        ann = self.connect("ann")
+        place = "{}:{}".format(*self.server.address)
+        self.assertEqual(repr(ann), f"<richd.Client 'ann' at {place}, connected>")
+        document = ann.open("d", create=[{"insert": "a"}])
+        self.assertEqual(repr(document), "<richd.Document 'd' at revision 1, saved>")
+        self.assertEqual(repr(ann.follow("d", 1)), "<richd.Following of 'd', told of revision 1>")
+        document.close()
+        ann.close()
+        self.assertEqual(repr(document), "<richd.Document 'd' at revision 1, ended by Closed('the document was closed')>")
+        self.assertEqual(repr(ann), f"<richd.Client 'ann' at {place}, ended by Closed('the client was closed')>")
 
     def test_over_pipes(self):
         self.server.kill()
@@ -172,7 +203,14 @@ class Faults(Served):
 
     def test_a_program_that_ends_at_once(self):
         with self.assertRaises(ConnectionError):
-            richd.connect(command=["false"], timeout=SECONDS)
+            richd.connect(command=["false"], source="ann", timeout=SECONDS)
+
+    def test_without_a_name_it_doesnt_connect(self):
+        for more in ({}, {"source": "ann", "keep": self.store + ".name"}):
+            with self.assertRaisesRegex(TypeError, "a source, .* or keep"):
+                richd.connect(*self.server.address, **more)
+            with self.assertRaisesRegex(TypeError, "a source, .* or keep"):
+                asyncio.run(richd.aio.connect(*self.server.address, **more))
 
     def test_a_name_that_is_none(self):
         with self.assertRaises(richd.Refused) as caught:
@@ -190,30 +228,153 @@ class Faults(Served):
         ann.create("d", [])
         follower = ann.follow("d", 1)
         ann.edit("d", [{"insert": "a"}], base=1)
+        events = []
+        ann.on_cut(lambda: events.append("cut"))
+        ann.on_connected(lambda: events.append("connected"))
+        port = self.server.address[1]
+        with self.assertLogs("richd", "INFO") as logged:
+            self.server.kill()
+            answer = ann.ahead.edit("d", [{"insert": "b"}], base=2)
+            time.sleep(0.3)
+            self.assertFalse(answer.done())
+            self.server = Server(self.store, port=port)
+            self.assertEqual(answer.result(SECONDS), richd.Taken(3))
+        self.assertEqual([follower.next(SECONDS).rev for _ in range(2)], [2, 3])
+        self.assertEqual(events, ["cut", "connected"])
+        told = [record.getMessage() for record in logged.records]
+        self.assertTrue(told[0].endswith("was cut") and told[-1].endswith("has a session"), told)
+
+    def test_a_call_that_takes_too_long_says_whether_it_was_sent(self):
+        ann = self.connect("ann", timeout=0.5)
+        ann.create("d", [])
+        os.kill(self.server.process.pid, signal.SIGSTOP)
+        with self.assertRaisesRegex(TimeoutError, "it was sent, and may still be taken"):
+            ann.edit("d", [{"insert": "a"}], base=1)
         port = self.server.address[1]
         self.server.kill()
-        answer = ann.ahead.edit("d", [{"insert": "b"}], base=2)
-        time.sleep(0.3)
-        self.assertFalse(answer.done())
+        wait_until(lambda: not ann.is_connected)
+        with self.assertRaisesRegex(TimeoutError, "it wasn't sent"):
+            ann.edit("d", [{"insert": "b"}], base=1)
         self.server = Server(self.store, port=port)
-        self.assertEqual(answer.result(SECONDS), richd.Taken(3))
-        self.assertEqual([follower.next(SECONDS).rev for _ in range(2)], [2, 3])
+        wait_until(lambda: ann.is_connected)
+        self.assertEqual(ann.fetch("d").ops, [{"insert": "a"}])  # it was sent again
+
+    def test_a_server_without_a_place(self):
+        clients = [self.connect(f"s{number}") for number in range(64)]
+        with self.assertRaisesRegex(TimeoutError, "all its places are taken"):
+            self.connect("late", timeout=0.5)
+        clients[0].close()
+        self.assertTrue(self.connect("late").is_connected)
 
     def test_a_reply_that_is_lost(self):
         ann = self.connect("ann")
         ann.create("d", [])
         bob = richd.connect(link=lambda: DeafLink(*self.server.address), source="bob", timeout=SECONDS)
         with bob:
+            bob.next_number("d")
             DeafLink.is_armed = True
             self.assertEqual(bob.edit("d", [{"insert": "a"}], base=1), richd.Taken(2, again=True))
         self.assertEqual(ann.fetch("d").ops, [{"insert": "a"}])
 
     def test_a_source_that_was_used_before(self):
+        for number in range(1, 20):
+            with self.connect("ann") as ann:
+                self.assertEqual(ann.next_number("d"), number)
+                taken = ann.edit("d", [{"insert": "a"}], base=1) if number > 1 else ann.create("d", [])
+                self.assertEqual(taken, richd.Taken(number))
+        self.assertEqual(self.connect("bob").fetch("d"), richd.Contents(19, [{"insert": "a" * 18}]))  # so asking changed nothing
+
+    def test_a_source_that_is_said_to_be_new_and_was_used(self):
+        self.connect("ann", is_new=True).create("d", [])
+        ann = self.connect("ann", is_new=True)
+        with self.assertRaises(richd.Unexpected):
+            ann.edit("d", [{"insert": "a"}], base=1)
+        self.assertEqual(ann.edit("d", [{"insert": "a"}], base=1), richd.Taken(2))
+
+    def test_a_command_that_is_sent_again_in_another_run(self):
         with self.connect("ann") as ann:
             ann.create("d", [])
-        with self.assertRaises(richd.Unexpected):
-            self.connect("ann").edit("d", [{"insert": "a"}], base=1)
-        self.assertEqual(self.connect("ann", numbers={"d": 2}).edit("d", [{"insert": "a"}], base=1), richd.Taken(2))
+            number = ann.next_number("d")
+            self.assertEqual(ann.edit("d", [{"insert": "a"}], base=1, number=number), richd.Taken(2))
+        with self.connect("ann") as ann:
+            self.assertEqual(ann.edit("d", [{"insert": "a"}], base=1, number=number), richd.Taken(2, again=True))
+            self.assertEqual(ann.edit("d", [{"insert": "b"}], base=2), richd.Taken(3))
+
+    def test_two_clients_of_one_name_are_told_or_get_numbers_of_their_own(self):
+        one, two, taken = self.connect("ann"), self.connect("ann"), 0
+        one.create("d", [])
+        for client in (one, two) * 10:
+            try:
+                self.assertFalse(client.edit("d", [{"insert": "a"}], base=1).again)
+                taken += 1
+            except richd.Unexpected:
+                pass
+        self.assertEqual(delta.text(one.fetch("d").ops), "a" * taken)
+        self.assertGreater(taken, 2)
+
+
+class Keeping(Served):
+    """A name that is kept in a file."""
+
+    def setUp(self):
+        super().setUp()
+        self.file = self.store + ".name"
+
+    def begin(self, **more):
+        client = richd.connect(*self.server.address, keep=self.file, timeout=SECONDS, **more)
+        self.addCleanup(client.close)
+        return client
+
+    def test_each_run_has_the_name_and_goes_on_with_its_numbers(self):
+        names = set()
+        for number in range(1, 5):
+            lines = []
+            with self.begin(trace=lambda way, line: lines.append(line)) as client:
+                names.add(client.source)
+                taken = client.edit("d", [{"insert": "a"}], base=1) if number > 1 else client.create("d", [])
+                self.assertEqual(taken, richd.Taken(number))
+                self.assertLessEqual(len(lines), 6 if number > 1 else 4)  # hello, the command, and whether its number is right
+        self.assertEqual(len(names), 1)
+
+    def test_a_run_that_ended_before_it_wrote_its_numbers(self):
+        with self.begin() as client:
+            client.create("d", [])
+        with open(self.file, "rb") as file:
+            content = file.read()
+        with self.begin() as client:
+            for _ in range(20):
+                client.edit("d", [{"insert": "a"}], base=1)
+        for left in (content, content[:-9], content.partition(b"\n")[0] + b"\n"):
+            with open(self.file, "wb") as file:
+                file.write(left)
+            with self.begin() as client:
+                for _ in range(3):
+                    self.assertFalse(client.edit("d", [{"insert": "b"}], base=1).again)
+        self.assertEqual(delta.text(self.connect("bob").fetch("d").ops).count("b"), 9)
+
+    def test_it_belongs_to_one_client_at_a_time(self):
+        first = self.begin()
+        with self.assertRaisesRegex(BlockingIOError, "another client uses this name"):
+            self.begin()
+        first.close()
+        self.begin().close()
+        self.assertEqual(os.stat(self.file).st_mode & 0o777, 0o600)
+
+    def test_another_file_is_left_alone(self):
+        with open(self.file, "w") as file:
+            file.write("a letter\n")
+        with self.assertRaisesRegex(ValueError, "keeps no source's name"):
+            self.begin()
+        with open(self.file) as file:
+            self.assertEqual(file.read(), "a letter\n")
+
+    def test_with_asyncio(self):
+        async def run(number):
+            async with await richd.aio.connect(*self.server.address, keep=self.file, timeout=SECONDS) as client:
+                self.assertEqual(await client.next_number("d"), number)
+                return await (client.create("d", []) if number == 1 else client.undo("d"))
+
+        self.assertEqual([asyncio.run(run(number)) for number in (1, 2)], [richd.Taken(1), richd.Taken(2)])
 
 
 class Typing(Served):
@@ -252,7 +413,46 @@ class Typing(Served):
             wait_until(lambda: document.revision == wanted.rev)
             self.assertEqual(document.contents, wanted.ops)
             self.assertEqual(shown[place], wanted.ops)
-        self.assertGreater(len(links), 4)
+        self.assertGreater(len(links), 3)
+
+    def test_what_was_typed_on_a_revision_that_is_no_longer_held_is_moved(self):
+        self.server.kill()
+        self.server = Server(self.store, "--every", "1")
+        may_connect, links = threading.Event(), []
+        may_connect.set()
+
+        def linked():
+            may_connect.wait(SECONDS)
+            return CutLink(*self.server.address, links)
+
+        bob = self.connect("bob")
+        bob.create("d", [{"insert": "one two\nthree\n"}])
+        ann = richd.connect(link=linked, source="ann", timeout=SECONDS)
+        self.addCleanup(ann.close)
+        document, changes, moved = ann.open("d"), [], []
+        document.on_change(changes.append)
+        document.on_rebase(moved.append)
+        may_connect.clear()
+        links[-1].cut()
+        wait_until(lambda: not ann.is_connected)
+        typed = [{"retain": 4, "attributes": {"bold": True}}, {"insert": "and "}]
+        document.apply(typed)
+        for number in range(20):
+            bob.edit("d", [{"insert": f"{number}\n"}], base=1)
+        port = self.server.address[1]
+        self.server.kill()
+        self.server = Server(self.store, port=port)
+        with self.assertRaises(richd.Refused) as caught:
+            bob.since("d", 1)
+        self.assertEqual(caught.exception.name, "TooOld")
+        may_connect.set()
+        document.flush()
+        lines = "".join(f"{number}\n" for number in range(20))
+        self.assertEqual((document.text, len(moved)), (f"{lines}one and two\nthree\n", 1))
+        wanted = [{"insert": lines}, {"attributes": {"bold": True}, "insert": "one "}, {"insert": "and two\nthree\n"}]
+        self.assertEqual(bob.fetch("d").ops, wanted)
+        self.assertEqual(document.contents, wanted)
+        self.assertEqual(changes, [[{"insert": lines}]])
 
     def test_a_text_that_is_longer_than_a_line(self):
         ann = self.connect("ann")
@@ -365,12 +565,51 @@ class Twin(Served):
         self.server.kill()
 
         async def run():
-            client = await richd.aio.connect(command=[richd_or_skip(self), "serve", self.store], timeout=SECONDS)
+            client = await richd.aio.connect(command=[richd_or_skip(self), "serve", self.store], source="ann", timeout=SECONDS)
             async with client:
                 await client.create("d", [{"insert": "x"}])
                 return await client.fetch("d")
 
         self.assertEqual(asyncio.run(run()), richd.Contents(1, [{"insert": "x"}]))
+
+    def test_following_ends_as_its_client_does(self):
+        async def action(ann, bob):
+            await ann.create("d", [])
+            changes = ann.follow("d", 1)
+            await bob.edit("d", [{"insert": "a"}], base=1)
+            asyncio.get_running_loop().call_later(0.3, lambda: asyncio.ensure_future(ann.close()))
+            self.assertEqual([change.rev async for change in changes], [2])
+            self.assertEqual([change.rev async for change in ann.follow("d", 1)], [])
+            (await bob.open("d")).on_change(lambda ops: 1 // 0)
+            other = await richd.aio.connect(*self.server.address, source="other", timeout=SECONDS)
+            async with other:
+                changes = bob.follow("d", 3)
+                await other.edit("d", [{"insert": "b"}], base=2)
+                with self.assertRaises(ZeroDivisionError):
+                    async for _ in changes:
+                        pass
+
+        self.run_with(action, 2)
+
+    def test_following_ends_where_the_document_is_deleted(self):
+        async def action(ann, bob):
+            await ann.create("d", [])
+            changes = bob.follow("d", 1)
+            await ann.delete("d")
+            with self.assertRaises(richd.Refused) as caught:
+                await changes.next(SECONDS)
+            self.assertEqual(caught.exception.name, "Deleted")
+
+        self.run_with(action, 2)
+
+    def test_a_client_whose_task_is_cancelled_tells_who_waits(self):
+        async def action(ann):
+            await ann.create("d", [])
+            changes = ann.follow("d", 1)
+            ann._task.cancel()
+            self.assertEqual([change async for change in changes], [])
+
+        self.run_with(action)
 
     def test_after_the_end(self):
         async def action(ann):

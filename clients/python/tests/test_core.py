@@ -6,6 +6,7 @@ import unittest
 from richd.core import Core, Follower
 from richd.draft import Draft
 from richd.messages import Change, Closed, Contents, Refused, Since, Taken, Unexpected
+from richd.numbers import UNREACHED
 
 
 class Answer:
@@ -39,12 +40,12 @@ class Told(Follower):
 
 class CoreTest(unittest.TestCase):
     def setUp(self):
-        self.numbers = {}
         self.begin()
 
-    def begin(self, **numbers):
+    def begin(self, likely=None):
+        """Begins with a new source, or with one that has such numbers."""
         self.later = []
-        self.core = Core("ann", numbers, lambda seconds, action: self.later.append((seconds, action)))
+        self.core = Core("ann", likely, lambda seconds, action: self.later.append((seconds, action)))
         self.greet()
 
     def greet(self):
@@ -106,7 +107,7 @@ class Requests(CoreTest):
         self.assertEqual((answer.only.code, answer.only.name), (6, "NoDocument"))
 
     def test_what_comes_before_a_connection_is_sent_on_it(self):
-        core = Core("ann", {}, lambda seconds, action: None)
+        core = Core("ann", None, lambda seconds, action: None)
         core.fetch("d", None, Answer())
         core.connected()
         self.assertEqual(core.to_send(), b'{"do":"hello","source":"ann"}\n')
@@ -142,7 +143,7 @@ class Requests(CoreTest):
             self.begin()
 
     def test_a_refused_hello_is_told(self):
-        core = Core("a b", {}, lambda seconds, action: None)
+        core = Core("a b", None, lambda seconds, action: None)
         core.connected()
         with self.assertRaises(Refused):
             core.received(b'{"code":8,"error":"BadName"}\n')
@@ -169,12 +170,12 @@ class Numbers(CoreTest):
         create = {"do": "create", "doc": "d", "n": 1, "ops": [{"insert": "x"}]}
         undo = {"do": "undo", "doc": "d", "n": 3}
         self.sends(create, self.edit(2), {"do": "create", "doc": "e", "n": 1, "ops": []}, undo)
-        self.assertEqual(self.core.numbers(), {"d": 1, "e": 1})
+        self.assertEqual(self.core.likely_numbers(), {"d": 1, "e": 1})
         self.comes(self.taken(1, 1), self.taken(2, 5), self.taken(1, 1, doc="e"))
-        self.assertEqual(self.core.numbers(), {"d": 3, "e": 2})
+        self.assertEqual(self.core.likely_numbers(), {"d": 3, "e": 2})
         self.comes(self.taken(3, 6))
         self.assertEqual([answer.only for answer in answers], [Taken(1), Taken(5), Taken(1), Taken(6)])
-        self.assertEqual(self.core.numbers(), {"d": 4, "e": 2})
+        self.assertEqual(self.core.likely_numbers(), {"d": 4, "e": 2})
 
     def test_sixteen_commands_of_a_document_are_on_their_way(self):
         answers = [Answer() for _ in range(18)]
@@ -227,7 +228,7 @@ class Numbers(CoreTest):
         self.sends(self.edit(3, text="z"), self.edit(4, text="a"))
         self.comes(self.taken(2, 3), self.taken(3, 4), self.taken(4, 5))
         self.assertEqual([answer.only for answer in [answers[0], *answers[2:], late]], [Taken(2), Taken(3), Taken(4), Taken(5)])
-        self.assertEqual(self.core.numbers(), {"d": 5})
+        self.assertEqual(self.core.likely_numbers(), {"d": 5})
 
     def test_an_edit_behind_a_creation_that_is_refused_is_tried_once_more(self):
         one, two = Answer(), Answer()
@@ -251,14 +252,6 @@ class Numbers(CoreTest):
         self.sends({"do": "delete", "doc": "d", "n": 1}, {**creation, "n": 2})
         self.comes(self.taken(1, 2), self.taken(2, 3))
         self.assertEqual([answer.only for answer in answers[1:]], [Taken(2), Taken(3)])
-
-    def test_a_gap_that_no_refusal_explains_is_told(self):
-        self.begin(d=5)
-        answer = Answer()
-        self.core.edit("d", [{"insert": "x"}], 1, answer)
-        self.sends(self.edit(5))
-        self.comes(self.refusal(9, "Gap"))
-        self.assertEqual(answer.only.code, 9)
 
     def test_without_memory_those_behind_wait_for_it(self):
         answers = [Answer() for _ in range(3)]
@@ -288,7 +281,7 @@ class Numbers(CoreTest):
         self.sends(self.edit(1))
         self.comes(self.taken(1, 2, how="again"))
         self.assertEqual(one.only, Taken(2, again=True))
-        self.assertEqual(self.core.numbers(), {"d": 3})
+        self.assertEqual(self.core.likely_numbers(), {"d": 3})
 
     def test_what_is_unanswered_at_a_cut_is_sent_again_with_its_number(self):
         one, two, read = Answer(), Answer(), Answer()
@@ -317,18 +310,6 @@ class Numbers(CoreTest):
         self.core.edit("d", [{"insert": "x"}], 1, answer)
         self.comes(self.taken(1, 1, how="again"))
         self.assertIsInstance(answer.only, Unexpected)
-
-    def test_a_client_with_numbers_may_send_its_last_commands_again(self):
-        self.begin(d=5)
-        answers = [Answer() for _ in range(4)]
-        for answer in answers:
-            self.core.edit("d", [{"insert": "x"}], 1, answer)
-        self.sends(*[self.edit(n) for n in (5, 6, 7, 8)])
-        self.comes(self.taken(5, 8, how="again"), self.taken(6, 9, how="again"), self.taken(7, 10))
-        self.assertEqual([answer.only for answer in answers[:3]], [Taken(8, again=True), Taken(9, again=True), Taken(10)])
-        # Behind one that was taken now none was taken before.
-        self.comes(self.taken(8, 11, how="again"))
-        self.assertIsInstance(answers[3].only, Unexpected)
 
     def test_without_memory_it_is_sent_again_and_the_pause_doubles(self):
         answer = Answer()
@@ -375,6 +356,179 @@ class Numbers(CoreTest):
         self.assertEqual([one.only.code, two.only.code], [21, 21])
 
 
+class Asking(CoreTest):
+    """The next number, where nobody knows it."""
+
+    def setUp(self):
+        self.begin({})
+
+    def probes(self, *numbers):
+        """The core has just these probes to send."""
+        self.sends(*[{"do": "edit", "doc": "d", "n": n, "base": UNREACHED, "ops": []} for n in numbers])
+
+    def answer_for(self, number, last):
+        """What a server answers to a probe whose source has taken commands up to the last one."""
+        if number > last + 1:
+            return self.refusal(9, "Gap")
+        if number > last:
+            return self.refusal(12, "Future")
+        return self.taken(number, number + 1, how="again") if number > last - 16 else self.refusal(10, "OldNumber")
+
+    def answers(self, last):
+        """Answers all probes that are sent. Gives how many rounds there were."""
+        for round in range(20):
+            probes = [json.loads(line) for line in self.core.to_send().splitlines()]
+            if not (probes and probes[0]["base"] == UNREACHED):
+                self.rest = probes
+                return round
+            self.comes(*[self.answer_for(probe["n"], last) for probe in probes])
+
+    def test_it_is_found_in_a_few_rounds(self):
+        for last in (0, 1, 2, 3, 4, 14, 15, 16, 17, 100, 2_500, 2**20 + 7, 2**52 + 5):
+            self.begin({})
+            self.core.edit("d", [{"insert": "x"}], 1, Answer())
+            rounds = self.answers(last)
+            self.assertEqual(self.rest, [self.edit(last + 1)])
+            self.assertLessEqual(rounds, 14 if last > 2**21 else 6)
+
+    def test_a_new_source_isnt_asked_for(self):
+        self.begin()
+        self.core.edit("d", [{"insert": "x"}], 1, Answer())
+        self.sends(self.edit(1))
+
+    def test_where_there_is_no_document_it_is_the_first(self):
+        self.core.create("d", [], Answer())
+        self.comes(*[self.refusal(6, "NoDocument")] * len(self.core.to_send().splitlines()))
+        self.sends({"do": "create", "doc": "d", "n": 1, "ops": []})
+
+    def test_of_a_deleted_document_it_is_the_one_that_the_refusal_shows(self):
+        self.core.create("d", [], Answer())
+        for number in range(60):
+            probes = [json.loads(line)["n"] for line in self.core.to_send().splitlines()]
+            if len(probes) == 1:
+                break
+            answers = {True: self.refusal(10, "OldNumber"), False: self.refusal(9, "Gap"), None: self.refusal(40, "Deleted")}
+            self.comes(*[answers[None if n == 22 else n < 22] for n in probes])
+        self.assertEqual(probes, [22])
+
+    def test_the_first_command_goes_alone_and_then_up_to_sixteen(self):
+        answers = [Answer() for _ in range(20)]
+        for answer in answers:
+            self.core.edit("d", [{"insert": "x"}], 1, answer)
+        self.answers(30)
+        self.assertEqual(self.rest, [self.edit(31)])
+        self.comes(self.taken(31, 50))
+        self.sends(*[self.edit(n) for n in range(32, 48)])
+
+    def test_a_number_that_an_earlier_run_used_meanwhile_is_asked_for_again(self):
+        answer = Answer()
+        self.core.edit("d", [{"insert": "x"}], 1, answer)
+        self.answers(4)
+        self.comes(self.taken(5, 9, how="again"))  # the last edit of that run came late
+        self.answers(5)
+        self.assertEqual((self.rest, answer.given), ([self.edit(6)], []))
+        self.comes(self.taken(6, 10))
+        self.assertEqual(answer.only, Taken(10))
+
+    def test_a_likely_number_is_asked_for_first(self):
+        for likely in (1, 3, 25, 30, 31, 32, 40, 2**40):
+            self.begin({"d": likely})
+            self.assertEqual(self.core.likely_numbers(), {"d": likely})
+            one, two = Answer(), Answer()
+            self.core.edit("d", [{"insert": "x"}], 1, one)
+            self.core.edit("d", [{"insert": "y"}], 1, two)
+            rounds = self.answers(30)
+            self.assertTrue(rounds == 1 if likely == 31 else rounds < 14)
+            self.assertEqual(self.rest, [self.edit(31)])
+            self.comes(self.taken(31, 50))
+            self.sends(self.edit(32, text="y"))
+            self.comes(self.taken(32, 51))
+            self.assertEqual((one.only, two.only), (Taken(50), Taken(51)))
+            self.assertEqual(self.core.likely_numbers(), {"d": 33})
+
+    def test_a_name_that_two_use_at_a_time_is_told_and_its_number_asked_for(self):
+        one, two, three = Answer(), Answer(), Answer()
+        self.core.edit("d", [{"insert": "x"}], 1, one)
+        self.answers(6)
+        self.comes(self.taken(7, 20))
+        self.core.edit("d", [{"insert": "y"}], 1, two)
+        self.core.to_send()
+        with self.assertLogs("richd", "WARNING"):
+            self.comes(self.taken(8, 21, how="again"))
+        self.assertIsInstance(two.only, Unexpected)
+        self.core.edit("d", [{"insert": "z"}], 1, three)
+        self.answers(9)
+        self.assertEqual(self.rest, [self.edit(10, text="z")])
+
+    def test_a_cut_while_it_is_asked_for(self):
+        answer = Answer()
+        self.core.edit("d", [{"insert": "x"}], 1, answer)
+        probes = self.core.to_send()
+        self.comes(self.refusal(10, "OldNumber"))
+        self.core.cut()
+        self.greet()
+        self.assertEqual(self.core.to_send(), b"".join(probes.splitlines(keepends=True)[1:]))
+        self.core.fail(Closed("closed"))
+        self.assertIsInstance(answer.only, Closed)
+
+    def test_where_the_store_failed_it_is_told_and_asked_for_again(self):
+        one, two = Answer(), Answer()
+        self.core.edit("d", [{"insert": "x"}], 1, one)
+        self.core.edit("d", [{"insert": "y"}], 1, two, waits=True)
+        self.comes(*[self.refusal(21, "StoreFailed")] * len(self.core.to_send().splitlines()))
+        self.assertEqual((one.only.code, two.given), (21, []))
+        self.sends()
+        self.core.cut()
+        self.greet()
+        self.answers(4)
+        self.assertEqual(self.rest, [self.edit(5, text="y")])
+
+    def test_the_next_number_is_told(self):
+        one, two, three = Answer(), Answer(), Answer()
+        self.core.next_number("d", one)
+        self.answers(4)
+        self.assertEqual((one.only, self.rest), (5, []))
+        self.core.edit("d", [{"insert": "x"}], 1, Answer())
+        self.core.next_number("d", two)
+        self.sends(self.edit(5))
+        self.assertEqual(two.given, [])
+        self.comes(self.taken(5, 9))
+        self.core.next_number("d", three)
+        self.assertEqual((two.only, three.only), (6, 6))
+        self.sends()
+
+    def test_commands_whose_numbers_are_given(self):
+        answers = [Answer() for _ in range(4)]
+        self.core.edit("d", [{"insert": "x"}], 1, answers[0], number=5)
+        self.core.edit("d", [{"insert": "y"}], 1, answers[1], number=6)
+        self.core.edit("d", [{"insert": "z"}], 1, answers[2])
+        self.sends(self.edit(5), self.edit(6, text="y"))
+        self.comes(self.taken(5, 8, how="again"), self.taken(6, 9))
+        self.assertEqual((answers[0].only, answers[1].only), (Taken(8, again=True), Taken(9)))
+        self.sends(self.edit(7, text="z"))
+        self.core.edit("d", [{"insert": "a"}], 1, answers[3], number=40)
+        self.sends()
+        self.comes(self.taken(7, 10))
+        self.sends(self.edit(40, text="a"))
+        self.comes(self.refusal(9, "Gap"))
+        self.assertEqual((answers[2].only, answers[3].only.name), (Taken(10), "Gap"))
+        self.assertEqual(self.core.likely_numbers(), {"d": 8})
+        with self.assertRaises(ValueError):
+            self.core.undo("d", Answer(), number=0)
+
+    def test_what_wasnt_sent_is_taken_back(self):
+        self.begin()
+        self.core.cut()
+        one, two, read = (self.core.edit("d", [{"insert": text}], 1, Answer()) for text in "xyz")
+        read = self.core.fetch("d", None, Answer())
+        self.assertTrue(self.core.take_back(one))
+        self.assertTrue(self.core.take_back(read))
+        self.assertFalse(self.core.take_back(one))
+        self.greet()
+        self.sends(self.edit(1, text="y"), self.edit(2, text="z"))
+        self.assertFalse(self.core.take_back(two))
+
+
 class Followers(CoreTest):
     def test_after_a_cut_it_follows_on_behind_what_it_was_told(self):
         follower = Told(1)
@@ -412,11 +566,44 @@ class Followers(CoreTest):
         self.comes({"doc": "d", "ok": "subscribed", "rev": 5}, self.news(6))
         self.assertEqual([change.rev for change in ahead.told], [6])
 
+    def ended(self, *revisions):
+        """Followers whose subscription has ended, so that the server was asked why."""
+        followers = [Told(rev) for rev in revisions]
+        for follower in followers:
+            self.core.follow("d", follower)
+        self.core.to_send()
+        self.comes(*[{"doc": "d", "ok": "subscribed", "rev": 1}] * len(followers), {"doc": "d", "ended": 13})
+        self.sends({"do": "since", "doc": "d", "rev": UNREACHED})
+        return followers
+
     def test_it_ends_where_a_revision_is_no_longer_held(self):
-        follower = Told(1)
-        self.core.follow("d", follower)
-        self.comes({"doc": "d", "ok": "subscribed", "rev": 1}, {"doc": "d", "ended": 13})
+        (follower,) = self.ended(1)
+        self.assertEqual(follower.told, [])
+        self.comes(self.refusal(12, "Future"))
         self.assertEqual(follower.told[0].name, "TooOld")
+
+    def test_it_ends_where_the_document_is_deleted(self):
+        first, second = self.ended(3, 2)
+        self.comes(self.refusal(40, "Deleted"))
+        self.assertEqual([told.code for told in first.told + second.told], [40, 40])
+        self.sends()
+
+    def test_one_that_ends_meanwhile_is_told_by_its_end_alone(self):
+        first, second = self.ended(3, 2)
+        self.core.unfollow("d", first)
+        self.core.cut()
+        self.greet()
+        self.sends({"do": "since", "doc": "d", "rev": UNREACHED})
+        self.core.fail(Closed("closed"))
+        self.assertEqual(first.told, [])
+        self.assertIsInstance(second.told[0], Closed)
+
+    def test_who_follows_anew_while_it_is_asked_isnt_told_the_end(self):
+        (old,), new = self.ended(1), Told(9)
+        self.core.follow("d", new)
+        self.sends({"do": "subscribe", "doc": "d", "rev": 9})
+        self.comes(self.refusal(40, "Deleted"), {"doc": "d", "ok": "subscribed", "rev": 9}, self.news(10))
+        self.assertEqual((old.told[0].code, [change.rev for change in new.told]), (40, [10]))
 
 
 class Drafts(CoreTest):
@@ -482,21 +669,61 @@ class Drafts(CoreTest):
         self.assertEqual(self.draft.text, "aworld!")
         self.assertTrue(self.draft.is_settled)
 
-    def test_where_nothing_that_it_knows_is_held_it_is_fetched_anew(self):
-        self.draft.apply([{"retain": 11}, {"insert": "!"}])
-        self.core.to_send()
+    def fetched_anew(self, *ops, rev=9):
+        """The server was started anew, and holds revision 1 no longer: so the document is fetched."""
         self.core.cut()
         self.greet()
         self.core.to_send()
-        # The server was started anew, and holds revision 1 no longer.
-        self.comes(self.refusal(13, "TooOld"), {"doc": "d", "ok": "subscribed", "rev": 1}, {"doc": "d", "ended": 13})
+        self.comes(self.refusal(13, "TooOld"), self.refusal(13, "TooOld"))
         self.sends({"do": "unsubscribe", "doc": "d"}, {"do": "fetch", "doc": "d"})
-        self.comes({"doc": "d", "ok": "unsubscribed"}, {"doc": "d", "ok": "doc", "ops": [{"insert": "Bye"}], "rev": 9})
-        self.sends({"do": "subscribe", "doc": "d", "rev": 9})
-        self.assertEqual((self.draft.text, self.draft.revision), ("Bye", 9))
-        self.assertEqual(self.lost, [[{"retain": 11}, {"insert": "!"}]])
-        self.draft.apply([{"retain": 3}, {"insert": "!"}])
-        self.sends_edit(1, 9, {"retain": 3}, {"insert": "!"})
+        self.comes({"doc": "d", "ok": "unsubscribed"}, {"doc": "d", "ok": "doc", "ops": list(ops), "rev": rev})
+
+    def test_where_nothing_that_it_knows_is_held_what_was_typed_is_moved_to_what_is_fetched(self):
+        moved = []
+        self.draft.on_rebase(moved.append)
+        bold = {"bold": True}
+        self.draft.apply([{"retain": 6}, {"retain": 5, "attributes": bold}, {"insert": "!"}])
+        self.core.to_send()
+        self.draft.apply([{"delete": 2}, {"insert": "Je"}])
+        self.fetched_anew({"insert": "Oh, Hello big world"})
+        typed = [{"retain": 4}, {"insert": "Je"}, {"delete": 2}, {"retain": 8}, {"retain": 5, "attributes": bold}, {"insert": "!"}]
+        self.sends({"do": "subscribe", "doc": "d", "rev": 9}, {"do": "edit", "doc": "d", "n": 1, "base": 9, "ops": typed})
+        self.assertEqual((self.draft.text, self.draft.revision), ("Oh, Jello big world!", 9))
+        self.assertEqual((self.changes, moved, self.lost), ([[{"insert": "Oh, "}, {"retain": 5}, {"insert": " big"}]], [typed], []))
+        self.comes({"doc": "d", "ok": "subscribed", "rev": 9}, self.taken(1, 10))
+        self.assertTrue(self.draft.is_settled)
+
+    def test_what_was_taken_isnt_moved(self):
+        self.draft.apply([{"insert": "Oh. "}])
+        self.core.to_send()
+        self.draft.apply([{"retain": 4}, {"insert": "> "}])
+        # A subscription that has fallen behind ends, with the edit taken, and others' revisions before it that it doesn't know.
+        self.comes({"doc": "d", "ended": 13}, self.taken(1, 5))
+        self.sends({"do": "since", "doc": "d", "rev": UNREACHED})
+        self.comes(self.refusal(12, "Future"))
+        self.sends({"do": "fetch", "doc": "d"})
+        self.comes({"doc": "d", "ok": "doc", "ops": [{"insert": "Oh. Hello world!"}], "rev": 5})
+        self.assertEqual((self.draft.text, self.changes), ("Oh. > Hello world!", [[{"retain": 17}, {"insert": "!"}]]))
+        self.sends({"do": "subscribe", "doc": "d", "rev": 5}, {"do": "edit", "doc": "d", "n": 2, "base": 5, "ops": [{"retain": 4}, {"insert": "> "}]})
+
+    def test_an_edit_that_is_refused_after_each_move_is_lost_in_the_end(self):
+        self.draft.apply([{"insert": "a"}])
+        for rev in range(9, 15):
+            self.fetched_anew({"insert": "Hello world"}, rev=rev)
+        self.assertEqual((self.draft.text, self.lost), ("Hello world", [[{"insert": "a"}]]))
+        with self.assertRaises(Refused) as told:
+            self.draft.raise_fault()
+        self.assertEqual((told.exception.code, told.exception.lost), (13, [{"insert": "a"}]))
+
+    def test_after_its_end_nothing_is_sent_and_nothing_comes(self):
+        self.draft.apply([{"insert": "a"}])
+        self.draft.apply([{"insert": "b"}])
+        self.draft.close()
+        self.core.to_send()
+        self.comes(self.taken(1, 2), {"doc": "d", "ok": "unsubscribed"})
+        self.sends()
+        with self.assertRaises(Closed):
+            self.draft.apply([{"insert": "c"}])
 
     def test_an_edit_whose_base_is_no_longer_held_is_sent_on_a_newer_revision(self):
         self.draft.apply([{"retain": 11}, {"insert": "!"}])
@@ -529,12 +756,15 @@ class Drafts(CoreTest):
     def test_a_deletion_ends_it(self):
         self.draft.apply([{"insert": "a"}])
         self.sends_edit(1, 1, {"insert": "a"})
+        ends = []
+        self.draft.on_end(ends.append)
         self.comes({"doc": "d", "ended": 13}, self.refusal(40, "Deleted"))
-        self.sends({"do": "fetch", "doc": "d"})
-        self.comes(self.refusal(40, "Deleted"))
+        self.sends({"do": "since", "doc": "d", "rev": UNREACHED}, {"do": "fetch", "doc": "d"})
+        self.comes(self.refusal(40, "Deleted"), self.refusal(40, "Deleted"))
         with self.assertRaises(Refused) as told:
             self.draft.raise_fault()
-        self.assertEqual(told.exception.code, 40)
+        self.assertEqual((told.exception.code, told.exception.lost), (40, [{"insert": "a"}]))
+        self.assertEqual([end.code for end in ends], [40])
         with self.assertRaises(Refused):
             self.draft.apply([{"insert": "b"}])
 

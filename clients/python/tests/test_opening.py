@@ -57,14 +57,14 @@ class Opening(unittest.TestCase):
             yield contents, asked[: asked.index("subscribe")]
 
     def by_threads(self, address, create):
-        with richd.connect(*address, timeout=SECONDS) as client:
+        with richd.connect(*address, source="ann", is_new=True, timeout=SECONDS) as client:
             with client.open("d", create=create) as document:
                 client.fetch("d")  # the subscription was sent before
                 return document.contents
 
     def by_asyncio(self, address, create):
         async def run():
-            async with await richd.aio.connect(*address, timeout=SECONDS) as client:
+            async with await richd.aio.connect(*address, source="ann", is_new=True, timeout=SECONDS) as client:
                 document = await client.open("d", create=create)
                 await client.fetch("d")
                 return document.contents

@@ -2,7 +2,7 @@
 use Rattle.std.proofs.Common.{◌≡◌, ℕ, ◌+◌, ◌-◌, ◌≤◌, ◌<◌, List, [], ◌∷◌, ◌++◌, length, take, get_or, refl, sym, ◌∙◌, ap, subst, arith, append_assoc, length-append}
 use Rattle.std.proofs.lemmas.List.Elements.{All-nil, All-cons, All-append}
 use Rattle.std.proofs.lemmas.List.{take_at}
-use Rattle.disk.specs.Device.{State, History, MayLeave, overwritten, SameOutside, IsWrite, IsSync, IsAtMostOneStep, NoStep, OneStep}
+use Rattle.disk.specs.Device.{State, History, MayLeave, SameOutside, IsWrite, IsSync, IsAtMostOneStep, NoStep, OneStep}
 use Rattle.disk.specs.Crash.{LeavesIn, Leaves, LeftSince}
 use Rattle.disk.proofs.Contents.{leaves_seen, synced_leaves, leaves_opened}
 

@@ -1,11 +1,11 @@
 -- What a file was asked and what it answered, and the device that a list of that stands for, newest first.
-use Rattle.std.specs.Prelude.{◌≡◌, ◌+◌, ℕ, List, [], ◌∷◌, ◌++◌, length, slice_range}
+use Rattle.std.specs.Prelude.{◌≡◌, ◌+◌, ℕ, List, [], ◌∷◌, length, slice_range}
 use Rattle.disk.specs.Device.{State, overwritten}
 
 -- a call of the system with its answer
 pub data Event : Type 0 where
-  -- the bytes from this offset on, read while the file was opened
-  Load : (at : ℕ) → (bytes : List ℕ) → Event
+  -- the file was opened, and held these bytes
+  Opened : (bytes : List ℕ) → Event
   -- a read gave these bytes, or failed
   Read : (at : ℕ) → (bytes : List ℕ) → Event
   FailedRead : Event
@@ -16,17 +16,17 @@ pub data Event : Type 0 where
   Sync : Event
   FailedSync : Event
 
--- the bytes that were loaded, with what was written since
+-- the bytes that the file held when it was opened, with what was written since
 abbrev pub content : List Event → List ℕ
 content [] = []
-content (Load at bytes ∷ events) = content events ++ bytes
+content (Opened bytes ∷ events) = bytes
 content (Write at bytes ∷ events) = overwritten (content events) at bytes
 content (event ∷ events) = content events
 
--- the ranges that no good sync has followed: what is loaded is one
+-- the ranges that no good sync has followed: all of the file as it is opened
 abbrev pub ranges : List Event → List (ℕ × ℕ)
 ranges [] = []
-ranges (Load at bytes ∷ events) = (at, length bytes) ∷ ranges events
+ranges (Opened bytes ∷ events) = (0, length bytes) ∷ ranges events
 ranges (Write at bytes ∷ events) = (at, length bytes) ∷ ranges events
 ranges (FailedWrite at count ∷ events) = (at, count) ∷ ranges events
 ranges (Sync ∷ events) = []
@@ -40,9 +40,8 @@ states (FailedWrite at count ∷ events) = record { seen = content events; unsyn
 states (Sync ∷ events) = record { seen = content events; unsynced = ranges events } ∷ states events
 states (event ∷ events) = states events
 
--- each read gave what stood there, and the file was loaded from its first byte on
+-- each read gave what stood there
 abbrev pub IsHonest : List Event → Type 0
 IsHonest [] = Unit {0}
-IsHonest (Load at bytes ∷ events) = (at ≡ length (content events)) × IsHonest events
 IsHonest (Read at bytes ∷ events) = (bytes ≡ slice_range (content events) at (at + length bytes)) × IsHonest events
 IsHonest (event ∷ events) = IsHonest events

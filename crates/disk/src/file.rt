@@ -8,15 +8,12 @@ ghost use Rattle.disk.specs.Event.{content, ranges, states, IsHonest};
 
 use crate::device::count_failure;
 use crate::raw::{HostFile, RawFile};
+use crate::tried::{FileFault, Tried};
 use crate::{Disk, Fault};
-use std::alloc::Global;
-use std::fs::{self, File, OpenFile, OpenOptions};
-use std::io;
+use std::fs::{self, File, OpenFile, OpenOptions, TryLockError};
+use std::io::{self, ErrorKind};
 use std::path::Path;
 use std::rt::Files;
-
-// How many bytes are loaded at once.
-const PIECE: u64 = 1 << 20;
 
 /// A device over a file, of the length that the file had when it was opened.
 ///
@@ -32,27 +29,21 @@ pub struct FileDisk<F: RawFile = HostFile> {
 }
 
 impl<F: RawFile> FileDisk<F> {
-    // Loads a file of this size piece by piece. Only the record keeps what was read.
-    fn load(alloc: Global, mut file: F, size: u64) -> Result<FileDisk<F>, Fault>
+    // A device over a file of this length that was just opened. Nothing of the file is read.
+    fn over(mut file: F, size: u64) -> FileDisk<F>
         requires { F.events file ≡ [] }
-        ensures size { IfOk result (λ disk. length (content (F.events disk.file)) ≡ size) }
-        ensures past { IfOk result (λ disk. states (F.events disk.file) ≡ []) }
-        ensures honest { IfOk result (λ disk. IsHonest (F.events disk.file)) }
-        ensures faults { IfOk result (λ disk. disk.failures ≡ 0) }
+        ensures size { length (content (F.events result.file)) ≡ size }
+        ensures past { states (F.events result.file) ≡ [] }
+        ensures honest { IsHonest (F.events result.file) }
+        ensures faults { result.failures ≡ 0 }
     {
-        let mut piece = vec![in alloc; 0; PIECE as usize]?;
-        let mut at = 0;
-        while at < size {
-            let count = (size - at).min(PIECE);
-            file.load(at, &mut piece[..count as usize])?;
-            at += count;
-        }
-        Ok(FileDisk {
+        file.note_opened(size);
+        FileDisk {
             file,
             size,
             failures: 0,
             has_failed: false,
-        })
+        }
     }
 
     // No further call is made.
@@ -64,24 +55,21 @@ impl<F: RawFile> FileDisk<F> {
 }
 
 impl FileDisk {
-    /// Makes a file of `len` zeros, which may not be there yet, locks it, and syncs it and its folder.
+    /// Makes a file of `len` zeros, which may not be there yet, locks it, and syncs it and its folder. Nothing of it is read.
     /// Where that fails no file is left, unless another program has locked the new file by then.
-    pub fn create<R: Files<File = File> + AllocGlobal>(
+    pub fn create<R: Files<File = File>>(
         rt: &R,
         path: &str,
         len: u64,
-    ) -> Result<FileDisk, Fault>
+    ) -> Result<FileDisk, FileFault>
         ensures length { IfOk result (λ disk. length (⟦<FileDisk as Disk>⟧.seen disk) ≡ len) }
         ensures synced { IfOk result (λ disk. ⟦<FileDisk as Disk>⟧.unsynced disk ≡ []) }
         ensures honest { IfOk result ⟦<FileDisk as Disk>⟧.honest }
         ensures faults { IfOk result (λ disk. ⟦<FileDisk as Disk>⟧.faults disk ≡ 0) }
     {
-        let file = OpenOptions::new()
-            .read(true)
-            .write(true)
-            .create_new(true)
-            .open(rt, path)?;
-        lock(&file)?;
+        let mut options = OpenOptions::new();
+        options.read(true).write(true).create_new(true);
+        let file = opened(rt, &options, path, Tried::Making)?;
         let disk = FileDisk::fill(rt, file, path, len);
         if disk.is_err() {
             let _ = fs::remove_file(rt, path);
@@ -90,42 +78,84 @@ impl FileDisk {
     }
 
     /// Opens a file as a device of the file's length, and locks it: while another device of this file is there, in this program
-    /// or another one, that is refused. Until a sync succeeds, nothing of it is known to be synced.
-    pub fn open<R: Files<File = File> + AllocGlobal>(rt: &R, path: &str) -> Result<FileDisk, Fault>
+    /// or another one, that is refused. Nothing of it is read. Until a sync succeeds, nothing of it is known to be synced.
+    pub fn open<R: Files<File = File>>(rt: &R, path: &str) -> Result<FileDisk, FileFault>
         ensures past { IfOk result (λ disk. ⟦<FileDisk as Disk>⟧.past disk ≡ []) }
         ensures honest { IfOk result ⟦<FileDisk as Disk>⟧.honest }
         ensures faults { IfOk result (λ disk. ⟦<FileDisk as Disk>⟧.faults disk ≡ 0) }
     {
-        let file = OpenOptions::new().read(true).write(true).open(rt, path)?;
-        lock(&file)?;
-        let size = file.metadata()?.len();
-        let disk = FileDisk::load(rt.alloc(), HostFile::new(file), size)?;
-        Ok(disk)
+        let mut options = OpenOptions::new();
+        options.read(true).write(true);
+        let file = opened(rt, &options, path, Tried::Opening)?;
+        let size = match file.metadata() {
+            Ok(metadata) => metadata.len(),
+            Err(reason) => return Err(failed(Tried::Opening, reason)),
+        };
+        Ok(FileDisk::over(HostFile::new(file), size))
+    }
+
+    /// The first call on the file that failed since it was opened, and why; `None` where none has.
+    pub fn fault(&self) -> Option<FileFault> {
+        self.file.fault()
     }
 
     // Gives a new file its length, and syncs it and its folder.
-    fn fill<R: Files<File = File> + AllocGlobal>(
+    fn fill<R: Files<File = File>>(
         rt: &R,
         file: File,
         path: &str,
         len: u64,
-    ) -> Result<FileDisk, Fault>
+    ) -> Result<FileDisk, FileFault>
         ensures length { IfOk result (λ disk. length (⟦<FileDisk as Disk>⟧.seen disk) ≡ len) }
         ensures synced { IfOk result (λ disk. ⟦<FileDisk as Disk>⟧.unsynced disk ≡ []) }
         ensures honest { IfOk result ⟦<FileDisk as Disk>⟧.honest }
         ensures faults { IfOk result (λ disk. ⟦<FileDisk as Disk>⟧.faults disk ≡ 0) }
     {
-        file.set_len(len)?;
-        let mut disk = FileDisk::load(rt.alloc(), HostFile::new(file), len)?;
-        disk.sync()?;
-        sync_folder(rt, path)?;
-        Ok(disk)
+        if let Err(reason) = file.set_len(len) {
+            return Err(failed(Tried::Making, reason));
+        }
+        let mut disk = FileDisk::over(HostFile::new(file), len);
+        if disk.sync().is_err() {
+            let unknown = failed(Tried::Syncing, io::Error::from(ErrorKind::Other));
+            return Err(disk.fault().unwrap_or(unknown));
+        }
+        match sync_folder(rt, path) {
+            Ok(()) => Ok(disk),
+            Err(reason) => Err(failed(Tried::Syncing, reason)),
+        }
+    }
+}
+
+fn failed(tried: Tried, reason: io::Error) -> FileFault {
+    FileFault { tried, reason }
+}
+
+// Opens a file so, and locks it.
+fn opened<R: Files<File = File>>(
+    rt: &R,
+    options: &OpenOptions,
+    path: &str,
+    tried: Tried,
+) -> Result<File, FileFault> {
+    match options.open(rt, path) {
+        Ok(file) => {
+            lock(&file)?;
+            Ok(file)
+        }
+        Err(reason) => Err(failed(tried, reason)),
     }
 }
 
 // Takes the lock of a file for this device alone, without waiting. It is held until the file is closed, however the program ends.
-fn lock(file: &File) -> Result<(), Fault> {
-    file.try_lock().map_err(|_| Fault)
+fn lock(file: &File) -> Result<(), FileFault> {
+    match file.try_lock() {
+        Ok(()) => Ok(()),
+        Err(TryLockError::WouldBlock) => Err(failed(
+            Tried::Locking,
+            io::Error::new(ErrorKind::WouldBlock, "another program has it open"),
+        )),
+        Err(TryLockError::Error(reason)) => Err(failed(Tried::Locking, reason)),
+    }
 }
 
 // Syncs the folder that a file lies in.

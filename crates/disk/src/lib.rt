@@ -32,8 +32,10 @@ pub mod laws;
 mod memory;
 mod raw;
 mod record;
+mod tried;
 
 pub use device::{Disk, Fault};
 pub use faults::{FaultDisk, FaultPlan, Left};
 pub use file::FileDisk;
 pub use memory::{Call, MemDisk};
+pub use tried::{FileFault, Tried};

@@ -1,16 +1,18 @@
 //! The calls of a file, one of the system each, noted with the answer.
 //!
 //! **What is not proved**, for a device over a file: that each method of `HostFile` makes the call that it
-//! notes, and that the system and its disk keep the model: nobody else writes the file, a read gives what was
-//! written (each promise on bytes that were read has this as its premise, `honest`), between two syncs that
-//! succeed only the ranges written in between can be lost, and a sync that succeeds has made them last.
-//! So the few lines of `HostFile` are to be read.
-ghost use Rattle.std.specs.Prelude.{◌≡◌, ◌∷◌, [], List, length, OnOk, OnErr};
-ghost use Rattle.disk.specs.Event.{Event, Load, Read, FailedRead, Write, FailedWrite, Sync, FailedSync};
+//! notes, that what it notes at the opening is what the file holds, and that the system and its disk keep the model:
+//! nobody else writes the file, a read gives what was written (each promise on bytes that were read has this as its
+//! premise, `honest`), between two syncs that succeed only the ranges written in between can be lost, and a sync that
+//! succeeds has made them last. So the few lines of `HostFile` are to be read.
+ghost use Rattle.std.specs.Prelude.{◌≡◌, ◌∷◌, [], ℕ, List, length, OnOk, OnErr};
+ghost use Rattle.disk.specs.Event.{Event, Opened, Read, FailedRead, Write, FailedWrite, Sync, FailedSync};
 
 use crate::Fault;
 use crate::record::Record;
+use crate::tried::{FileFault, Tried};
 use std::fs::{File, OpenFile};
+use std::io;
 use std::os::unix::fs::FileExt;
 
 /// A file whose calls are kept, with their answers.
@@ -18,10 +20,9 @@ pub trait RawFile: Drop {
     /// The calls and their answers, newest first.
     ghost events: { Self → List Event };
 
-    /// Reads the next bytes of a file that is being opened.
-    fn load(&mut self, at: u64, out: &mut [u8]) -> Result<(), Fault>
-        ensures good { OnOk result (events self.new ≡ Load at out.new ∷ events self.old) }
-        ensures failed { OnErr result (events self.new ≡ FailedRead ∷ events self.old) };
+    /// Notes what a file of this length holds as it is opened. No clause says which bytes these are, and none is read.
+    fn note_opened(&mut self, len: u64)
+        ensures { (bytes : List ℕ) × ((length bytes ≡ len) × (events self.new ≡ Opened bytes ∷ events self.old)) };
 
     fn read_at(&mut self, at: u64, out: &mut [u8]) -> Result<(), Fault>
         ensures good { OnOk result (events self.new ≡ Read at out.new ∷ events self.old) }
@@ -36,11 +37,12 @@ pub trait RawFile: Drop {
         ensures failed { OnErr result (events self.new ≡ FailedSync ∷ events self.old) };
 }
 
-/// A file of the operating system.
+/// A file of the operating system, with the first fault of its calls.
 #[derive(Drop)]
 pub struct HostFile {
     file: File,
     record: Record,
+    fault: Option<FileFault>,
 }
 
 impl HostFile {
@@ -53,7 +55,23 @@ impl HostFile {
         HostFile {
             file,
             record: Record::new(),
+            fault: None,
         }
+    }
+
+    /// The first call that failed, and why, where one did.
+    pub(crate) fn fault(&self) -> Option<FileFault> {
+        self.fault
+    }
+
+    // Keeps why a call failed, unless one had failed before.
+    fn keep(&mut self, tried: Tried, reason: io::Error) -> Fault
+        ensures { events_of self.new ≡ events_of self.old }
+    {
+        if self.fault.is_none() {
+            self.fault = Some(FileFault { tried, reason });
+        }
+        Fault
     }
 }
 
@@ -62,17 +80,8 @@ impl RawFile for HostFile {
 
     ghost events = { events_of };
 
-    fn load(&mut self, at: u64, out: &mut [u8]) -> Result<(), Fault> {
-        match self.file.read_exact_at(out, at) {
-            Ok(()) => {
-                self.record.note_load(at, out);
-                Ok(())
-            }
-            Err(_) => {
-                self.record.note_failed_read();
-                Err(Fault)
-            }
-        }
+    fn note_opened(&mut self, len: u64) {
+        self.record.note_opened(len);
     }
 
     fn read_at(&mut self, at: u64, out: &mut [u8]) -> Result<(), Fault> {
@@ -81,9 +90,9 @@ impl RawFile for HostFile {
                 self.record.note_read(at, out);
                 Ok(())
             }
-            Err(_) => {
+            Err(reason) => {
                 self.record.note_failed_read();
-                Err(Fault)
+                Err(self.keep(Tried::Reading, reason))
             }
         }
     }
@@ -94,9 +103,9 @@ impl RawFile for HostFile {
                 self.record.note_write(at, bytes);
                 Ok(())
             }
-            Err(_) => {
+            Err(reason) => {
                 self.record.note_failed_write(at, bytes.len() as u64);
-                Err(Fault)
+                Err(self.keep(Tried::Writing, reason))
             }
         }
     }
@@ -108,9 +117,9 @@ impl RawFile for HostFile {
                 self.record.note_sync();
                 Ok(())
             }
-            Err(_) => {
+            Err(reason) => {
                 self.record.note_failed_sync();
-                Err(Fault)
+                Err(self.keep(Tried::Syncing, reason))
             }
         }
     }

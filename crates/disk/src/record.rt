@@ -1,12 +1,12 @@
 //! The calls of a file and their answers, kept where only clauses read them.
-ghost use Rattle.std.specs.Prelude.{◌≡◌, List, [], ◌∷◌};
+ghost use Rattle.std.specs.Prelude.{◌≡◌, ℕ, List, [], ◌∷◌, length};
 ghost use Rattle.std.specs.Borrow.{ftrue};
-ghost use Rattle.disk.specs.Event.{Event, Load, Read, FailedRead, Write, FailedWrite, Sync, FailedSync};
+ghost use Rattle.disk.specs.Event.{Event, Opened, Read, FailedRead, Write, FailedWrite, Sync, FailedSync};
 ghost use Rattle.disk.specs.Note.{event_of};
 
 use std::marker::{Model, PhantomData};
 
-const LOAD: u64 = 0;
+const OPENED: u64 = 0;
 
 const READ: u64 = 1;
 
@@ -40,10 +40,11 @@ impl Record {
         }
     }
 
-    pub(crate) fn note_load(&mut self, at: u64, bytes: &[u8])
-        ensures { self.new.events ≡ Load at bytes.now ∷ self.old.events }
+    /// Notes a content of this length, and no clause says which.
+    pub(crate) fn note_opened(&mut self, len: u64)
+        ensures { (bytes : List ℕ) × ((length bytes ≡ len) × (self.new.events ≡ Opened bytes ∷ self.old.events)) }
     {
-        self.note(&[LOAD, at, 0], bytes);
+        self.note(&[OPENED, 0, len], &[]);
     }
 
     pub(crate) fn note_read(&mut self, at: u64, bytes: &[u8])

@@ -5,7 +5,7 @@ ghost use Rattle.revision.specs.Command.{Taken};
 ghost use mathlib.Core.List.{IsPrefix};
 ghost use Rattle.revision.specs.State.{fold};
 ghost use Rattle.recovery.specs.Found.{commands_of};
-ghost use Rattle.recovery.specs.Open.{FitsSlot, state_of};
+ghost use Rattle.recovery.specs.Open.{FitsSlot, device_of, state_of};
 ghost use Rattle.world.specs.World.{takens};
 ghost use Rattle.published.specs.Order.{IsLegal};
 ghost use Rattle.flusher.specs.Flushers.{MayCommit};
@@ -273,6 +273,13 @@ impl<D: Disk, J: Site> Flusher<D, J> {
         ensures { result.now ≡ state_of (store_of self.now) }
     {
         self.store.state()
+    }
+
+    /// The device of the store.
+    pub fn device(&self) -> &D
+        ensures { result.now ≡ device_of (store_of self.now) }
+    {
+        self.store.device()
     }
 
     /// The token of what is published.

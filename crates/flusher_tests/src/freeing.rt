@@ -114,6 +114,14 @@ fn is_stopped(
     goes_on(rt, after.bytes(), Pick::Older, revision);
 }
 
+#[test]
+fn three_calls_of_one_thread_are_a_run(rt: HostRuntime) {
+    let device = new_device(rt.alloc(), SHAPE).expect(&rt, "a device");
+    let first = EDITS.get(..3).expect(&rt, "three rows");
+    let disk = edited(&rt, device.bytes(), first);
+    let _ = found(&rt, disk.bytes(), Pick::Newer, 1);
+}
+
 // Both cells and both slots are open then, and slot 0 has the third segment. The third edit's turn makes 18 calls: a milestone is put into
 // each of the document's cells (four calls each), the first slot is closed (two) and opened again (four), and the record is appended
 // (four). The last two open the record's gate, and where it stands open the third edit is there.

@@ -9,19 +9,21 @@ use disk::MemDisk;
 use fixtures::{command, new_store, newest};
 use flusher::{Flusher, Gate, Moment, start};
 use hub::{Hub, Seat, Writer};
-use published::{Opened, Site};
+use published::{Opened, Site, Told};
 use recovery::Store;
 use refusal::Refusal;
+use revision::Name;
 use std::marker::Brand;
 use std::process::Abort;
 use std::sync::Wait;
 use std::sync::ledger::Blank;
 use view::Viewer;
 
-/// Notes what a reader is shown at each of a write's two moments.
+/// Notes what a reader is shown at each of a write's two moments. Another reader learns what was acknowledged.
 #[derive(Drop)]
 struct Looks<J: Site> {
     viewer: Viewer<MemDisk, J>,
+    learner: Viewer<MemDisk, J>,
     before: Result<u64, Refusal>,
     after: Result<u64, Refusal>,
 }
@@ -79,7 +81,30 @@ fn is_shown<J: Site, R: Wait + Abort + AllocGlobal>(
     let told = acknowledged(rt, hub, &ticket);
     assert!(rt; told.len() == number);
     assert!(rt; gate.before == Ok(number.saturating_sub(1)) && gate.after == gate.before);
+    learns(rt, gate, told, number);
+}
+
+// Who learns the token shows this revision from then on, and so does a reader that didn't learn it. With a floor of 0 each revision before it can
+// be had, with the deltas since.
+fn learns<J: Site>(
+    rt: &(impl Abort + AllocGlobal),
+    gate: &mut Looks<J>,
+    told: Told<MemDisk, J>,
+    number: u64,
+) {
+    gate.learner.learn(&told);
+    assert!(rt; gate.learner.read(newest) == Ok(number));
+    assert!(rt; gate.learner.read(newest) == Ok(number));
     assert!(rt; gate.viewer.read(newest) == Ok(number));
+    if number != 2 {
+        return;
+    }
+    let learner = &mut gate.learner;
+    let name = Name::doc(rt.alloc(), "z").expect(rt, "a name");
+    let document = learner.at(rt.alloc(), &name, 1).expect(rt, "revision 1");
+    assert_eq!(rt; document.len16(), 1);
+    let deltas = learner.since(rt.alloc(), &name, 1).expect(rt, "its deltas");
+    assert_eq!(rt; deltas.len(), 1);
 }
 
 fn two_batches<J: Site, R: Wait + Abort + AllocGlobal>(
@@ -102,6 +127,7 @@ fn two_batches<J: Site, R: Wait + Abort + AllocGlobal>(
     let (hub, mut writer, _closer) = Hub::new(board);
     let mut gate = Looks {
         viewer: flusher.viewer().expect(rt, "a place"),
+        learner: flusher.viewer().expect(rt, "a place"),
         before: Ok(0),
         after: Ok(0),
     };

@@ -17,13 +17,16 @@ use std::sync::Wait;
 use std::sync::ledger::Blank;
 use turns::{Upkeep, flush_turn};
 
-// A milestone that is due of the only document is composed and put, as composers and a turn do it together. What keeps it from that, the next
-// turn tells, or the next command asks for it again.
+// A milestone that is due of the only document is composed and put, as composers and a turn do it together. Where memory ran out it is put once
+// more. What else keeps it from that, the next turn tells, or the next command asks for it again.
 fn put_due<J: Site>(rt: &impl AllocGlobal, flusher: &mut Flusher<FaultDisk, J>, every: u32)
     requires { 1 ≤ every }
 {
     if let Some(revision) = flusher.job_due(0, u64::from(every)) {
-        let _ = flusher.put_document(rt.alloc(), 0, revision);
+        let put = flusher.put_document(rt.alloc(), 0, revision);
+        if matches!(put, Err(Refusal::NoMemory)) {
+            let _ = flusher.put_document(rt.alloc(), 0, revision);
+        }
     }
 }
 

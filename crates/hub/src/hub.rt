@@ -18,8 +18,14 @@ use recovery::Receipt;
 use refusal::Refusal;
 use revision::Command;
 use std::alloc::Global;
-use std::array;
-use std::sync::{Condvar, Mutex, Wait};
+use std::sync::{Condvar, Mutex, MutexGuard, Wait};
+use std::{array, thread};
+
+// A lock that isn't free is looked at so often, and then so often again after other threads were let run, before a thread sleeps at it. A call
+// holds it for a few microseconds, and to be woken takes many times that.
+const LOOKS: u32 = 50;
+
+const YIELDS: u32 = 200;
 
 /// A board that threads share, behind one lock. A session's threads submit and wait; the flusher's thread takes, settles and waits
 /// for work, and says where the store has failed: these calls ask for the hub's `Writer`, which that thread alone has. Who ends the hub
@@ -44,6 +50,22 @@ impl<D, J: Site> Hub<D, J> {
         (hub, writer, closer)
     }
 
+    // The board, once its lock is free. It looks and lets others run before it sleeps.
+    fn held<R: Wait>(&self, rt: &R) -> MutexGuard<'_, Kept<D, J>> {
+        for _ in 0..LOOKS {
+            if let Some(kept) = self.kept.try_lock() {
+                return kept;
+            }
+        }
+        for _ in 0..YIELDS {
+            thread::yield_now();
+            if let Some(kept) = self.kept.try_lock() {
+                return kept;
+            }
+        }
+        self.kept.lock(rt)
+    }
+
     /// Submits a command to the board, and wakes the flusher. The ticket is of this command, and the seat counts it exactly when the
     /// reply is that it was taken. Refused as `Board::submit` refuses it, and once the end was called, since nobody would write it; the
     /// seat is unchanged then. That the store had failed or the hub had ended is said by a token that the hub alone makes. A ticket, or
@@ -60,7 +82,7 @@ impl<D, J: Site> Hub<D, J> {
         ensures counts { IfOk result (λ ticket. seat.new ≡ counted seat.old ticket.reply) }
         ensures uncounted { OnErr result (seat.new ≡ seat.old) }
     {
-        let answer = self.kept.lock(rt).submit(alloc, seat, command);
+        let answer = self.held(rt).submit(alloc, seat, command);
         self.work.notify_one();
         answer
     }
@@ -77,7 +99,7 @@ impl<D, J: Site> Hub<D, J> {
         ensures cap { IfOk result (λ run. run.cap ≡ cap) }
         ensures only { IfErr result (λ e. e ≡ Refusal.NoMemory) }
     {
-        self.kept.lock(rt).take(alloc, writer, cap)
+        self.held(rt).take(alloc, writer, cap)
     }
 
     /// Settles a batch by its receipt and the token of its publish, as `Board::settle` does, and wakes those who wait for it: the board has
@@ -94,7 +116,7 @@ impl<D, J: Site> Hub<D, J> {
         ensures batch { IfErr result (λ unsettled. unsettled.batch ≡ receipt.now) }
         ensures told { IfErr result (λ unsettled. unsettled.told ≡ told) }
     {
-        let (answer, covered) = self.kept.lock(rt).settle(writer, receipt, told);
+        let (answer, covered) = self.held(rt).settle(writer, receipt, told);
         for (condition, wakes) in self.moved.iter().zip(covered.iter()) {
             if *wakes {
                 condition.notify_all();
@@ -107,7 +129,7 @@ impl<D, J: Site> Hub<D, J> {
     pub fn fail<R: Wait>(&self, rt: &R, writer: &mut Writer<J>, why: Refusal) -> Failed<J>
         ensures { result ≡ why }
     {
-        let failed = self.kept.lock(rt).fail(writer, why);
+        let failed = self.held(rt).fail(writer, why);
         for condition in self.moved.iter() {
             condition.notify_all();
         }
@@ -121,7 +143,7 @@ impl<D, J: Site> Hub<D, J> {
         ensures holds { IfOk result (λ told. IfSome told (λ t. ticket.now.length ≤ length (commands_of t))) }
         ensures stands { IfOk result (λ told. IfSome told (λ t. StandsFirst J.start ticket.now (commands_of t))) }
     {
-        self.kept.lock(rt).ack(ticket)
+        self.held(rt).ack(ticket)
     }
 
     /// Waits until a ticket's length is settled, and gives a token that holds it, by which its order is a prefix of what is published. Refused
@@ -131,7 +153,7 @@ impl<D, J: Site> Hub<D, J> {
         ensures stands { IfOk result (λ told. StandsFirst J.start ticket.now (commands_of told)) }
     {
         let place = ticket.place();
-        let mut kept = self.kept.lock(rt);
+        let mut kept = self.held(rt);
         for _ in rt.forever() {
             match kept.ack(ticket) {
                 Ok(Some(told)) => return Ok(told),
@@ -148,7 +170,7 @@ impl<D, J: Site> Hub<D, J> {
     /// all are.
     pub fn wait_work<R: Wait>(&self, rt: &R, writer: &mut Writer<J>) -> Result<Work<J>, Idle<J>> {
         let _ = writer;
-        let mut kept = self.kept.lock(rt);
+        let mut kept = self.held(rt);
         for _ in rt.forever() {
             if !kept.board().is_idle() {
                 return Ok(Work::by_board(kept.board()));
@@ -164,7 +186,7 @@ impl<D, J: Site> Hub<D, J> {
     /// Tells the flusher that nothing more will be submitted, and answers with the token of that. From then on `submit` is refused with
     /// `StoreFailed`, so that nobody waits for a turn that doesn't come.
     pub fn end<R: Wait>(&self, rt: &R, closer: &mut Closer<J>) -> Ended<J> {
-        let ended = self.kept.lock(rt).end(closer);
+        let ended = self.held(rt).end(closer);
         self.work.notify_all();
         ended
     }
@@ -175,7 +197,7 @@ impl<D, J: Site> Hub<D, J> {
         ensures new { IfOk result (λ seat. seat ≡ 0) }
         ensures only { IfErr result (λ e. e ≡ Refusal.NoSeat) }
     {
-        self.kept.lock(rt).seat(closer)
+        self.held(rt).seat(closer)
     }
 
     /// Gives the board back, once nobody shares the hub any more. It takes no memory, and waits for nobody.
@@ -192,6 +214,6 @@ impl<D, J: Site> Hub<D, J> {
     pub fn ordered<R: Wait>(&self, rt: &R) -> usize
         ensures { WasOrdered J.start result }
     {
-        self.kept.lock(rt).board().ordered()
+        self.held(rt).board().ordered()
     }
 }

@@ -11,8 +11,8 @@
 //! (specs/Placed.antt). So by the token of what is published alone, without the board, its order is a prefix of that (`Ticket::stands`).
 //!
 //! What `take` takes off is a `Run`, which nothing else makes and nobody can change: so a flusher can only hold what a board took off. It
-//! isn't `Drop`, so no path lets one go: it ends by the receipt of its commit, with its store, or where it doesn't follow what is
-//! published. Where it does, it gives the token of the order by which it is published (`Run::goes_on`).
+//! isn't `Drop`: it ends by the receipt of its commit, with its store, or against a token that it doesn't follow, be it an old one
+//! (`Run::apart`). Where it follows what is published, it gives the token of the order by which it is published (`Run::goes_on`).
 //!
 //! Beside the first of its commands a run has the documents as they leave them, on what is published before it (`Run::made`,
 //! `Run::committed`; `AreMade` of revision). The board keeps a copy of each as it takes the command, which shares the chunks with its own

@@ -21,10 +21,10 @@ use std::marker::{Model, PhantomData};
 use world::Entry;
 
 /// A run that was taken off a board to be written, with how many bytes its batch could have. Only a board's `take` makes one, of the
-/// longest run that fits, and it can't be changed: so what is written is what the board took off. It isn't `Drop`, so that no run is
-/// lost: it ends with the receipt of its commit, or where it has no command, or where it doesn't follow what is published, or with the store
-/// that would have written it. It has a token of the order, and knows its place there. Beside the first of its commands it has the
-/// documents as they leave them, so that nobody makes these again.
+/// longest run that fits, and it can't be changed: so what is written is what the board took off. It isn't `Drop`: it ends with the receipt
+/// of its commit, or where it has no command, or where it doesn't follow what a token names, be it an old one (`apart`), or with the store that
+/// would have written it. It has a token of the order, and knows its place there. Beside the first of its commands it has the documents as
+/// they leave them, so that nobody makes these again.
 pub struct Run<D, J: Site> {
     batch: Batch,
     made: Vec<Document>,
@@ -86,7 +86,8 @@ impl<D, J: Site> Run<D, J> {
         self.order.copy()
     }
 
-    /// Ends a run that doesn't follow what a token names: the order has more commands before its own, or fewer. It is never written.
+    /// Ends a run that doesn't follow what a token names: the order has more commands before its own, or fewer. It is never written, so the
+    /// caller has to fail the board; no clause says that it does.
     pub fn apart(self, told: &Told<D, J>)
         requires { self.place ≢ length (commands_of told.now) }
     {

@@ -3,13 +3,13 @@ ghost use Rattle.std.specs.Prelude.{◌≡◌};
 ghost use Rattle.recovery.specs.Open.{state_of};
 
 use crate::publishing::Publishing;
-use crate::rows::Step::{Ack, Fail, Order, Settle, Submit, Take};
-use crate::rows::{Gives, Life, Row, SHAPE, given, stands};
+use crate::rows::Step::{Ack, Behind, Fail, Order, Settle, Submit, Take, Wide};
+use crate::rows::{Gives, Life, Row, SHAPE, SMALL, given, stands};
 use disk::{Disk, MemDisk};
 use fixtures::{new_store, open_store};
 use hub::Board;
 use published::{Opened, Site};
-use recovery::{Pick, Store};
+use recovery::{Pick, Shape, Store};
 use refusal::Refusal;
 use revision::Reply::{Again, Taken};
 use std::marker::Brand;
@@ -44,6 +44,17 @@ const IN_TWO: [Row; 15] = [
     (Ack(3), Gives::Acked(3)),
 ];
 
+/// On the small device too: two of 41 and 51 bytes, and then one of 236.
+const ON_1600: [Row; 7] = [
+    (Submit(1, 1), FIRST),
+    (Behind(2), SECOND),
+    (Wide(3), Gives::Ordered(Taken { rev: 3 }, 3)),
+    (Take, Gives::Committed(2)),
+    (Take, Gives::Committed(1)),
+    (Take, Gives::Committed(0)),
+    (Order, Gives::Stands(3, 2)),
+];
+
 /// The create's entry has 41 bytes, the edit's 37 and one a letter, and a batch 4 more: 241 bytes are one batch.
 const OF_241: [Row; 4] = [
     (Submit(1, 1), FIRST),
@@ -75,12 +86,13 @@ const FAILING: [Row; 10] = [
     (Submit(3, 1), FAILED),
 ];
 
-/// Each with the revision and the letters that the store then has.
-const RUNS: [(&[Row], u64, u64); 4] = [
-    (&IN_TWO, 3, 214),
-    (&OF_241, 2, 160),
-    (&OF_242, 2, 161),
-    (&FAILING, 1, 1),
+/// Each on its device, with the revision and the letters that the store then has.
+const RUNS: [(Shape, &[Row], u64, u64); 5] = [
+    (SHAPE, &IN_TWO, 3, 214),
+    (SMALL, &ON_1600, 3, 2),
+    (SHAPE, &OF_241, 2, 160),
+    (SHAPE, &OF_242, 2, 161),
+    (SHAPE, &FAILING, 1, 1),
 ];
 
 // What each row gives, at a board of a store, with one seat and without commands. The store comes back.
@@ -122,8 +134,8 @@ fn is_opened_at(
 
 #[test]
 fn each_step_of_a_board_gives_its_answer(rt: HostRuntime) {
-    for (rows, revision, letters) in &RUNS {
-        let store = new_store(rt.alloc(), SHAPE).expect(&rt, "a store");
+    for (shape, rows, revision, letters) in &RUNS {
+        let store = new_store(rt.alloc(), *shape).expect(&rt, "a store");
         let opened = Opened::new().expect(&rt, "logs");
         let store = lived::<Brand, _>(&rt, store, opened, Blank::new(2), *rows);
         is_opened_at(&rt, store, *revision, *letters);

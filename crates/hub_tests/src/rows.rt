@@ -1,12 +1,12 @@
 //! The life of a board as rows: what is done, and what that gives.
 use crate::publishing::Publishing;
 use disk::MemDisk;
-use fixtures::{command, commit};
+use fixtures::{command, command_behind, commit, wide_command};
 use hub::{Board, Seat, Ticket};
 use published::{Site, Told};
 use recovery::{Receipt, Shape, Store};
 use refusal::Refusal;
-use revision::{Reply, State};
+use revision::{Command, Reply, State};
 use std::process::Abort;
 
 /// A device of 263,232 bytes: slots of 256, and cells that have room for texts of 65,536 letters.
@@ -19,6 +19,16 @@ pub const SHAPE: Shape = Shape {
     keep: 2,
 };
 
+/// A device of 1,600 bytes.
+pub const SMALL: Shape = Shape {
+    slots: 2,
+    slot: 256,
+    docs: 2,
+    cell: 256,
+    sources: 4,
+    keep: 2,
+};
+
 /// Bytes of a batch at most, so that it finds room in an empty slot.
 pub const CAP: u32 = 241;
 
@@ -27,6 +37,10 @@ pub const CAP: u32 = 241;
 pub enum Step {
     /// Submits the command of this number, with so many letters.
     Submit(u64, u32),
+    /// Submits the edit of this number, of one letter behind the first one.
+    Behind(u64),
+    /// Submits the edit of this number, which fills a slot.
+    Wide(u64),
     /// Looks at what the order makes.
     Order,
     /// Takes the next batch, commits it and publishes it.
@@ -109,10 +123,9 @@ impl<J: Site> Life<J> {
 fn submitted<J: Site>(
     rt: &(impl Abort + AllocGlobal),
     life: &mut Life<J>,
-    number: u64,
-    letters: u32,
+    command: Result<Command, Refusal>,
 ) -> Gives {
-    let command = command(rt.alloc(), number, letters).expect(rt, "a command");
+    let command = command.expect(rt, "a command");
     match life.board.submit(rt.alloc(), &mut life.seat, &command) {
         Ok(ticket) => {
             let gives = Gives::Ordered(ticket.reply(), ticket.length());
@@ -182,7 +195,11 @@ fn acknowledged<J: Site>(life: &Life<J>, at: usize) -> Gives {
 /// Does a step.
 pub fn given<J: Site>(rt: &(impl Abort + AllocGlobal), life: &mut Life<J>, step: &Step) -> Gives {
     match *step {
-        Step::Submit(number, letters) => submitted(rt, life, number, letters),
+        Step::Submit(number, letters) => {
+            submitted(rt, life, command(rt.alloc(), number, letters))
+        }
+        Step::Behind(number) => submitted(rt, life, command_behind(rt.alloc(), number)),
+        Step::Wide(number) => submitted(rt, life, wide_command(rt.alloc(), number)),
         Step::Order => stands(life.board.state()),
         Step::Take => committed(rt, life),
         Step::Settle(batch, token) => settled(life, batch, token),

@@ -62,8 +62,8 @@ module _ {D : Type 0} {disk : Ghosts D} where
 
   -- What a call leaves that was begun and isn't answered: no ticket is given, and nothing more is settled. A submission leaves all as it
   -- was, and an acknowledgement is always answered. A milestone leaves the board and the tickets, and where the store works still,
-  -- memory ran out, and no more is changed of the store than that a job may be kept. A retirement leaves the board and the tickets, and the
-  -- store has failed.
+  -- memory ran out, and no more is changed of the store than that the document's job is dropped. A retirement leaves the board and the
+  -- tickets, and the store has failed.
   abbrev pub IsUnanswered : ℕ → Between D disk → Call → Between D disk → Type 0
   IsUnanswered cap here (Submit command) after = after ≡ here
   IsUnanswered cap here Turn after = (after.tickets ≡ here.tickets) × IsUnsettled cap here.board here.store after.board after.store

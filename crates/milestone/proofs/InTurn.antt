@@ -1,5 +1,5 @@
 -- The one delta for deltas that stand in turn.
-use Rattle.std.proofs.Common.{◌≡◌, ℕ, zero, suc, ◌+◌, ◌/◌, ◌≤◌, ◌^◌, List, [], ◌∷◌, length, take, drop, refl, sym, ap, subst, ◌∙◌, arith}
+use Rattle.std.proofs.Common.{◌≡◌, ℕ, zero, suc, ◌/◌, ◌≤◌, ◌^◌, List, [], ◌∷◌, length, take, drop, refl, sym, ap, subst, ◌∙◌, arith}
 use Rattle.refusal.specs.declared.Refusal.{Refusal}
 use Rattle.refusal.specs.declared.Refusal.TheVariants.{NoMemory}
 use Rattle.delta.specs.Element.{Element}
@@ -11,15 +11,15 @@ use Rattle.compose.specs.Many.{AreDefined, applied, lengths_of}
 use Rattle.compose.specs.Whole.{PartNone}
 use Rattle.revision.specs.Past.{StandInTurn}
 use Rattle.revision.proofs.CallerLemmas.{stand-take, stand-drop}
-use Rattle.milestone.specs.Job.{Job, KeepLengths, IsJob, units_of_job}
+use Rattle.milestone.specs.Job.{Job, IsJob, units_of_job}
 use Rattle.milestone.specs.Halves.{IsPart, ComposesPart, first_half, second_half}
 
 -- they are defined in turn, and part no pair
-are_defined : (units : List Element) (deltas : List (List Operation)) → StandInTurn units deltas → AreDefined units deltas
+pub are_defined : (units : List Element) (deltas : List (List Operation)) → StandInTurn units deltas → AreDefined units deltas
 are_defined units [] turn = tt
 are_defined units (first ∷ others) turn = (turn.0.0, are_defined (apply units (counted first)) others turn.1)
 
-part_none : (units : List Element) (deltas : List (List Operation)) → StandInTurn units deltas → PartNone units deltas
+pub part_none : (units : List Element) (deltas : List (List Operation)) → StandInTurn units deltas → PartNone units deltas
 part_none units [] turn = tt
 part_none units (first ∷ others) turn = (turn.0.1, part_none (apply units (counted first)) others turn.1)
 
@@ -59,6 +59,21 @@ lengths-drop zero deltas = omega arith
 lengths-drop (suc n) [] = omega arith
 lengths-drop (suc n) (first ∷ others) = omega (arith, lengths-drop n others)
 
+-- what is up to a place of a part is one again, and what is from there on
+pub part-take : (n : ℕ) (deltas : List (List Operation)) → IsPart deltas → IsPart (take n deltas)
+part-take n deltas part = record {
+  units = part.units;
+  stand = stand-take n part.units deltas part.stand;
+  lengths = omega (arith, part.lengths, lengths-take n deltas);
+}
+
+pub part-drop : (n : ℕ) (deltas : List (List Operation)) → IsPart deltas → IsPart (drop n deltas)
+part-drop n deltas part = record {
+  units = applied part.units (take n deltas);
+  stand = stand-drop n part.units deltas part.stand;
+  lengths = omega (arith, part.lengths, lengths-drop n deltas);
+}
+
 -- the units of a job are short
 job_short : (job : Job) → IsJob job → length (units_of_job job) ≤ 2 ^ 48
 job_short job is =
@@ -69,21 +84,13 @@ pub job_part : (job : Job) → IsJob job → IsPart job.deltas
 job_part job is = record { units = units_of_job job; stand = is.stand; lengths = omega (arith, is.lengths) }
 
 pub first_part : (job : Job) → IsJob job → IsPart (first_half job.deltas)
-first_part job is = record {
-  units = units_of_job job;
-  stand = stand-take (length job.deltas / 2) (units_of_job job) job.deltas is.stand;
-  lengths = omega (arith, is.lengths, lengths-take (length job.deltas / 2) job.deltas);
-}
+first_part job is = part-take (length job.deltas / 2) job.deltas (job_part job is)
 
 pub second_part : (job : Job) → IsJob job → IsPart (second_half job.deltas)
-second_part job is = record {
-  units = applied (units_of_job job) (first_half job.deltas);
-  stand = stand-drop (length job.deltas / 2) (units_of_job job) job.deltas is.stand;
-  lengths = omega (arith, is.lengths, lengths-drop (length job.deltas / 2) job.deltas);
-}
+second_part job is = part-drop (length job.deltas / 2) job.deltas (job_part job is)
 
 -- the second half after the first
-applied-parts : (n : ℕ) (units : List Element) (deltas : List (List Operation)) → applied (applied units (take n deltas)) (drop n deltas) ≡ applied units deltas
+pub applied-parts : (n : ℕ) (units : List Element) (deltas : List (List Operation)) → applied (applied units (take n deltas)) (drop n deltas) ≡ applied units deltas
 applied-parts zero units deltas = refl
 applied-parts (suc n) units [] = refl
 applied-parts (suc n) units (first ∷ others) = applied-parts n (apply units (counted first)) others

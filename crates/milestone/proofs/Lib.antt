@@ -1,5 +1,6 @@
 pub mod CallerLemmas
 pub mod InTurn
+pub mod ByHalves
 pub mod Lengths
 pub mod Sizes
 pub mod Light

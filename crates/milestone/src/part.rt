@@ -1,13 +1,18 @@
 //! Half of a job's deltas, and the one delta for it.
-ghost use Rattle.std.specs.Prelude.{◌≡◌, IfOk, IfErr, IsOkUnless};
+ghost use Rattle.std.specs.Prelude.{◌≡◌, ◌+◌, ◌≤◌, IfOk, IfErr, IsOkUnless};
+ghost use Rattle.delta.specs.Operation.{base_of, out_of};
+ghost use Rattle.compose.specs.Many.{lengths_of};
 ghost use Rattle.milestone.specs.Halves.{IsPart, ComposesPart, first_half, second_half};
 
 use crate::job::{Job, copies};
-use compose::compose_many;
+use compose::{compose, compose_many};
 use delta::Delta;
 use refusal::Refusal;
 use std::alloc::Global;
 use std::marker::Model;
+
+/// So many deltas at most are composed one by one.
+const FEW: usize = 8;
 
 /// Some of a job's deltas, one after another, seen as these. Its type keeps that there are units on which they stand in turn, each
 /// accepted by what those before it make of them, and that their base lengths and output lengths sum to at most 2^48.
@@ -124,10 +129,31 @@ fn part_of(alloc: Global, deltas: &[Delta]) -> Result<Part, Refusal>
     })
 }
 
-/// The one delta for deltas that stand in turn on some units. Refused as out of memory alone.
+/// The one delta for deltas that stand in turn on some units. Where they are many each half is composed by itself, and then the two, so that
+/// the operations that are there are walked again for each halving alone, and not for each delta. Refused as out of memory alone.
 pub(crate) fn one_for(alloc: Global, deltas: &[Delta]) -> Result<Delta, Refusal>
     requires { IsPart deltas.now }
     ensures composes { IfOk result (λ one. ComposesPart one deltas.now) }
+    ensures lengths { IfOk result (λ one. base_of one + out_of one ≤ lengths_of deltas.now) }
+    ensures only { IsOkUnless result Refusal.NoMemory }
+{
+    if deltas.len() <= FEW {
+        return one_for_few(alloc, deltas);
+    }
+    let (begin, end) = deltas.split_at(deltas.len() / 2);
+    let first = one_for(alloc, begin)?;
+    let second = one_for(alloc, end)?;
+    match compose(alloc, &first, &second) {
+        Ok(one) => Ok(one),
+        Err(refusal) => Err(refusal),
+    }
+}
+
+// The same, one by one from the left.
+fn one_for_few(alloc: Global, deltas: &[Delta]) -> Result<Delta, Refusal>
+    requires { IsPart deltas.now }
+    ensures composes { IfOk result (λ one. ComposesPart one deltas.now) }
+    ensures lengths { IfOk result (λ one. base_of one + out_of one ≤ lengths_of deltas.now) }
     ensures only { IsOkUnless result Refusal.NoMemory }
 {
     match compose_many(alloc, deltas) {

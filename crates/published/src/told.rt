@@ -1,7 +1,6 @@
 //! The token of what was published.
 ghost use Rattle.std.specs.Prelude.{◌≡◌, ◌⊎◌, ◌≤◌, ◌<◌, ◌+◌, ◌^◌, ◌∷◌, ◌++◌, [], ◌↔◌, true, length, IsTrue, MatchBool};
 ghost use mathlib.Core.List.{IsPrefix};
-ghost use Rattle.revision.specs.State.{all_grow};
 ghost use Rattle.recovery.specs.Found.{commands_of};
 ghost use Rattle.world.specs.World.{takens};
 ghost use Rattle.published.specs.Batches.{IsShorter};
@@ -87,13 +86,6 @@ impl<D, J: Site> Told<D, J> {
         ensures that { IsPrefix other.now self.new }
     {
         *self = self.longer(other);
-    }
-
-    /// Each of its commands continues what those before it make of the run's start. It takes no memory.
-    pub fn grows(&self)
-        ensures { all_grow J.start (commands_of self.now) ≡ true }
-    {
-        let _order = self.mark.order.copy();
     }
 
     /// All that a token of the order has is published, where that is no more than what is published. It takes no memory.

@@ -13,6 +13,10 @@ refusal_or other (Err refusal) = refusal
 pub ok≢err : {T : Type 0} (value : T) (refusal : Refusal) → ◌≡◌ {A = Result T Refusal} (Ok value) (Err refusal) → ⊥
 ok≢err value refusal is = cc
 
+-- want of memory is no failed device
+pub memory_no_fault : {refusal : Refusal} → refusal ≡ NoMemory → refusal ≡ Fault → ⊥
+memory_no_fault memory fault = let same : NoMemory ≡ Fault = sym memory ∙ fault in cc
+
 -- what holds of each refusal that a result may be, and of an Ok
 pub if_err : {T : Type 0} (P : Refusal → Type 0) (result : Result T Refusal) → ((e : Refusal) → result ≡ Err e → P e) → IfErr result P
 if_err P (Ok value) has = tt

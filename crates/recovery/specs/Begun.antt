@@ -25,11 +25,11 @@ jobs_after [] jobs = jobs
 jobs_after (step ∷ steps) jobs = jobs_after steps (jobs_behind step jobs)
 
 module _ {D : Type 0} {disk : Ghosts D} where
-  -- What a step leaves for which memory ran out: a commit leaves all unchanged, and a milestone at most its job. Nothing spoke against the
-  -- milestone: what does is told before. A retirement takes no memory.
+  -- What a step leaves for which memory ran out: a commit leaves all unchanged, and a milestone all but the job of its document, which is
+  -- dropped. Nothing spoke against the milestone: what does is told before. A retirement takes no memory.
   abbrev pub IsLeftByMemory : StoreStep → Store D disk → Store D disk → Type 0
   IsLeftByMemory (Commit batch) old new = IsUnchanged old new
-  IsLeftByMemory (Milestone document revision) old new = MayPut document revision old × IsUnwritten document revision old new
+  IsLeftByMemory (Milestone document revision) old new = MayPut document revision old × IsUnwritten document old new
   IsLeftByMemory Retire old new = ⊥
 
   -- What a refused step leaves, whatever refused it: the state, the marks and the jobs of other documents stay, and a crash at any moment

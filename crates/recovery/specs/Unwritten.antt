@@ -1,9 +1,9 @@
--- What a milestone leaves of a store whose job was handed out and that was not put.
+-- What a milestone leaves of a store that did not put it.
 use Rattle.std.specs.Prelude.{◌≡◌, ◌⊎◌, ℕ}
 use Rattle.disk.specs.declared.device.Disk.{Ghosts}
 use Rattle.milestone.specs.Job.{Job}
 use Rattle.recovery.specs.declared.store.Store.{Store}
-use Rattle.recovery.specs.Jobs.{IsJobTo, IsMadeOf, with_job}
+use Rattle.recovery.specs.Jobs.{IsJobTo, IsMadeOf, with_job, without_job}
 use Rattle.recovery.specs.Open.{known_cells, known_marks, kept_jobs, state_of}
 
 module _ {D : Type 0} {disk : Ghosts D} where
@@ -24,7 +24,7 @@ module _ {D : Type 0} {disk : Ghosts D} where
       ⊎ ((job : Job) × (IsJobTo (state_of old).documents document revision job × IsMadeOf (state_of old).documents document revision job)
       × (kept_jobs new ≡ with_job job (kept_jobs old)))
 
-  -- nothing of a milestone of a document at a revision was put, though its job may be kept
-  pub record IsUnwritten (document revision : ℕ) (old new : Store D disk) : Type 0 where
+  -- nothing of a milestone of a document was put, and no job of the document is kept
+  pub record IsUnwritten (document : ℕ) (old new : Store D disk) : Type 0 where
     pub same : IsUnchangedButJobs old new
-    pub jobs : MayKeepJob document revision old new
+    pub jobs : kept_jobs new ≡ without_job document (kept_jobs old)

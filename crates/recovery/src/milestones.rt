@@ -8,10 +8,10 @@ ghost use Rattle.recovery.specs.Faults.{FailsAtFaults};
 ghost use Rattle.recovery.specs.Found.{FoundAs};
 ghost use Rattle.recovery.specs.Jobs.{highest, no_job_for, without_job};
 ghost use Rattle.recovery.specs.Open.{IsOpen, IsUnchanged, IsPutNow, device_of, ring_of, state_of, known_cells, known_marks, has_failed, kept_jobs};
-ghost use Rattle.recovery.specs.Run.{IsTaken};
+ghost use Rattle.recovery.specs.Run.{IsTaken, MayPut};
 ghost use Rattle.recovery.specs.Begun.{IsLeftByMemory};
 ghost use Rattle.recovery.specs.declared.run.StoreStep.TheVariants.{Milestone};
-ghost use Rattle.recovery.specs.Unwritten.{MayKeepJob};
+ghost use Rattle.recovery.specs.Unwritten.{IsUnchangedButJobs, MayKeepJob};
 
 use crate::store::Store;
 use disk::Disk;
@@ -78,7 +78,7 @@ impl<D: Disk> Store<D> {
     }
     /// Puts a milestone of a document at a revision: hands out its job, composes it here, and puts what came of it. The refusals are
     /// those of `milestone_job`, which come exactly when it returns them, and `NoMemory` and `Fault` while it is composed and put.
-    /// The documents stay. Where memory runs out, the job may stay kept, in place of one that was handed out before.
+    /// The documents stay. Where memory runs out, the document's job is dropped, so that another one may be due.
     pub fn put_document(
         &mut self,
         alloc: Global,
@@ -99,14 +99,16 @@ impl<D: Disk> Store<D> {
         ensures only { IfErr result (λ e. ((e ≡ Refusal.NoDocument) ⊎ ((e ≡ Refusal.Future) ⊎ (e ≡ Refusal.TooOld)))
             ⊎ ((e ≡ Refusal.NoMemory) ⊎ (e ≡ Refusal.Fault))) }
 
-        // A refusal for the document or its revision leaves all unchanged; `NoMemory` leaves the device, and may leave a
-        // kept job of the document.
+        // A refusal for the document or its revision leaves all unchanged. `NoMemory` leaves all but the document's job,
+        // which is dropped: so another one may be due. `Fault` may leave a job of the document kept.
         ensures untouched { IfErr result (λ e. e ≢ Refusal.NoMemory → e ≢ Refusal.Fault
             → IsUnchanged self.old self.new) }
         ensures unwritten { IfErr result (λ e. e ≢ Refusal.Fault → device_of self.new ≡ device_of self.old) }
         ensures memory { IsErrOf result Refusal.NoMemory
             → IsLeftByMemory (Milestone document revision) self.old self.new }
-        ensures job { OnErr result (MayKeepJob document revision self.old self.new) }
+        ensures forgotten { IsErrOf result Refusal.NoMemory
+            → kept_jobs self.new ≡ without_job document (kept_jobs self.old) }
+        ensures job { IsErrOf result Refusal.Fault → MayKeepJob document revision self.old self.new }
         ensures dropped { OnOk result (kept_jobs self.new ≡ without_job document (kept_jobs self.old)) }
 
         // What each answer leaves: the segments, what is known of them, and the kept jobs of other documents are unchanged.
@@ -125,6 +127,51 @@ impl<D: Disk> Store<D> {
         ensures kept { IfErr result (λ e. e ≢ Refusal.Fault → IsOpen self.old → IsOpen self.new) }
 
         // Six calls of the device at most.
+        ensures calls { length (D.past (device_of self.new)) ≤ length (D.past (device_of self.old)) + 6 }
+    {
+        match self.put_at_once(alloc, document, revision) {
+            Ok(()) => Ok(()),
+            Err(refusal) => {
+                if refusal != Refusal::NoMemory {
+                    return Err(refusal);
+                }
+                self.drop_job(document);
+                Err(refusal)
+            }
+        }
+    }
+
+    // Hands out the job of a document, composes it here, and puts what came of it. Where memory runs out, the job may stay kept.
+    fn put_at_once(&mut self, alloc: Global, document: u32, revision: u64) -> Result<(), Refusal>
+        ensures faults { FailsAtFaults result self.old self.new }
+        ensures refused { IfErr result (λ e. e ≢ Refusal.NoMemory → e ≢ Refusal.Fault → (is_open : IsOpen self.old)
+            → no_job_for (slice_get (state_of self.old).documents document) (highest (cells_at is_open.cells document))
+            revision ≡ Some e) }
+        ensures refused_by { IfErr result (λ e. e ≢ Refusal.NoMemory → e ≢ Refusal.Fault
+            → no_job_for (slice_get (state_of self.old).documents document)
+            (highest_known (known_cells self.old) document) revision ≡ Some e) }
+        ensures due { has_failed self.old ≡ false → (why : Why)
+            → no_job_for (slice_get (state_of self.old).documents document)
+            (highest_known (known_cells self.old) document) revision ≡ Some why → IsErrOf result why }
+        ensures only { IfErr result (λ e. ((e ≡ Refusal.NoDocument) ⊎ ((e ≡ Refusal.Future) ⊎ (e ≡ Refusal.TooOld)))
+            ⊎ ((e ≡ Refusal.NoMemory) ⊎ (e ≡ Refusal.Fault))) }
+        ensures untouched { IfErr result (λ e. e ≢ Refusal.NoMemory → e ≢ Refusal.Fault
+            → IsUnchanged self.old self.new) }
+        ensures unwritten { IfErr result (λ e. e ≢ Refusal.Fault → device_of self.new ≡ device_of self.old) }
+        ensures memory { IsErrOf result Refusal.NoMemory
+            → MayPut document revision self.old × IsUnchangedButJobs self.old self.new }
+        ensures job { OnErr result (MayKeepJob document revision self.old self.new) }
+        ensures dropped { OnOk result (kept_jobs self.new ≡ without_job document (kept_jobs self.old)) }
+        ensures state { state_of self.new ≡ state_of self.old }
+        ensures ring { ring_of self.new ≡ ring_of self.old }
+        ensures marks { known_marks self.new ≡ known_marks self.old }
+        ensures others { without_job document (kept_jobs self.new) ≡ without_job document (kept_jobs self.old) }
+        ensures any_moment { has_failed self.old ≡ false → IsOpen self.old
+            → LeavesOnly ⟦<D as Disk>⟧ (λ content. FoundAs content (state_of self.old)) (device_of self.old)
+            (device_of self.new) }
+        ensures taken { OnOk result (IsTaken (Milestone document revision) self.old self.new) }
+        ensures done { OnOk result (IsOpen self.old → IsOpen self.new) }
+        ensures kept { IfErr result (λ e. e ≢ Refusal.Fault → IsOpen self.old → IsOpen self.new) }
         ensures calls { length (D.past (device_of self.new)) ≤ length (D.past (device_of self.old)) + 6 }
     {
         let job = match self.milestone_job(alloc, document, revision) {

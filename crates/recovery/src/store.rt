@@ -161,6 +161,13 @@ impl<D: Disk> Store<D> {
         self.failed
     }
 
+    /// The device.
+    pub fn device(&self) -> &D
+        ensures { result.now ≡ device_of self.now }
+    {
+        &self.device
+    }
+
     /// Gives the device back.
     pub fn close(self) -> D
         ensures { result ≡ device_of self }

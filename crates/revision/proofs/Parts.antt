@@ -16,9 +16,9 @@ use Rattle.revision.proofs.Room.{room_for_undo}
 use Rattle.revision.proofs.Kept.{stand-more, short-more, short-take, room-since, stand-between, short-between, short-first, short-inserts}
 use Rattle.revision.proofs.KeptDocuments.{kept-prepared, kept-accepted, kept-cut}
 use Rattle.revision.proofs.Replays.{stand-take, stand-drop, drop-here}
-use Rattle.revision.specs.steps.Turning.{steps_up_to_turn, turned_floor, live_after_takers}
+use Rattle.revision.specs.steps.Turning.{steps_up_to_turn, turned_floor, live_after_takers, live_by_last}
 use Rattle.revision.proofs.Floors.{newest-from, content-from, deltas-from}
-use Rattle.revision.proofs.Turning.{nexts-length, nexts-more, nexts-take, nexts-drop, nexts-units, nexts-live, nexts-content, lead-more, lead-take, moved, floor_after, steps-from, floor-is, turns-within}
+use Rattle.revision.proofs.Turning.{nexts-length, nexts-more, nexts-take, nexts-drop, nexts-units, nexts-live, live-by-last, nexts-content, lead-more, lead-take, moved, floor_after, steps-from, floor-is, turns-within}
 
 -- changes by as many sources as deltas
 pub changes-deltas : (takers : List Taker) (deltas : List (List Operation)) → length takers ≡ length deltas → deltas_in (changes_by takers deltas) ≡ deltas
@@ -180,6 +180,10 @@ module _ (parts : Parts) (is : AreParts parts) where
   pub prepared-live : (prepared_content (seen parts)).live ≡ live_after_takers parts.live (drop parts.count parts.takers)
   prepared-live =
       ap (λ (c : Content). c.live) seen-prepared ∙ nexts-live (taken_content parts) (drop parts.count parts.takers) (drop parts.count parts.deltas) rest_same
+
+  pub prepared-by-last : (prepared_content (seen parts)).live ≡ live_by_last parts.live (drop parts.count parts.takers)
+  prepared-by-last =
+      prepared-live ∙ live-by-last (taken_content parts) (drop parts.count parts.takers) (drop parts.count parts.deltas) rest_same is.lead
 
   pub prepared-is-content : is_content (prepared_content (seen parts)) ≡ true
   prepared-is-content =

@@ -11,7 +11,7 @@ use Rattle.revision.specs.Command.{Step, Edits, Deletes, Revives, edits}
 use Rattle.revision.specs.Sources.{Sources, with_taken}
 use Rattle.revision.specs.Past.{Past, Content, Change, Next, own_delta, next_by, nexts_by, changes_by, is_content, suits, live_after, units_after, content_after, content_after_all, LeadsTo, LeadInTurn, newest, newest_content, newest_sources, deltas_of, sources_after, sources_at, content_at, from_floor, with_change, rebased, with_step, with_steps}
 use Rattle.revision.specs.Floors.{longer}
-use Rattle.revision.specs.steps.Turning.{turn_or, steps_up_to_turn, turned_floor, live_after_takers}
+use Rattle.revision.specs.steps.Turning.{turn_or, steps_up_to_turn, turned_floor, live_after_takers, leaves_live, live_by_last}
 use Rattle.revision.proofs.Floors.{newest-from, from-from, change-from}
 use Rattle.revision.proofs.Changing.{newest-longer, units-longer, sources-longer}
 
@@ -72,6 +72,31 @@ nexts-live content [] (delta ∷ deltas) same = absurd (omega (arith, same))
 nexts-live content (taker ∷ takers) [] same = absurd (omega (arith, same))
 nexts-live content (taker ∷ takers) (delta ∷ deltas) same =
     nexts-live (content_after content taker.step (own_delta taker.step delta)) takers deltas (omega (arith, same))
+
+-- a step that suits the mark decides the next one, whatever the mark was
+live-left : (live : Bool) (step : Step) → suits live step ≡ true → live_after live step ≡ leaves_live step
+live-left live Edits suit = suit
+live-left live Deletes suit = refl
+live-left live Revives suit = refl
+
+-- so the last of several that suit decides
+pub live-by-last : (content : Content) (takers : List Taker) (deltas : List (List Operation)) → length takers ≡ length deltas → LeadInTurn content takers deltas
+    → live_after_takers content.live takers ≡ live_by_last content.live takers
+live-by-last content [] deltas same lead = refl
+live-by-last content (taker ∷ takers) [] same lead = absurd (omega (arith, same))
+live-by-last content (taker ∷ takers) (delta ∷ deltas) same lead =
+    live-by-last (content_after content taker.step delta) takers deltas (omega (arith, same)) lead.1
+    ∙ ap (λ (b : Bool). live_by_last b takers) (live-left content.live taker.step lead.0.suited)
+
+-- where there are some, the last is the one at the place below their number
+pub last-decides : (live : Bool) (takers : List Taker) (n : ℕ) (t : Taker) → length takers ≡ suc n → t ≡ get_or takers n t
+    → live_by_last live takers ≡ leaves_live t.step
+last-decides live [] n t many same = absurd (omega (arith, many))
+last-decides live (first ∷ []) zero t many same = ap (λ (u : Taker). leaves_live u.step) (sym same)
+last-decides live (first ∷ []) (suc n) t many same = absurd (omega (arith, many))
+last-decides live (first ∷ second ∷ others) zero t many same = absurd (omega (arith, many))
+last-decides live (first ∷ second ∷ others) (suc n) t many same =
+    last-decides (leaves_live first.step) (second ∷ others) n t (omega (arith, many)) same
 
 -- nothing stands in a document that is deleted, however it goes on by steps that suit it
 step-content : (content : Content) (step : Step) (delta : List Operation) → is_content content ≡ true → suits content.live step ≡ true

@@ -8,7 +8,7 @@ ghost use Rattle.compose.specs.Many.{applied};
 ghost use Rattle.revision.specs.Floors.{raised};
 ghost use Rattle.revision.specs.Late.{late as late_edit, all_inserted, HasCommandRoom};
 ghost use Rattle.revision.specs.Past.{Change, StandInTurn, IsKept, AreKept, newest, newest_units, content_at, deltas_of, deltas_above, undo_of, way_back, way_back_late, Next, is_content, suits, live_after as spec_live_after, units_after, next_by, with_steps, prepared_content, prepared_units, prepared_revision, without_last, sources_after, sources_at, changes_by};
-ghost use Rattle.revision.specs.steps.Turning.{steps_up_to_turn, turned_floor as spec_turned_floor, live_after_takers};
+ghost use Rattle.revision.specs.steps.Turning.{steps_up_to_turn, turned_floor as spec_turned_floor, live_after_takers, leaves_live as spec_leaves_live, live_by_last as spec_live_by_last};
 ghost use Rattle.revision.specs.Name.{is_source_name};
 ghost use Rattle.revision.specs.Replay.{IsReplay};
 
@@ -123,7 +123,7 @@ impl Past {
         ensures live { result ≡ (prepared_content self.now).live }
         ensures content { is_content (prepared_content self.now) ≡ true }
     {
-        live_after(&self.takers.as_slice()[self.count..], self.live)
+        live_by_last(&self.takers.as_slice()[self.count..], self.live)
     }
 
     /// The lowest revision that is held.
@@ -485,6 +485,29 @@ fn live_after_step(live: bool, step: Step) -> bool
 {
     match step {
         Step::Edits => live,
+        Step::Deletes => false,
+        Step::Revives => true,
+    }
+}
+
+// whether the document is live after changes that suit it one after another: the last of them alone decides
+fn live_by_last(takers: &[Taker], live: bool) -> bool
+    ensures { result ≡ spec_live_by_last live takers.now }
+{
+    let count = takers.len();
+    if count == 0 {
+        live
+    } else {
+        leaves_live(takers[count - 1].step)
+    }
+}
+
+// whether a step that suits the document leaves it live
+fn leaves_live(step: Step) -> bool
+    ensures { result ≡ spec_leaves_live step }
+{
+    match step {
+        Step::Edits => true,
         Step::Deletes => false,
         Step::Revives => true,
     }

@@ -13,7 +13,7 @@ use optext::{member_count, read_json, read_ops};
 use refusal::Refusal;
 use std::alloc::Global;
 use utf16::{len16, split_at16};
-use xform::transform_position;
+use xform::{move_past, transform_position};
 
 /// The line that is printed for a row, whose words are set apart by tabs, or the refusal.
 pub fn answer(alloc: Global, row: &str) -> Result<String, Refusal> {
@@ -26,6 +26,7 @@ fn answer_words(alloc: Global, words: &[&str]) -> Result<String, Refusal> {
         ["compose", first, second] => Task::Compose { first, second }.answer(alloc),
         ["transform", first, second] => transform(alloc, first, second, false),
         ["transform", first, second, "first"] => transform(alloc, first, second, true),
+        ["moved", ops, others] => moved(alloc, ops, others),
         ["invert", delta, base] => Task::Invert { delta, base }.answer(alloc),
         ["apply", document, delta] => Task::Apply { document, delta }.answer(alloc),
         ["many", deltas @ ..] => many(alloc, deltas),
@@ -35,6 +36,7 @@ fn answer_words(alloc: Global, words: &[&str]) -> Result<String, Refusal> {
         ["position", ops, index] => position(alloc, ops, index, false),
         ["position", ops, index, "first"] => position(alloc, ops, index, true),
         ["document", ops] => document(alloc, ops),
+        ["weighs", ops, others] => weighs(alloc, ops, others),
         ["length", text] => length(alloc, text),
         ["split", text, index] => split(alloc, text, index),
         ["members", text] => members(alloc, text),
@@ -55,6 +57,12 @@ fn transform(alloc: Global, first: &str, second: &str, priority: bool) -> Result
         priority,
     };
     task.answer(alloc)
+}
+
+fn moved(alloc: Global, ops: &str, others: &str) -> Result<String, Refusal> {
+    let first = read(alloc, ops)?;
+    let second = read(alloc, others)?;
+    write_delta(alloc, &move_past(alloc, &first, second)?)
 }
 
 // the delta that an array of operations describes
@@ -93,6 +101,13 @@ fn lengths(alloc: Global, ops: &str) -> Result<String, Refusal> {
 fn document(alloc: Global, ops: &str) -> Result<String, Refusal> {
     let document = Document::from_delta(alloc, &read(alloc, ops)?)?;
     both(alloc, document.len16(), document.weight())
+}
+
+fn weighs(alloc: Global, ops: &str, others: &str) -> Result<String, Refusal> {
+    let document = Document::from_delta(alloc, &read(alloc, ops)?)?;
+    let delta = read(alloc, others)?;
+    let told = document.weigh(&delta)?;
+    both(alloc, told, document.after(alloc, &delta)?.weight())
 }
 
 // two numbers, set apart by a blank

@@ -8,7 +8,7 @@ use delta::Delta;
 use document::Document;
 use refusal::Refusal;
 use std::alloc::Global;
-use xform::{transform, transform_position};
+use xform::{move_past, transform, transform_position};
 
 /// What the cases of a call came to.
 #[derive(Drop)]
@@ -106,6 +106,7 @@ fn found(alloc: Global, call: &str, first: &Delta, second: &Delta) -> Result<Del
         "many" => composed_thrice(alloc, first, second),
         "transform" => transform(alloc, first, second, false),
         "transform first" => transform(alloc, first, second, true),
+        "moved" => move_past(alloc, first, second.copy(alloc)?),
         "invert" => inverted(alloc, first, second),
         _ => Err(Refusal::BadMessage),
     }
@@ -143,7 +144,7 @@ fn expected(alloc: Global, call: &str, first: &Delta, second: &Delta) -> Result<
             plain::composed(alloc, &both, &first)
         }
         "transform" => plain::transformed(alloc, &first, &second, false),
-        "transform first" => plain::transformed(alloc, &first, &second, true),
+        "transform first" | "moved" => plain::transformed(alloc, &first, &second, true),
         "invert" => plain::inverted(alloc, &second, &first),
         _ => Err(Refusal::BadMessage),
     }

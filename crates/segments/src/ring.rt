@@ -106,6 +106,8 @@ impl Ring {
         ensures takes { OnOk result ((slot : ℕ) × (number : ℕ) × IsNext (known_numbers self.old) slot number
             × (known_numbers self.new ≡ set (known_numbers self.old) slot (Some number))) }
         ensures places { SamePlaces self.old self.new }
+        // Each body that a slot can hold fits into the one that was opened.
+        ensures room { OnOk result ((len : ℕ) → len + 15 ≤ size_of self.old → fits_newest self.new len ≡ true) }
 
         // Whatever the slots held: a crash at any moment leaves that, or that with the next slot open and empty.
         ensures any_moment { (table : List (Option Segment)) → D.unsynced disk.old ≡ []
@@ -123,7 +125,13 @@ impl Ring {
         ensures only_written { HasOnlyWritten ⟦<D as Disk>⟧ disk.old disk.new }
         ensures faults { CountsFaultsAs ⟦<D as Disk>⟧ Refusal.Fault result disk.old disk.new }
     {
-        self.open_next(disk)?;
+        let Some((slot, number)) = next_slot(&self.numbers) else {
+            return Err(Refusal::JournalFull);
+        };
+        let place = self.place(slot);
+        write_gated(disk, place, &head(number))?;
+        self.numbers[slot] = Some(number);
+        self.newest = Some(Area::empty(place + HEAD_LEN, self.size - HEAD_LEN));
         Ok(())
     }
 
@@ -203,8 +211,11 @@ impl Ring {
         if let Some(area) = self.newest_with_room(len) {
             return Ok(area);
         }
-        let area = self.open_next(disk)?;
-        Ok(area)
+        self.open_slot(disk)?;
+        match self.newest_with_room(len) {
+            Some(area) => Ok(area),
+            None => unreachable!(),
+        }
     }
 
     /// Whether a body of so many bytes finds room: in the newest segment, or in a slot that is free.
@@ -291,46 +302,6 @@ impl Ring {
         disk.sync()?;
         self.numbers[slot] = None;
         Ok(())
-    }
-
-    // The area of the slot that was opened.
-    fn open_next<D: Disk>(&mut self, disk: &mut D) -> Result<Area, Refusal>
-        requires within { end_of self.old ≤ length (D.seen disk.old) }
-
-        ensures full { IsErrOf result Refusal.JournalFull ↔ IsFull (known_numbers self.old) }
-        ensures untouched { IsErrOf result Refusal.JournalFull → disk.new ≡ disk.old }
-        ensures only { IfErr result (λ e. (e ≡ Refusal.JournalFull) ⊎ (e ≡ Refusal.Fault)) }
-        ensures err { OnErr result (self.new ≡ self.old) }
-        ensures newest { IfOk result (λ area. (self.new.newest ≡ Some area)
-            × ((area.next ≡ 0) × (area.size ≡ self.old.size - 9))) }
-
-        ensures takes { OnOk result ((slot : ℕ) × (number : ℕ) × IsNext (known_numbers self.old) slot number
-            × (known_numbers self.new ≡ set (known_numbers self.old) slot (Some number))) }
-        ensures places { SamePlaces self.old self.new }
-
-        ensures any_moment { (table : List (Option Segment)) → D.unsynced disk.old ≡ []
-            → Fits (D.seen disk.old) self.old table
-            → LeavesOnly ⟦<D as Disk>⟧ (IsLeftByOpening (D.seen disk.old) self.old table) disk.old disk.new }
-        ensures done { OnOk result ((table : List (Option Segment)) → Fits (D.seen disk.old) self.old table
-            → (after : List (Option Segment)) × IsOpened table after
-            × FitsNow (D.seen disk.old) self.old (D.seen disk.new) self.new after) }
-        ensures synced { OnOk result (D.unsynced disk.new ≡ []) }
-
-        ensures calls { length (D.past disk.new) ≤ length (D.past disk.old) + 4 }
-        ensures every_call { calls_of ⟦<D as Disk>⟧ disk.new ≤ calls_of ⟦<D as Disk>⟧ disk.old + 4 }
-        ensures syncs { syncs_of ⟦<D as Disk>⟧ disk.new ≤ syncs_of ⟦<D as Disk>⟧ disk.old + 2 }
-        ensures only_written { HasOnlyWritten ⟦<D as Disk>⟧ disk.old disk.new }
-        ensures faults { CountsFaultsAs ⟦<D as Disk>⟧ Refusal.Fault result disk.old disk.new }
-    {
-        let Some((slot, number)) = next_slot(&self.numbers) else {
-            return Err(Refusal::JournalFull);
-        };
-        let place = self.place(slot);
-        write_gated(disk, place, &head(number))?;
-        let area = Area::empty(place + HEAD_LEN, self.size - HEAD_LEN);
-        self.numbers[slot] = Some(number);
-        self.newest = Some(area);
-        Ok(area)
     }
 
     // Where a slot begins.

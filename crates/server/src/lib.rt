@@ -19,6 +19,7 @@
 //! use std::rt::Files;
 //! use std::sync::Wait;
 //! use std::thread::Threads;
+//! use std::time::Clock;
 //!
 //! /// Makes a store of the default shape in a file, as `richd format FILE` does. The status is 0 where it did.
 //! pub fn format_file<
@@ -27,9 +28,10 @@
 //!         + Net<Listener = TcpListener, Stream = TcpStream>
 //!         + Threads
 //!         + Wait
+//!         + Clock
 //!         + Sync,
-//!     O: Write,
-//!     E: Write,
+//!     O: Write + Send,
+//!     E: Write + Send,
 //! >(rt: &R, path: &str, output: &mut O, errors: &mut E) -> u8
 //!     ensures { result ≤ 2 }
 //! {
@@ -41,8 +43,11 @@
 
 mod deltas;
 mod documents;
+mod ended;
 pub mod laws;
 mod program;
+mod standard;
+mod watching;
 
 pub use deltas::print_answer;
 pub use documents::dump;

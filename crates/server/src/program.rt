@@ -3,41 +3,45 @@ ghost use Rattle.std.specs.Prelude.{◌≤◌};
 
 use crate::deltas::print_answer;
 use crate::documents::dump;
+use crate::ended::{Ended, LISTENING, tell};
+use crate::standard::{NULL_DEVICE, Standard};
+use crate::watching::{Alone, Front};
 use clap::error::ErrorKind;
-use disk::{Fault, FileDisk};
+use disk::{FileDisk, Tried};
 use migration::Old;
 use recovery::{OpenFault, Pick, Shape, Store};
 use refusal::Refusal;
 use server_threads::{serve_on, serve_streams};
-use serving::Failure;
 use session::Stream;
-use std::alloc::Global;
 use std::convert::AsStr;
 use std::env::Env;
 use std::fs::{self, File};
-use std::io::{Read, Write};
+use std::io::{self, Read, Write};
 use std::net::{Net, SocketAddr, TcpListener, TcpStream};
 use std::rt::Files;
 use std::sync::Wait;
 use std::thread::Threads;
+use std::time::Clock;
 use words::{Invocation, ShapeOptions, given};
 
 /// Runs the program, and answers its status: 0 for success, 1 for a refusal or a standard stream that failed, 2 for
 /// words that it can't use. The first word is the program's path.
 ///
-/// A refusal is told on `errors` as `error 7 Exists`, a usage fault there in a text of its own; help that is asked for
-/// goes to `output`. Faults are found in the order words, file, store, address.
+/// A refusal is told on `errors` as `error 7 Exists`, and behind `error 34 Fault` on a line of its own what was tried and the system's
+/// reason; a usage fault there in a text of its own; help that is asked for goes to `output`. Faults are found in the order words,
+/// standard streams, file, store, address.
 pub fn run<
     R: Files<File = File>
         + AllocGlobal
         + Net<Listener = TcpListener, Stream = TcpStream>
         + Threads
         + Wait
+        + Clock
         + Sync,
     S: AsStr,
     I: Read,
-    O: Write,
-    E: Write,
+    O: Write + Send,
+    E: Write + Send,
 >(rt: &R, words: &[S], input: &mut I, output: &mut O, errors: &mut E) -> u8
     ensures { result ≤ 2 }
 {
@@ -45,11 +49,18 @@ pub fn run<
         Ok(invocation) => invocation,
         Err(fault) => return show_usage(&fault, output, errors),
     };
-    match invoke(rt, invocation, input, output) {
+    let standard = match Standard::complete(rt) {
+        Ok(standard) => standard,
+        Err(reason) => {
+            return tell_end(without(Tried::Opening, NULL_DEVICE, reason), errors);
+        }
+    };
+    let status = match invoke(rt, invocation, input, output, errors) {
         Ok(()) => 0,
-        Err(Failure::Refused(refusal)) => tell(refusal, errors),
-        Err(Failure::Stream) => 1,
-    }
+        Err(ended) => tell_end(ended, errors),
+    };
+    drop(standard);
+    status
 }
 
 /// Runs the program over the words that the system gives it, as `run` does. Words that aren't UTF-8 can't be used.
@@ -60,10 +71,11 @@ pub fn run_given<
         + Net<Listener = TcpListener, Stream = TcpStream>
         + Threads
         + Wait
+        + Clock
         + Sync,
     I: Read,
-    O: Write,
-    E: Write,
+    O: Write + Send,
+    E: Write + Send,
 >(rt: &R, input: &mut I, output: &mut O, errors: &mut E) -> u8
     ensures { result ≤ 2 }
 {
@@ -74,29 +86,33 @@ pub fn run_given<
 }
 
 fn invoke<
+    'a,
     R: Files<File = File>
         + AllocGlobal
         + Net<Listener = TcpListener, Stream = TcpStream>
         + Threads
         + Wait
+        + Clock
         + Sync,
     I: Read,
-    O: Write,
->(rt: &R, invocation: Invocation<'_>, input: &mut I, output: &mut O) -> Result<(), Failure> {
+    O: Write + Send,
+    E: Write + Send,
+>(
+    rt: &R,
+    invocation: Invocation<'a>,
+    input: &mut I,
+    output: &mut O,
+    errors: &mut E,
+) -> Result<(), Ended<'a>> {
     match invocation {
-        Invocation::Format { path, shape } => {
-            let shape = shape_of(shape);
-            let mut disk = disk_for(rt, path, shape)?;
-            recovery::format_device(rt.alloc(), &mut disk, shape)?;
-            Ok(())
-        }
+        Invocation::Format { path, shape } => format_file(rt, path, shape_of(shape)),
         Invocation::Serve {
             path,
             listen: Some(address),
             every,
         } => {
             let store = open(rt, path, Pick::Newer)?;
-            listen(rt, store, address, every, output)
+            listen(rt, store, path, address, every, output, errors)
         }
         Invocation::Serve {
             path,
@@ -104,39 +120,57 @@ fn invoke<
             every,
         } => {
             let store = open(rt, path, Pick::Newer)?;
-            serve_alone(rt, store, every, input, output)
+            serve_alone(rt, store, path, every, input, output, errors)
         }
         Invocation::Dump { path, older } => {
             let store = open(rt, path, pick_of(older))?;
             let mut stream = Stream::new(output);
-            dump(rt.alloc(), store.state(), &mut stream)
+            Ok(dump(rt.alloc(), store.state(), &mut stream)?)
         }
         Invocation::Migrate { old, new } => migrate(rt, old, new),
         Invocation::Delta(task) => {
             let mut stream = Stream::new(output);
-            print_answer(rt.alloc(), task, &mut stream)
+            Ok(print_answer(rt.alloc(), task, &mut stream)?)
         }
     }
 }
 
-// Brings a store over. The new file is made where it is missing, once the old store is read.
-fn migrate<R: Files<File = File> + AllocGlobal>(
+// Makes a store of this shape in a file.
+fn format_file<'a, R: Files<File = File> + AllocGlobal>(
     rt: &R,
-    old: &str,
-    new: &str,
-) -> Result<(), Failure> {
-    let mut from = FileDisk::open(rt, old)?;
+    path: &'a str,
+    shape: Shape,
+) -> Result<(), Ended<'a>> {
+    let mut disk = disk_for(rt, path, shape)?;
+    match recovery::format_device(rt.alloc(), &mut disk, shape) {
+        Ok(()) => Ok(()),
+        Err(refusal) => Err(Ended::over(path, &disk, refusal)),
+    }
+}
+
+// Brings a store over. The new file is made where it is missing, once the old store is read.
+fn migrate<'a, R: Files<File = File> + AllocGlobal>(
+    rt: &R,
+    old: &'a str,
+    new: &'a str,
+) -> Result<(), Ended<'a>> {
+    let mut from = open_file(rt, old)?;
     let mut there = None;
     if is_there(rt, new)? {
-        there = Some(FileDisk::open(rt, new)?);
+        there = Some(open_file(rt, new)?);
     }
-    let read = Old::read(rt.alloc(), &mut from)?;
+    let read = match Old::read(rt.alloc(), &mut from) {
+        Ok(read) => read,
+        Err(refusal) => return Err(Ended::over(old, &from, refusal)),
+    };
     let mut to = match there {
         Some(disk) => disk,
-        None => FileDisk::create(rt, new, read.device_len())?,
+        None => make_file(rt, new, read.device_len())?,
     };
-    read.put_on(rt.alloc(), &mut to)?;
-    Ok(())
+    match read.put_on(rt.alloc(), &mut to) {
+        Ok(()) => Ok(()),
+        Err(refusal) => Err(Ended::over(new, &to, refusal)),
+    }
 }
 
 // The numbers that the words leave out have their defaults.
@@ -152,22 +186,48 @@ fn shape_of(given: ShapeOptions) -> Shape {
 }
 
 // A file that is there is used as it is, a missing one is made.
-fn disk_for<R: Files<File = File> + AllocGlobal>(
+fn disk_for<'a, R: Files<File = File>>(
     rt: &R,
-    path: &str,
+    path: &'a str,
     shape: Shape,
-) -> Result<FileDisk, Failure> {
+) -> Result<FileDisk, Ended<'a>> {
     if is_there(rt, path)? {
-        return Ok(FileDisk::open(rt, path)?);
+        return open_file(rt, path);
     }
     if !shape.is_in_range() {
-        return Err(Failure::Refused(Refusal::BadShape));
+        return Err(Ended::Refused(Refusal::BadShape, None));
     }
-    Ok(FileDisk::create(rt, path, shape.device_len())?)
+    make_file(rt, path, shape.device_len())
 }
 
-fn is_there<R: Files<File = File> + AllocGlobal>(rt: &R, path: &str) -> Result<bool, Fault> {
-    Ok(fs::exists(rt, path)?)
+fn is_there<'a, R: Files<File = File>>(rt: &R, path: &'a str) -> Result<bool, Ended<'a>> {
+    match fs::exists(rt, path) {
+        Ok(is_there) => Ok(is_there),
+        Err(reason) => Err(without(Tried::Opening, path, reason)),
+    }
+}
+
+fn open_file<'a, R: Files<File = File>>(rt: &R, path: &'a str) -> Result<FileDisk, Ended<'a>> {
+    match FileDisk::open(rt, path) {
+        Ok(disk) => Ok(disk),
+        Err(fault) => Err(without(fault.tried, path, fault.reason)),
+    }
+}
+
+fn make_file<'a, R: Files<File = File>>(
+    rt: &R,
+    path: &'a str,
+    len: u64,
+) -> Result<FileDisk, Ended<'a>> {
+    match FileDisk::create(rt, path, len) {
+        Ok(disk) => Ok(disk),
+        Err(fault) => Err(without(fault.tried, path, fault.reason)),
+    }
+}
+
+// A file can't be had.
+fn without(tried: Tried, path: &str, reason: io::Error) -> Ended<'_> {
+    Ended::fault(tried.name(), path, reason)
 }
 
 // Which milestone of a document its reading begins with.
@@ -176,64 +236,78 @@ fn pick_of(older: bool) -> Pick {
 }
 
 // Serves one session over the streams, beside a thread that writes.
-fn serve_alone<R: AllocGlobal + Threads + Wait + Sync, I: Read, O: Write>(
+fn serve_alone<'a, R: AllocGlobal + Threads + Wait + Sync, I: Read, O: Write, E: Write + Send>(
     rt: &R,
     store: Store<FileDisk>,
+    path: &'a str,
     every: u32,
     input: &mut I,
     output: &mut O,
-) -> Result<(), Failure> {
-    serve_streams(rt, rt.alloc(), store, input, Stream::new(output), every).served
+    errors: &mut E,
+) -> Result<(), Ended<'a>> {
+    let watch = Alone::new(rt, path, errors);
+    let output = Stream::new(output);
+    let streamed = serve_streams(rt, rt.alloc(), store, input, output, every, &watch);
+    Ok(streamed.served?)
 }
 
-// Serves the store to those who connect to the address, once it has told where it listens. It ends where the listener fails. An address
-// that can't be had is a fault.
+// Serves the store to those who connect to the address, and tells where it listens once somebody can be served. It ends where the listener
+// can't work any more. An address that can't be had is a fault.
 fn listen<
-    R: AllocGlobal + Net<Listener = TcpListener, Stream = TcpStream> + Threads + Wait + Sync,
-    O: Write,
+    'a,
+    R: AllocGlobal
+        + Net<Listener = TcpListener, Stream = TcpStream>
+        + Threads
+        + Wait
+        + Clock
+        + Sync,
+    O: Write + Send,
+    E: Write + Send,
 >(
     rt: &R,
     store: Store<FileDisk>,
-    address: &str,
+    path: &'a str,
+    address: &'a str,
     every: u32,
     output: &mut O,
-) -> Result<(), Failure> {
-    let (listener, bound) = bind(rt, address)?;
-    if writeln!(output, "listening {bound}").is_err() || output.flush().is_err() {
-        return Err(Failure::Stream);
-    }
-    let (_store, served) = serve_on(rt, rt.alloc(), store, &listener, every);
-    served?;
-    // The listener has failed.
-    Err(Failure::Refused(Refusal::Fault))
+    errors: &mut E,
+) -> Result<(), Ended<'a>> {
+    let (listener, bound) = match bind(rt, address) {
+        Ok(found) => found,
+        Err(reason) => return Err(Ended::fault(LISTENING, address, reason)),
+    };
+    let watch = Front::new(rt, path, bound, output, errors);
+    let (_store, served) = serve_on(rt, rt.alloc(), store, &listener, every, &watch);
+    Err(watch.ended(address, served))
 }
 
 fn bind<R: Net<Listener = TcpListener, Stream = TcpStream>>(
     rt: &R,
     address: &str,
-) -> Result<(TcpListener, SocketAddr), Fault> {
+) -> io::Result<(TcpListener, SocketAddr)> {
     let listener = TcpListener::bind(rt, address)?;
     let bound = listener.local_addr()?;
     Ok((listener, bound))
 }
 
-fn open<R: Files<File = File> + AllocGlobal>(
+fn open<'a, R: Files<File = File> + AllocGlobal>(
     rt: &R,
-    path: &str,
+    path: &'a str,
     pick: Pick,
-) -> Result<Store<FileDisk>, Failure> {
-    let disk = FileDisk::open(rt, path)?;
+) -> Result<Store<FileDisk>, Ended<'a>> {
+    let disk = open_file(rt, path)?;
     match Store::open(rt.alloc(), disk, pick) {
         Ok(store) => Ok(store),
-        Err(OpenFault { disk: _, refusal }) => Err(Failure::Refused(refusal)),
+        Err(OpenFault { disk, refusal }) => Err(Ended::over(path, &disk, refusal)),
     }
 }
 
-fn tell<E: Write>(refusal: Refusal, errors: &mut E) -> u8
+fn tell_end<E: Write>(ended: Ended<'_>, errors: &mut E) -> u8
     ensures { result ≤ 2 }
 {
-    let _ = writeln!(errors, "{refusal}");
-    let _ = errors.flush();
+    if let Ended::Refused(refusal, cause) = ended {
+        tell(refusal, cause, errors);
+    }
     1
 }
 
@@ -241,7 +315,8 @@ fn show_usage<O: Write, E: Write>(fault: &clap::Error, output: &mut O, errors: &
     ensures { result ≤ 2 }
 {
     if fault.kind() == ErrorKind::OutOfMemory {
-        return tell(Refusal::NoMemory, errors);
+        tell(Refusal::NoMemory, None, errors);
+        return 1;
     }
     let (shown, status) = if fault.use_stderr() {
         (write_out(fault, errors), 2)

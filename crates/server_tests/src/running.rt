@@ -8,6 +8,7 @@ use std::net::{Net, TcpListener, TcpStream};
 use std::rt::Files;
 use std::sync::Wait;
 use std::thread::Threads;
+use std::time::Clock;
 
 /// Makes a store of the default shape in a file, as `richd format FILE` does. The status is 0 where it did.
 pub fn format_file<
@@ -16,9 +17,10 @@ pub fn format_file<
         + Net<Listener = TcpListener, Stream = TcpStream>
         + Threads
         + Wait
+        + Clock
         + Sync,
-    O: Write,
-    E: Write,
+    O: Write + Send,
+    E: Write + Send,
 >(rt: &R, path: &str, output: &mut O, errors: &mut E) -> u8
     ensures { result ≤ 2 }
 {

@@ -9,6 +9,7 @@ mod news;
 mod refusals;
 mod stops;
 mod streams;
+mod unwatched;
 mod usage;
 
 use server::run;
@@ -19,11 +20,18 @@ use std::process::Abort;
 use std::rt::Files;
 use std::sync::Wait;
 use std::thread::Threads;
+use std::time::Clock;
 use std::{env, process};
 
 const HELLO: &str = "{\"do\":\"hello\",\"source\":\"a\"}\n";
 
 const CREATE: &str = "{\"do\":\"create\",\"doc\":\"d\",\"n\":1,\"ops\":[{\"insert\":\"z\"}]}\n";
+
+/// The reason where another device is over a file.
+const IN_USE: &str = "another program has it open";
+
+/// The reason where no file is there, or no folder.
+const MISSING: &str = "No such file or directory (os error 2)";
 
 const GREETED: &str = "{\"ok\":\"hello\"}\n";
 
@@ -42,6 +50,7 @@ fn call<
         + Net<Listener = TcpListener, Stream = TcpStream>
         + Threads
         + Wait
+        + Clock
         + Sync
         + Abort,
     I: Read,
@@ -63,6 +72,7 @@ fn call_without_input<
         + Net<Listener = TcpListener, Stream = TcpStream>
         + Threads
         + Wait
+        + Clock
         + Sync
         + Abort,
 >(rt: &R, words: &str) -> Outcome {
@@ -77,6 +87,7 @@ fn runs<
         + Net<Listener = TcpListener, Stream = TcpStream>
         + Threads
         + Wait
+        + Clock
         + Sync
         + Abort,
     I: Read,
@@ -86,6 +97,11 @@ fn runs<
         (ended.status, ended.output.as_str(), ended.errors.as_str()),
         wanted
     );
+}
+
+/// What is told of a fault: what was tried, with which file or address, and the system's reason.
+fn fault(rt: &(impl Abort + AllocGlobal), tried: &str, what: &str, reason: &str) -> String {
+    format!(in rt.alloc(); "error 34 Fault\nrichd: {tried} {what}: {reason}\n").expect(rt, "memory")
 }
 
 /// A path of its own for a test.
@@ -102,6 +118,7 @@ fn format_sized<
         + Net<Listener = TcpListener, Stream = TcpStream>
         + Threads
         + Wait
+        + Clock
         + Sync
         + Abort,
 >(rt: &R, path: &str, size: &str, sources: &str) {
@@ -132,6 +149,7 @@ fn format_small<
         + Net<Listener = TcpListener, Stream = TcpStream>
         + Threads
         + Wait
+        + Clock
         + Sync
         + Abort,
 >(rt: &R, path: &str) {
@@ -150,6 +168,7 @@ fn is_served<
         + Net<Listener = TcpListener, Stream = TcpStream>
         + Threads
         + Wait
+        + Clock
         + Sync
         + Abort,
 >(rt: &R, words: &[&str], source: &str, lines: &str, replies: &str) {
@@ -166,6 +185,7 @@ fn is_served_small<
         + Net<Listener = TcpListener, Stream = TcpStream>
         + Threads
         + Wait
+        + Clock
         + Sync
         + Abort,
 >(rt: &R, path: &str, lines: &str, replies: &str) {
@@ -181,6 +201,7 @@ fn prints<
         + Net<Listener = TcpListener, Stream = TcpStream>
         + Threads
         + Wait
+        + Clock
         + Sync
         + Abort,
 >(rt: &R, path: &str, dump: &str) {

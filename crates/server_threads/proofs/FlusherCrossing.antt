@@ -84,16 +84,16 @@ flusher_fields D T d s l a b c =
       ),
     )
 
-pub shared_sync : (k : NamedLft) (D T R : RattleType) (s : site.Ghosts T.Denot) (l : ledger.Ghosts T.Denot) → IsSend T → IsSync T → IsSync R
-    → IsSync (shared.the_row k D T R s l)
-shared_sync k D T R s l a b c =
+pub shared_sync : (k : NamedLft) (D T R W : RattleType) (s : site.Ghosts T.Denot) (l : ledger.Ghosts T.Denot) → IsSend T → IsSync T → IsSync R → IsSync W
+    → IsSync (shared.the_row k D T R W s l)
+shared_sync k D T R W s l a b c e =
     let hub = hub_sync D T s l a b in
     search (sendable, crosses) depth 60 fits 20000
 
-pub writing_fields : (k : NamedLft) (D T R : RattleType) (d : disk.Ghosts D.Denot) (s : site.Ghosts T.Denot) (l : ledger.Ghosts T.Denot) → IsSend D → IsSend T → IsSync T → IsSync R
-    → AllSend (shape (writing.the_type k D T R d s l)).fields
-writing_fields k D T R d s l a b y c =
-    let shared = shared_sync k D T R s l b y c in (
+pub writing_fields : (k : NamedLft) (D T R W : RattleType) (d : disk.Ghosts D.Denot) (s : site.Ghosts T.Denot) (l : ledger.Ghosts T.Denot) → IsSend D → IsSend T → IsSync T → IsSync R → IsSync W
+    → AllSend (shape (writing.the_type k D T R W d s l)).fields
+writing_fields k D T R W d s l a b y c e =
+    let shared = shared_sync k D T R W s l b y c e in (
       search (sendable, crosses) depth 20 fits 20000,
       (
         search (sendable, crosses) depth 20 fits 20000,
@@ -101,11 +101,11 @@ writing_fields k D T R d s l a b y c =
       ),
     )
 
-pub writing_send : (k : NamedLft) (D T R : RattleType) (d : disk.Ghosts D.Denot) (s : site.Ghosts T.Denot) (l : ledger.Ghosts T.Denot) → IsSend D → IsSend T → IsSync T → IsSync R
-    → IsSend (writing.the_row k D T R d s l)
-writing_send k D T R d s l a b y c =
-    recorded_send (Struct (shape (writing.the_type k D T R d s l))) _ _ (writing.the_type k D T R d s l).to_one
-    (struct_send (shape (writing.the_type k D T R d s l)) (writing_fields k D T R d s l a b y c))
+pub writing_send : (k : NamedLft) (D T R W : RattleType) (d : disk.Ghosts D.Denot) (s : site.Ghosts T.Denot) (l : ledger.Ghosts T.Denot) → IsSend D → IsSend T → IsSync T → IsSync R → IsSync W
+    → IsSend (writing.the_row k D T R W d s l)
+writing_send k D T R W d s l a b y c e =
+    recorded_send (Struct (shape (writing.the_type k D T R W d s l))) _ _ (writing.the_type k D T R W d s l).to_one
+    (struct_send (shape (writing.the_type k D T R W d s l)) (writing_fields k D T R W d s l a b y c e))
 
 pub written_send : (k : NamedLft) (D T R : RattleType) (d : disk.Ghosts D.Denot) (s : site.Ghosts T.Denot) (l : ledger.Ghosts T.Denot) → IsSend D → IsSend T → IsSync T → IsSync R
     → IsSend (written.the_row k D T R d s l)

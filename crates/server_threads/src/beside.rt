@@ -4,6 +4,7 @@ ghost use Rattle.flusher.specs.Holding.{store_of};
 ghost use Rattle.server_threads.specs.Served.{IsStarted};
 ghost use Rattle.server_threads.specs.Written.{HasRun, HasWritten};
 
+use crate::watch::Watch;
 use crate::writing::{Shared, Writing};
 use crate::written::{Written, WrittenBy};
 use disk::Disk;
@@ -20,15 +21,15 @@ use std::thread::{self, Scope, Threads};
 
 // The sessions, their desks and how they are held at these, with the right to end the hub.
 #[derive(Drop)]
-struct Holding<'s, 'a, S, K, F, D, J: Site, R> {
-    shared: &'s Shared<'a, D, J, R>,
+struct Holding<'s, 'a, S, K, F, D, J: Site, R, W> {
+    shared: &'s Shared<'a, D, J, R, W>,
     closer: Closer<J>,
     sessions: S,
     desks: Vec<K>,
     hold: F,
 }
 
-impl<S: Drop, K: Drop, F: Drop, D: Drop, J: Site, R> Holding<'_, '_, S, K, F, D, J, R> {
+impl<S: Drop, K: Drop, F: Drop, D: Drop, J: Site, R, W> Holding<'_, '_, S, K, F, D, J, R, W> {
     ghost use Rattle.std.specs.Prelude.{◌≡◌};
 
     // The sessions, where they aren't held.
@@ -63,8 +64,9 @@ pub(crate) fn hold_beside<
     J: Site + Sync + Send,
     R: Threads + Wait + Sync,
     D: Disk + Send + Drop,
+    W: Watch<D>,
 >(
-    shared: &Shared<'_, D, J, R>,
+    shared: &Shared<'_, D, J, R, W>,
     held: Snapshot<Store<D>>,
     flusher: Flusher<D, J>,
     writer: Writer<J>,
@@ -123,11 +125,12 @@ fn hold_in<
     J: Site + Sync + Send,
     R: Threads + Wait + Sync,
     D: Disk + Send + Drop,
+    W: Watch<D>,
 >(
     scope: &Scope<'s, E>,
     written_by: WrittenBy<D, J>,
-    writing: Writing<'s, D, J, R>,
-    holding: Holding<'_, '_, S, K, F, D, J, R>,
+    writing: Writing<'s, D, J, R, W>,
+    holding: Holding<'_, '_, S, K, F, D, J, R, W>,
 ) -> Result<Both<A, K, D, J>, (Flusher<D, J>, S)>
     requires held { written_by.store.value ≡ store_of writing.flusher }
     requires started { IsStarted writing.flusher }
@@ -183,7 +186,8 @@ fn hold_all<
     J: Site + Sync + Send,
     R: Threads + Wait + Sync,
     D: Send + Drop,
->(holding: Holding<'_, '_, S, K, F, D, J, R>) -> (A, Vec<K>)
+    W: Sync,
+>(holding: Holding<'_, '_, S, K, F, D, J, R, W>) -> (A, Vec<K>)
     requires callable { F.pre holding.hold holding.sessions holding.desks }
     ensures held { F.post holding.entry.hold holding.entry.sessions holding.entry.desks result }
 {

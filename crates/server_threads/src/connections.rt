@@ -10,6 +10,8 @@ ghost use Rattle.server_threads.specs.Served.{IsStarted, WasServed};
 use crate::beside::{Both, hold_beside};
 use crate::desks::desks_at;
 use crate::life::{Past, Server, begin, end, tally_all};
+use crate::seated::Seated;
+use crate::watch::Watch;
 use crate::writing::Shared;
 use disk::Disk;
 use flusher::Flusher;
@@ -25,6 +27,7 @@ use std::net::{OpenListener, TcpStream};
 use std::sync::Wait;
 use std::sync::ledger::Blank;
 use std::thread::Threads;
+use std::time::Clock;
 
 /// How many sessions run at once.
 const SEATS: u32 = 64;
@@ -32,20 +35,25 @@ const SEATS: u32 = 64;
 /// The parts of the ledger that counts what each seat took: one for each seat, and one that is left.
 const PARTS: u64 = 65;
 
-/// Serves a store to those who connect, 64 at once, until the listener fails; where there are fewer places for readers than 64, as many at
-/// once as have one. Then each session ends within its next read, what was ordered is written, and the store is given back, with the refusal
-/// that kept it from serving or that ended the writing: `NoMemory`, also where the system gives no thread to write in, or what failed the
-/// board. Milestones of a document are made at multiples of `every` revisions, as composers come to it; 0 makes none.
+/// Serves a store to those who connect, 64 at once, until the listener can't work any more; where there are fewer places for readers than
+/// 64, or threads for sessions, as many at once as have one. Then each session ends within its next read, what was ordered is written, and
+/// the store is given back, with the refusal that kept it from serving or that ended the writing: `NoMemory`, also where the system gives no
+/// thread to write in or none for a session, or what failed the board. Milestones of a document are made at multiples of `every` revisions,
+/// as composers come to it; 0 makes none.
+///
+/// The watch is told when somebody can be served, why the listener ended, and of a store that fails, when it does.
 pub fn serve_on<
-    R: Threads + Wait + Sync,
+    R: Threads + Wait + Clock + Sync,
     N: OpenListener<Stream = TcpStream>,
     D: Disk + Send + Drop,
+    W: Watch<D>,
 >(
     rt: &R,
     alloc: Global,
     store: Store<D>,
     listener: &N,
     every: u32,
+    watch: &W,
 ) -> (Store<D>, Result<(), Refusal>)
     // There is one order, of which the store holds what is written, and all of it after an `Ok`. What the desks answered is kept. No clause
     // says who asked them.
@@ -57,15 +65,16 @@ pub fn serve_on<
         return (store, Err(Refusal::NoMemory));
     };
     let blank = Blank::new(PARTS);
-    serve_run::<Brand, R, N, D>(rt, alloc, store, opened, blank, listener, every)
+    serve_run::<Brand, R, N, D, W>(rt, alloc, store, opened, blank, listener, every, watch)
 }
 
 // Serves the run that its ledger, its logs and its store's state name.
 fn serve_run<
     J: Site + Sync + Send,
-    R: Threads + Wait + Sync,
+    R: Threads + Wait + Clock + Sync,
     N: OpenListener<Stream = TcpStream>,
     D: Disk + Send + Drop,
+    W: Watch<D>,
 >(
     rt: &R,
     alloc: Global,
@@ -74,6 +83,7 @@ fn serve_run<
     blank: Blank,
     listener: &N,
     every: u32,
+    watch: &W,
 ) -> (Store<D>, Result<(), Refusal>)
     requires book { opened ≡ J.book }
     requires name { blank.name ≡ J.name }
@@ -84,7 +94,7 @@ fn serve_run<
     ensures fails { has_failed store ≡ false → (has_failed result.0 ≡ true ↔ IsErrOf result.1 Refusal.Fault) }
 {
     match begin::<J, R, D>(rt, alloc, store, opened, blank, SEATS) {
-        Ok((hub, server)) => serve_from(rt, alloc, hub, server, listener, every),
+        Ok((hub, server)) => serve_from(rt, alloc, hub, server, listener, every, watch),
         Err((store, refusal)) => (store, Err(refusal)),
     }
 }
@@ -92,9 +102,10 @@ fn serve_run<
 // Serves from a server's beginning to its end.
 fn serve_from<
     J: Site + Sync + Send,
-    R: Threads + Wait + Sync,
+    R: Threads + Wait + Clock + Sync,
     N: OpenListener<Stream = TcpStream>,
     D: Disk + Send + Drop,
+    W: Watch<D>,
 >(
     rt: &R,
     alloc: Global,
@@ -102,6 +113,7 @@ fn serve_from<
     server: Server<D, J>,
     listener: &N,
     every: u32,
+    watch: &W,
 ) -> (Store<D>, Result<(), Refusal>)
     requires store { server.held.value ≡ store_of server.flusher }
     requires started { IsStarted server.flusher }
@@ -111,7 +123,7 @@ fn serve_from<
     ensures served { WasServed (EachHasServed J.start) (is_ok result.1) (store_of server.flusher) result.0 }
     ensures fails { has_failed (store_of server.flusher) ≡ false → (has_failed result.0 ≡ true ↔ IsErrOf result.1 Refusal.Fault) }
 {
-    match hold_at(rt, alloc, &hub, server, listener, every) {
+    match hold_at(rt, alloc, &hub, server, listener, every, watch) {
         Ok((past, served)) => {
             let (store, written) = end(rt, hub, past);
             (store, first_failure(written, served))
@@ -124,9 +136,10 @@ fn serve_from<
 // thread; the flusher is unchanged then.
 fn hold_at<
     J: Site + Sync + Send,
-    R: Threads + Wait + Sync,
+    R: Threads + Wait + Clock + Sync,
     N: OpenListener<Stream = TcpStream>,
     D: Disk + Send + Drop,
+    W: Watch<D>,
 >(
     rt: &R,
     alloc: Global,
@@ -134,6 +147,7 @@ fn hold_at<
     server: Server<D, J>,
     listener: &N,
     every: u32,
+    watch: &W,
 ) -> Result<(Past<D, J>, Result<(), Refusal>), Flusher<D, J>>
     requires store { server.held.value ≡ store_of server.flusher }
     requires started { IsStarted server.flusher }
@@ -162,6 +176,7 @@ fn hold_at<
         alloc,
         hub,
         every,
+        watch,
     };
     flusher.kept();
     match hold_beside(
@@ -177,7 +192,7 @@ fn hold_at<
             ensures served { EachHasServed J.start result.1.items }
             ensures only { IsOkUnless result.0 Refusal.NoMemory }
             ensures as_many { length result.1.items ≡ length desks.entry.items }
-        { serve_all(rt, alloc, desks, listener) },
+        { serve_all(rt, alloc, desks, listener, watch) },
     ) {
         Ok(
             Both {
@@ -203,26 +218,29 @@ fn first_failure(written: Result<(), Refusal>, served: Result<(), Refusal>) -> R
     served
 }
 
-// Takes connections until the listener fails, and gives the desks back once each session has ended.
+// Takes connections until the listener ends, and gives the desks back once each session has ended. Refused where none got a thread.
 fn serve_all<
     'a,
     J: Site + Sync + Send,
-    R: Threads + Wait + Sync,
+    R: Threads + Wait + Clock + Sync,
     N: OpenListener<Stream = TcpStream>,
     D: Send + Drop,
+    W: Watch<D>,
 >(
     rt: &R,
     alloc: Global,
     desks: Vec<HubDesk<'a, D, J, R>>,
     listener: &N,
+    watch: &W,
 ) -> (Result<(), Refusal>, Vec<HubDesk<'a, D, J, R>>)
     requires first { All (λ desk. desk ≡ first_desk) desks.items }
     ensures served { EachHasServed J.start result.1.items }
     ensures only { IsOkUnless result.0 Refusal.NoMemory }
     ensures as_many { length result.1.items ≡ length desks.entry.items }
 {
-    match serve_desks(rt, alloc, desks, listener) {
-        Ok(desks) => (Ok(()), desks),
+    let seated: Seated<'_, D, W> = Seated::new(watch, SEATS as usize);
+    match serve_desks(rt, alloc, desks, listener, &seated) {
+        Ok(desks) => (seated.served(), desks),
         Err(failed) => (Err(Refusal::NoMemory), failed.value),
     }
 }

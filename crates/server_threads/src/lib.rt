@@ -16,9 +16,9 @@
 //! nobody is, and the store comes back unchanged.
 //!
 //! `serve_on` holds sessions over the connections of a listener, by `serve_desks` of `sockets`, and `serve_streams` one over a pair of streams,
-//! by `serve_session` of `serving`. Of streams `specs/Streams.antt` says what was written. Of sockets nothing can be said: so the desks of
-//! `serve_on` are some desks; that they are those of its sessions is in `serve_all` and `hold_at`, and no clause says it, nor which bytes went
-//! through which of them.
+//! by `serve_session` of `serving`. A `Watch` is told when somebody can be served, and of a store that fails, when it does. Of streams
+//! `specs/Streams.antt` says what was written. Of sockets nothing can be said: so the desks of `serve_on` are some desks; that they are those
+//! of its sessions is in `serve_all` and `hold_at`, and no clause says it, nor which bytes went through which of them.
 //!
 //! Callers, which `server_threads_tests` proves:
 //!
@@ -32,24 +32,26 @@
 //! use disk::Disk;
 //! use recovery::Store;
 //! use refusal::Refusal;
-//! use server_threads::{Streamed, serve_on, serve_streams};
+//! use server_threads::{Streamed, Watch, serve_on, serve_streams};
 //! use session::Output;
 //! use std::alloc::Global;
 //! use std::io::Read;
 //! use std::net::{OpenListener, TcpStream};
 //! use std::sync::Wait;
 //! use std::thread::Threads;
+//! use std::time::Clock;
 //!
 //! /// Serves a store until the listener fails, with milestones at about every 256 revisions, and gives it back where all that was
 //! /// ordered is written.
 //! pub fn serve_store<
-//!     R: Threads + Wait + Sync,
+//!     R: Threads + Wait + Clock + Sync,
 //!     N: OpenListener<Stream = TcpStream> + Sync,
 //!     D: Disk + Send + Drop,
-//! >(rt: &R, alloc: Global, store: Store<D>, listener: &N) -> Result<Store<D>, Refusal>
+//!     W: Watch<D>,
+//! >(rt: &R, alloc: Global, store: Store<D>, listener: &N, watch: &W) -> Result<Store<D>, Refusal>
 //!     ensures { IfOk result (λ after. WasServed (EachHasServed (state_of store)) true store after) }
 //! {
-//!     let (after, served) = serve_on(rt, alloc, store, listener, 256);
+//!     let (after, served) = serve_on(rt, alloc, store, listener, 256, watch);
 //!     served?;
 //!     Ok(after)
 //! }
@@ -60,12 +62,20 @@
 //!     I: Read + Drop,
 //!     O: Output + Drop,
 //!     D: Disk + Send + Drop,
-//! >(rt: &R, alloc: Global, store: Store<D>, input: I, output: O) -> Streamed<I, O, D>
+//!     W: Watch<D>,
+//! >(
+//!     rt: &R,
+//!     alloc: Global,
+//!     store: Store<D>,
+//!     input: I,
+//!     output: O,
+//!     watch: &W,
+//! ) -> Streamed<I, O, D>
 //!     ensures { WasServed (ByOne (EndsAtHub result.served (state_of store)
 //!         (I.remaining input) (I.remaining result.input) (O.contents output) (O.contents result.output)
 //!         (O.has_failed result.output))) (is_ok result.served) store result.store }
 //! {
-//!     serve_streams(rt, alloc, store, input, output, 256)
+//!     serve_streams(rt, alloc, store, input, output, 256, watch)
 //! }
 //! ```
 #![tactic(auto)]
@@ -74,9 +84,12 @@ mod beside;
 mod connections;
 mod desks;
 mod life;
+mod seated;
 mod streams;
+mod watch;
 mod writing;
 mod written;
 
 pub use connections::serve_on;
 pub use streams::{Streamed, serve_streams};
+pub use watch::Watch;

@@ -11,6 +11,7 @@ ghost use Rattle.server_threads.specs.Streams.{ByOne, EndsAtHub, first_of};
 use crate::beside::{Both, hold_beside};
 use crate::desks::desks_at;
 use crate::life::{Past, Server, begin, end, tally_all};
+use crate::watch::Watch;
 use crate::writing::Shared;
 use disk::Disk;
 use flusher::Flusher;
@@ -45,13 +46,22 @@ pub struct Streamed<I, O, D: Disk> {
 /// Milestones of a document are made at multiples of `every` revisions, as composers come to it; 0 makes none.
 ///
 /// It ends at once where a stream fails (`Stream`), else with `StoreFailed` where the store has failed by then; and with `NoMemory` before
-/// it takes any of the input, also where the system gives no thread to write in.
+/// it takes any of the input, also where the system gives no thread to write in. The watch is told of a store that fails, when it does.
 pub fn serve_streams<
     R: Threads + Wait + Sync,
     I: Read + Drop,
     O: Output + Drop,
     D: Disk + Send + Drop,
->(rt: &R, alloc: Global, store: Store<D>, input: I, output: O, every: u32) -> Streamed<I, O, D>
+    W: Watch<D>,
+>(
+    rt: &R,
+    alloc: Global,
+    store: Store<D>,
+    input: I,
+    output: O,
+    every: u32,
+    watch: &W,
+) -> Streamed<I, O, D>
     // What is written to the output is the replies to the input, by the answers of one desk, and the news after each line; what that desk
     // answered is kept, and the order is as long as what its seat counted. After an `Ok` the store holds all of the order.
     ensures served { WasServed (ByOne (EndsAtHub result.served (state_of store)
@@ -71,7 +81,7 @@ pub fn serve_streams<
         };
     };
     let blank = Blank::new(PARTS);
-    serve_run::<Brand, R, I, O, D>(rt, alloc, store, opened, blank, input, output, every)
+    serve_run::<Brand, R, I, O, D, W>(rt, alloc, store, opened, blank, input, output, every, watch)
 }
 
 // Serves the run that its ledger, its logs and its store's state name.
@@ -81,6 +91,7 @@ fn serve_run<
     I: Read + Drop,
     O: Output + Drop,
     D: Disk + Send + Drop,
+    W: Watch<D>,
 >(
     rt: &R,
     alloc: Global,
@@ -90,6 +101,7 @@ fn serve_run<
     input: I,
     output: O,
     every: u32,
+    watch: &W,
 ) -> Streamed<I, O, D>
     requires book { opened ≡ J.book }
     requires name { blank.name ≡ J.name }
@@ -105,7 +117,7 @@ fn serve_run<
 {
     let streams = OverStreams { input, output };
     match begin::<J, R, D>(rt, alloc, store, opened, blank, 1) {
-        Ok((hub, server)) => serve_from(rt, alloc, hub, server, streams, every),
+        Ok((hub, server)) => serve_from(rt, alloc, hub, server, streams, every, watch),
         Err((store, refusal)) => streams.back(store, Err(Failure::Refused(refusal))),
     }
 }
@@ -117,6 +129,7 @@ fn serve_from<
     I: Read + Drop,
     O: Output + Drop,
     D: Disk + Send + Drop,
+    W: Watch<D>,
 >(
     rt: &R,
     alloc: Global,
@@ -124,6 +137,7 @@ fn serve_from<
     server: Server<D, J>,
     streams: OverStreams<I, O>,
     every: u32,
+    watch: &W,
 ) -> Streamed<I, O, D>
     requires store { server.held.value ≡ store_of server.flusher }
     requires started { IsStarted server.flusher }
@@ -138,7 +152,7 @@ fn serve_from<
         × (result.input ≡ streams.input) × (result.output ≡ streams.output) }
     ensures works { OnOk result.served (has_failed (store_of server.flusher) ≡ false → has_failed result.store ≡ false) }
 {
-    match hold_at(rt, alloc, &hub, server, streams, every) {
+    match hold_at(rt, alloc, &hub, server, streams, every, watch) {
         Ok((past, streams, answer)) => {
             let (store, written) = end(rt, hub, past);
             streams.back(store, first_failure(answer, written))
@@ -158,6 +172,7 @@ fn hold_at<
     I: Read + Drop,
     O: Output + Drop,
     D: Disk + Send + Drop,
+    W: Watch<D>,
 >(
     rt: &R,
     alloc: Global,
@@ -165,6 +180,7 @@ fn hold_at<
     server: Server<D, J>,
     streams: OverStreams<I, O>,
     every: u32,
+    watch: &W,
 ) -> Result<
     (Past<D, J>, OverStreams<I, O>, Result<(), Failure>),
     (Flusher<D, J>, OverStreams<I, O>),
@@ -205,6 +221,7 @@ fn hold_at<
         alloc,
         hub,
         every,
+        watch,
     };
     flusher.kept();
     match hold_beside(

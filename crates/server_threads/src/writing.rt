@@ -5,6 +5,7 @@ ghost use Rattle.flusher.specs.Holding.{store_of, committed_of, waiting_of};
 ghost use Rattle.turns.specs.Writing.{Writes};
 ghost use Rattle.server_threads.specs.Written.{HasWritten};
 
+use crate::watch::Watch;
 use crate::written::Written;
 use disk::Disk;
 use flusher::{Flusher, OpenGate};
@@ -19,23 +20,24 @@ use turns::{Composers, OpenHalves, channels, compose_workers, flush_all};
 
 /// What the thread that writes and those of the sessions share.
 #[derive(Drop)]
-pub(crate) struct Shared<'a, D, J: Site, R> {
+pub(crate) struct Shared<'a, D, J: Site, R, W> {
     pub(crate) rt: &'a R,
     pub(crate) alloc: Global,
     pub(crate) hub: &'a Hub<D, J>,
     pub(crate) every: u32,
+    pub(crate) watch: &'a W,
 }
 
 /// What the thread that writes has, from its beginning on.
-pub(crate) struct Writing<'a, D: Disk + Drop, J: Site, R: Wait> {
-    pub(crate) shared: &'a Shared<'a, D, J, R>,
+pub(crate) struct Writing<'a, D: Disk + Drop, J: Site, R: Wait, W> {
+    pub(crate) shared: &'a Shared<'a, D, J, R, W>,
     /// Whether there is a thread for it.
     pub(crate) has_thread: &'a AtomicBool,
     pub(crate) flusher: Flusher<D, J>,
     pub(crate) writer: Writer<J>,
 }
 
-impl<D: Disk + Drop, J: Site, R: Wait> Drop for Writing<'_, D, J, R> {
+impl<D: Disk + Drop, J: Site, R: Wait, W> Drop for Writing<'_, D, J, R, W> {
     fn drop(self) {
         let Writing {
             shared,
@@ -47,7 +49,7 @@ impl<D: Disk + Drop, J: Site, R: Wait> Drop for Writing<'_, D, J, R> {
     }
 }
 
-impl<'a, D: Disk + Drop, J: Site, R: Threads + Wait + Sync> Writing<'a, D, J, R> {
+impl<'a, D: Disk + Drop, J: Site, R: Threads + Wait + Sync, W: Watch<D>> Writing<'a, D, J, R, W> {
     ghost use Rattle.server_threads.specs.Served.{IsStarted};
     ghost use Rattle.server_threads.specs.Written.{HasRun};
 
@@ -101,8 +103,8 @@ impl<'a, D: Disk + Drop, J: Site, R: Threads + Wait + Sync> Writing<'a, D, J, R>
 
 // Makes turns until the hub is ended, beside composers in a thread of their own. Where there is no memory for the channels to them, or no
 // such thread, it makes the turns without them.
-fn write_beside<'a, D: Disk + Drop, J: Site, R: Threads + Wait + Sync>(
-    writing: Writing<'a, D, J, R>,
+fn write_beside<'a, D: Disk + Drop, J: Site, R: Threads + Wait + Sync, W: Watch<D>>(
+    writing: Writing<'a, D, J, R, W>,
 ) -> Written<'a, D, J, R>
     ensures written { HasWritten J.start writing.entry.flusher result.flusher result.answer }
     ensures begun { result.is_begun ≡ true }
@@ -125,9 +127,9 @@ fn write_beside<'a, D: Disk + Drop, J: Site, R: Threads + Wait + Sync>(
     }
 }
 
-// Makes turns until the hub is ended.
-fn write_all<J: Site, R: Wait, D: Disk>(
-    shared: &Shared<'_, D, J, R>,
+// Makes turns until the hub is ended. Where the store fails the watch is told.
+fn write_all<J: Site, R: Wait, D: Disk, W: Watch<D>>(
+    shared: &Shared<'_, D, J, R, W>,
     flusher: &mut Flusher<D, J>,
     writer: &mut Writer<J>,
     composers: Option<Composers>,
@@ -148,6 +150,10 @@ fn write_all<J: Site, R: Wait, D: Disk>(
         &mut OpenGate,
     ) {
         Ok(_idle) => Ok(()),
-        Err(failed) => Err(failed.refusal()),
+        Err(failed) => {
+            let refusal = failed.refusal();
+            shared.watch.store_failed(refusal, flusher.device());
+            Err(refusal)
+        }
     }
 }

@@ -13,14 +13,15 @@ use published::Site;
 use recovery::Store;
 use refusal::Refusal;
 use revision::Command;
-use server_threads::{Streamed, serve_on, serve_streams};
+use server_threads::{Streamed, Watch, serve_on, serve_streams};
 use session::{Desk, Output, Reply};
-use sockets::serve_desks;
+use sockets::{ListenerWatch, serve_desks};
 use std::alloc::{AllocError, Global};
 use std::io::Read;
 use std::net::{OpenListener, TcpStream};
 use std::sync::Wait;
 use std::thread::Threads;
+use std::time::Clock;
 
 /// Answers a command at a hub once it is settled: what the desk shows from then on has it.
 pub fn answer<D, J: Site, R: Wait>(
@@ -37,26 +38,28 @@ pub fn answer<D, J: Site, R: Wait>(
 /// Serves one connection after another by a single desk, until the listener fails. What it exchanged is what conversations ask.
 pub fn serve_in_turn<
     K: Desk + Send + Drop,
-    R: Threads + Wait + Sync,
+    R: Threads + Wait + Clock + Sync,
     N: OpenListener<Stream = TcpStream>,
->(rt: &R, alloc: Global, desk: K, listener: &N) -> Result<Vec<K>, AllocError>
+    W: ListenerWatch,
+>(rt: &R, alloc: Global, desk: K, listener: &N, watch: &W) -> Result<Vec<K>, AllocError>
     ensures { IfOk result (λ after. HaveServed K.does (desk ∷ []) after.items) }
 {
     let mut desks = Vec::new(alloc);
     desks.push(desk)?;
-    Ok(serve_desks(rt, alloc, desks, listener)?)
+    Ok(serve_desks(rt, alloc, desks, listener, watch)?)
 }
 
 /// Serves a store until the listener fails, with milestones at about every 256 revisions, and gives it back where all that was
 /// ordered is written.
 pub fn serve_store<
-    R: Threads + Wait + Sync,
+    R: Threads + Wait + Clock + Sync,
     N: OpenListener<Stream = TcpStream> + Sync,
     D: Disk + Send + Drop,
->(rt: &R, alloc: Global, store: Store<D>, listener: &N) -> Result<Store<D>, Refusal>
+    W: Watch<D>,
+>(rt: &R, alloc: Global, store: Store<D>, listener: &N, watch: &W) -> Result<Store<D>, Refusal>
     ensures { IfOk result (λ after. WasServed (EachHasServed (state_of store)) true store after) }
 {
-    let (after, served) = serve_on(rt, alloc, store, listener, 256);
+    let (after, served) = serve_on(rt, alloc, store, listener, 256, watch);
     served?;
     Ok(after)
 }
@@ -67,10 +70,11 @@ pub fn serve_session<
     I: Read + Drop,
     O: Output + Drop,
     D: Disk + Send + Drop,
->(rt: &R, alloc: Global, store: Store<D>, input: I, output: O) -> Streamed<I, O, D>
+    W: Watch<D>,
+>(rt: &R, alloc: Global, store: Store<D>, input: I, output: O, watch: &W) -> Streamed<I, O, D>
     ensures { WasServed (ByOne (EndsAtHub result.served (state_of store)
         (I.remaining input) (I.remaining result.input) (O.contents output) (O.contents result.output)
         (O.has_failed result.output))) (is_ok result.served) store result.store }
 {
-    serve_streams(rt, alloc, store, input, output, 256)
+    serve_streams(rt, alloc, store, input, output, 256, watch)
 }

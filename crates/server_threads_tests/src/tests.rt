@@ -1,9 +1,11 @@
 mod apart;
 mod edits;
 mod faults;
+mod listening;
 mod many;
 mod places;
 mod streams;
+mod watched;
 
 use disk::{Disk, MemDisk};
 use recovery::{Pick, Shape, Store, format_device};
@@ -13,9 +15,10 @@ use std::io::{self, ErrorKind, Read, Write};
 use std::net::{Net, OpenListener, SocketAddr, TcpListener, TcpStream};
 use std::process::Abort;
 use std::sync::Wait;
-use std::sync::atomic::{AtomicBool, Ordering};
+use std::sync::atomic::{AtomicBool, AtomicUsize, Ordering};
 use std::thread::{self, Threads};
 use std::time::{Clock, Duration};
+use watched::Seen;
 
 /// How often something is tried, a millisecond apart.
 const TRIES: u32 = 100_000;
@@ -40,18 +43,28 @@ const EVERY: u32 = 2;
 
 const FETCH: &str = "{\"do\":\"fetch\",\"doc\":\"d\"}";
 
-/// A listener that fails once it is told that the test is over.
+/// The number of the error of a listener that isn't open.
+const EBADF: i32 = 9;
+
+/// A listener that first fails with each of these numbers, and with the last one once it is told that the test is over.
 #[derive(Drop)]
 struct Until<'a, R: Clock> {
     rt: &'a R,
     listener: &'a TcpListener,
+    passing: &'a [i32],
+    asked: AtomicUsize,
     over: &'a AtomicBool,
+    last: i32,
 }
 
 impl<'a, R: Clock> OpenListener for Until<'a, R> {
     type Stream = TcpStream;
 
     fn accept(&self) -> io::Result<(TcpStream, SocketAddr)> {
+        let asked = self.asked.fetch_add(1, Ordering::SeqCst);
+        if let Some(number) = self.passing.get(asked) {
+            return Err(io::Error::from_raw_os_error(*number));
+        }
         for _ in 0..TRIES {
             match self.listener.accept() {
                 Ok(accepted) => return Ok(accepted),
@@ -59,11 +72,11 @@ impl<'a, R: Clock> OpenListener for Until<'a, R> {
                 Err(error) => return Err(error),
             }
             if self.over.load(Ordering::SeqCst) {
-                return Err(io::Error::from(ErrorKind::Other));
+                return Err(io::Error::from_raw_os_error(self.last));
             }
             thread::sleep(self.rt, Duration::from_millis(1));
         }
-        Err(io::Error::from(ErrorKind::TimedOut))
+        Err(io::Error::from_raw_os_error(self.last))
     }
 }
 
@@ -98,6 +111,31 @@ fn served<
 >(rt: &R, store: Store<D>, every: u32, clients: F) -> (Store<D>, Result<(), Refusal>)
     requires { F.IsAlwaysCallable clients }
 {
+    served_behind(rt, store, every, &[], EBADF, clients)
+}
+
+/// The same behind a listener that first fails with each of these numbers, and in the end with the last one. The watch is told of the
+/// sessions once and of that end, and of the store once where it failed.
+fn served_behind<
+    R: Threads
+        + Wait
+        + Abort
+        + Clock
+        + AllocGlobal
+        + Net<Listener = TcpListener, Stream = TcpStream>
+        + Sync,
+    D: Disk + Send + Drop,
+    F: FnOnce(SocketAddr) + Send,
+>(
+    rt: &R,
+    store: Store<D>,
+    every: u32,
+    passing: &[i32],
+    last: i32,
+    clients: F,
+) -> (Store<D>, Result<(), Refusal>)
+    requires { F.IsAlwaysCallable clients }
+{
     let listener = TcpListener::bind(rt, "127.0.0.1:0").expect(rt, "a listener");
     listener
         .set_nonblocking(true)
@@ -107,16 +145,23 @@ fn served<
     let until = Until {
         rt,
         listener: &listener,
+        passing,
+        asked: AtomicUsize::new(0),
         over: &over,
+        last,
     };
+    let seen = Seen::new();
     let (_, ended) = thread::join(
         rt,
         || {
             clients(address);
             over.store(true, Ordering::SeqCst);
         },
-        || serve_on(rt, rt.alloc(), store, &until, every),
+        || serve_on(rt, rt.alloc(), store, &until, every, &seen),
     );
+    assert_eq!(rt; seen.begins(), 1);
+    assert_eq!(rt; seen.ended_by(), last);
+    assert_eq!(rt; seen.failures(), if ended.1.is_err() { 1 } else { 0 });
     ended
 }
 

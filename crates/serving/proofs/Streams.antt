@@ -4,9 +4,9 @@ use Rattle.std.proofs.lemmas.Bool.{false≢true}
 use Rattle.std.specs.Prelude.{◌==◌}
 use Rattle.std.specs.Io.KnownBytes.{Appends, Consumes, Keeps}
 use Rattle.session.specs.Session.{Session}
-use Rattle.session.specs.Exchange.{Exchange, Shown}
+use Rattle.session.specs.Exchange.{Exchange}
 use Rattle.session.specs.Line.{HasNoEnd}
-use Rattle.session.specs.Replies.{Asks, Feeds, Stops}
+use Rattle.session.specs.Replies.{Feeds, Stops}
 use Rattle.session.specs.Calls.{Call, Fed, OfPiece, TellsNews, StopsNews}
 use Rattle.serving.specs.Serving.{AreServedBy, no_bytes, within_line, line_end, ServesBytes, Serves, StopsAt, AtOnce, InReplies, InNews, StopsBytes, StopsServing, IsFedAtOnce, BeginsWithEnd}
 use Rattle.session.proofs.CallerLemmas.{asks-joined, appends-both, calls-joined, calls-one}

@@ -3,7 +3,6 @@ ghost use Rattle.std.specs.Prelude.{◌≡◌};
 ghost use Rattle.serving.specs.declared.failure.Failure.TheVariants.{Refused, Stream};
 ghost use Rattle.refusal.specs.declared.Refusal.TheVariants as refusal;
 
-use disk::Fault;
 use refusal::Refusal;
 use session::WriteFailed;
 use std::alloc::AllocError;
@@ -30,14 +29,6 @@ impl From<AllocError> for Failure {
 
     fn from(_error: AllocError) -> Failure {
         Failure::Refused(Refusal::NoMemory)
-    }
-}
-
-impl From<Fault> for Failure {
-    ghost from_gives = { λ _ failure. failure ≡ Refused refusal.Fault };
-
-    fn from(_fault: Fault) -> Failure {
-        Failure::Refused(Refusal::Fault)
     }
 }
 

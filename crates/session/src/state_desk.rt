@@ -41,14 +41,6 @@ impl StateDesk {
         StateDesk { state }
     }
 
-    /// Gives the state back.
-    pub fn into_state(self) -> State
-        ensures { result ≡ self }
-    {
-        let StateDesk { state } = self;
-        state
-    }
-
     /// Feeds a piece of the input to a session over this desk: where memory is found, the replies to its lines are written, each
     /// over what the lines before it did, and nothing else. A write that fails ends the session.
     pub fn feed<O: Output>(

@@ -1,21 +1,54 @@
 //! The loop that takes connections.
 use crate::hall::Hall;
-use std::io::ErrorKind;
+use crate::watch::ListenerWatch;
 use std::net::{OpenListener, TcpStream};
 use std::sync::Wait;
+use std::time::{Clock, Duration};
+use std::{io, thread};
 
-/// Takes connections until the listener fails. One that its peer has given up by then is passed over, and so is a call that a signal
-/// cut short.
-pub fn accept_all<R: Wait, N: OpenListener<Stream = TcpStream>>(rt: &R, hall: &Hall, listener: &N) {
+/// How long an error that may pass is waited out, in milliseconds.
+const ERROR_WAIT: u64 = 100;
+
+/// The listener isn't open.
+const EBADF: i32 = 9;
+
+/// The call has no place for the peer's address.
+const EFAULT: i32 = 14;
+
+/// The listener doesn't listen.
+const EINVAL: i32 = 22;
+
+/// The listener is no socket.
+const ENOTSOCK: i32 = 88;
+
+/// Takes connections until the listener can't work any more, where there are threads that serve them and the watch asks for it. Each other
+/// error of the listener concerns one connection or may pass: it is waited out, and the next connection is taken then.
+pub fn accept_all<R: Wait + Clock, N: OpenListener<Stream = TcpStream>, W: ListenerWatch>(
+    rt: &R,
+    hall: &Hall,
+    listener: &N,
+    watch: &W,
+) {
+    let threads = hall.free(rt);
+    if !watch.begun(threads) || threads == 0 {
+        return;
+    }
     for stream in listener.incoming() {
         match stream {
             Ok(stream) => hall.offer(rt, stream),
-            Err(error) if may_go_on(error.kind()) => {}
-            Err(_) => return,
+            Err(reason) if ends_listener(reason) => {
+                watch.failed(reason);
+                return;
+            }
+            Err(_) => thread::sleep(rt, Duration::from_millis(ERROR_WAIT)),
         }
     }
 }
 
-fn may_go_on(kind: ErrorKind) -> bool {
-    kind == ErrorKind::ConnectionAborted || kind == ErrorKind::Interrupted
+// Whether no later call can succeed.
+fn ends_listener(reason: io::Error) -> bool {
+    matches!(
+        reason.raw_os_error(),
+        Some(EBADF | EFAULT | EINVAL | ENOTSOCK)
+    )
 }

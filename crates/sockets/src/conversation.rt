@@ -23,7 +23,8 @@ pub fn converse<K: Desk, I: Read, O: Output>(
     input: &mut I,
     output: &mut O,
 ) -> Result<(), SessionEnded>
-    // What was written is the replies to what was read, in order, and the news after each piece of it and each wait for one.
+    // What was written is the replies to what was read, in order, and the news after each piece of it. Whether they are told after a wait
+    // in which nothing came, no clause says.
     ensures answered { OnOk result (IsConversation K.does desk.old desk.new
         (I.remaining input.old) (I.remaining input.new) (O.contents output.old) (O.contents output.new)) }
     // A write that fails ends it. What was due before was written, and a prefix of what that write was to write.

@@ -70,6 +70,11 @@ impl Hall {
         self.places.lock(rt).free_one();
     }
 
+    /// How many threads are free to serve a connection.
+    pub fn free(&self, rt: &impl Wait) -> usize {
+        self.places.lock(rt).free
+    }
+
     /// Hands a connection to a thread that is free, or closes it where none is.
     pub fn offer(&self, rt: &impl Wait, stream: TcpStream) {
         self.places.lock(rt).offer(stream);

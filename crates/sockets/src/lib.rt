@@ -4,8 +4,9 @@
 //! session of its own: what comes in one read is given to `Session::feed`, the news are told after each read and after each 100
 //! milliseconds in which nothing came, and all that was written then leaves at once. A peer that takes no byte of what is written to it
 //! holds up its own desk alone, and is closed: a write that took no byte in 5 seconds fails. One that took some is followed by another
-//! one, and the system takes a little more where it seemed full, so that this comes about after 5 to 15 seconds. When the listener fails
-//! each session ends within its next read.
+//! one, and the system takes a little more where it seemed full, so that this comes about after 5 to 15 seconds. An error of the listener
+//! is waited out, but for those by which it can't work any more (`accepting.rt`): then each session ends within its next read. A
+//! `ListenerWatch` is told how many desks got a thread, before anybody is taken, and why the listener ended.
 //!
 //! A caller, with its contract, which is proved as it stands:
 //!
@@ -14,37 +15,40 @@
 //! ghost use Rattle.sockets.specs.Desks.{HaveServed};
 //!
 //! use session::Desk;
-//! use sockets::serve_desks;
+//! use sockets::{ListenerWatch, serve_desks};
 //! use std::alloc::{AllocError, Global};
 //! use std::net::{OpenListener, TcpStream};
 //! use std::sync::Wait;
 //! use std::thread::Threads;
+//! use std::time::Clock;
 //!
 //! /// Serves one connection after another by a single desk, until the listener fails. What it exchanged is what conversations ask.
 //! pub fn serve_in_turn<
 //!     K: Desk + Send + Drop,
-//!     R: Threads + Wait + Sync,
+//!     R: Threads + Wait + Clock + Sync,
 //!     N: OpenListener<Stream = TcpStream>,
-//! >(rt: &R, alloc: Global, desk: K, listener: &N) -> Result<Vec<K>, AllocError>
+//!     W: ListenerWatch,
+//! >(rt: &R, alloc: Global, desk: K, listener: &N, watch: &W) -> Result<Vec<K>, AllocError>
 //!     ensures { IfOk result (λ after. HaveServed K.does (desk ∷ []) after.items) }
 //! {
 //!     let mut desks = Vec::new(alloc);
 //!     desks.push(desk)?;
-//!     Ok(serve_desks(rt, alloc, desks, listener)?)
+//!     Ok(serve_desks(rt, alloc, desks, listener, watch)?)
 //! }
 //! ```
 //!
 //! # What is proved
 //!
 //! A conversation is a session over any reader and writer: what it writes is the replies to what it read, in order, and the news after
-//! each piece of it and after each wait for one; and where a write fails, what was due before and a prefix of what that write was to write
-//! (`specs/Conversation.antt`, `converse`). `serve_desks` gives its desks back in their order, each with what it exchanged: what is asked in
+//! each piece of it; and where a write fails, what was due before and a prefix of what that write was to write
+//! (`specs/Conversation.antt`, `converse`). That the news are told after a wait too in which nothing came is tested. `serve_desks` gives its desks back in their order, each with what it exchanged: what is asked in
 //! conversations, one after another (`specs/Desks.antt`). No connection waits for a thread that isn't free (the hall's own invariant), and a
 //! shelf stays right of what its desk shows.
 //!
 //! Of the bytes of a socket a contract can say no more than counts. So a desk's conversations are some conversations, whoever had them; and
 //! that a connection is given to a conversation and nothing else is written to it (`connection.rt`), that connections are served, closed and
-//! given places again is tested. The listener is a parameter, so that a test can give one that fails.
+//! given places again is tested. So is which error of the listener is waited out: the listener is a parameter, so that a test can give one
+//! that fails.
 #![tactic(auto)]
 
 mod accepting;
@@ -54,5 +58,7 @@ mod conversation;
 mod hall;
 mod serving;
 mod threads;
+mod watch;
 
 pub use serving::serve_desks;
+pub use watch::ListenerWatch;

@@ -7,26 +7,36 @@ use crate::accepting::accept_all;
 use crate::begun::{Begun, end_all};
 use crate::hall::Hall;
 use crate::threads::{ServedBy, begin_all};
+use crate::watch::ListenerWatch;
 use session::Desk;
 use std::alloc::{AllocError, AllocFailed, Global};
 use std::net::{OpenListener, TcpStream};
 use std::sync::Wait;
 use std::thread::{self, Threads};
+use std::time::Clock;
 
-/// Serves those who connect until the listener fails, and gives the desks back when each session has ended. Each desk has a thread of its
-/// own, which serves one connection after another by it; where none is free, or no thread could be made, a connection is closed without a
-/// byte. Out of memory it is refused before it serves anybody.
+/// Serves those who connect until the listener can't work any more, and gives the desks back when each session has ended. Each desk has a
+/// thread of its own, which serves one connection after another by it; where none is free a connection is closed without a byte. The watch
+/// is told how many desks got a thread before anybody is taken: where it answers so, or none did, nobody is. Out of memory it is refused
+/// before that.
 pub fn serve_desks<
     K: Desk + Send + Drop,
-    R: Threads + Wait + Sync,
+    R: Threads + Wait + Clock + Sync,
     N: OpenListener<Stream = TcpStream>,
->(rt: &R, alloc: Global, desks: Vec<K>, listener: &N) -> Result<Vec<K>, AllocFailed<Vec<K>>>
+    W: ListenerWatch,
+>(
+    rt: &R,
+    alloc: Global,
+    desks: Vec<K>,
+    listener: &N,
+    watch: &W,
+) -> Result<Vec<K>, AllocFailed<Vec<K>>>
     // They come back in their order, each asked for what conversations ask, one after another.
     ensures served { IfOk result (λ after. HaveServed K.does desks.items after.items) }
     ensures refused { IfErr result (λ failed. failed.value ≡ desks) }
 {
     match Room::new(alloc, desks.len()) {
-        Ok(room) => Ok(serve_in(rt, alloc, room, desks, listener)),
+        Ok(room) => Ok(serve_in(rt, alloc, room, desks, listener, watch)),
         Err(AllocError) => Err(AllocFailed { value: desks }),
     }
 }
@@ -52,13 +62,12 @@ impl<K: Desk + Drop> Room<K> {
 }
 
 // A thread for each desk, and the loop that takes connections.
-fn serve_in<K: Desk + Send + Drop, R: Threads + Wait + Sync, N: OpenListener<Stream = TcpStream>>(
-    rt: &R,
-    alloc: Global,
-    room: Room<K>,
-    desks: Vec<K>,
-    listener: &N,
-) -> Vec<K>
+fn serve_in<
+    K: Desk + Send + Drop,
+    R: Threads + Wait + Clock + Sync,
+    N: OpenListener<Stream = TcpStream>,
+    W: ListenerWatch,
+>(rt: &R, alloc: Global, room: Room<K>, desks: Vec<K>, listener: &N, watch: &W) -> Vec<K>
     requires begun { HasRoom (vec_len desks) room.begun }
     requires served { HasRoom (vec_len desks) room.served }
     ensures { HaveServed K.does desks.items result.items }
@@ -77,7 +86,7 @@ fn serve_in<K: Desk + Send + Drop, R: Threads + Wait + Sync, N: OpenListener<Str
             ensures { HaveServed K.does desks.items result.items }
         {
             let begun = begin_all(scope, rt, alloc, hall, desks, begun);
-            accept_all(rt, hall, listener);
+            accept_all(rt, hall, listener, watch);
             hall.end(rt);
             end_all(rt, begun, served)
         },

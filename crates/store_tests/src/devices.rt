@@ -118,7 +118,7 @@ fn try_out_longer(rt: &impl Abort, disk: &mut FileDisk) {
 }
 
 #[test]
-fn a_file_longer_than_a_piece_is_loaded(rt: HostRuntime) {
+fn a_long_file_is_a_device(rt: HostRuntime) {
     let path = path(&rt, "long").expect(&rt, "a path");
     try_out_longer(&rt, &mut made(&rt, path.as_str(), 2_500_000));
     fs::remove_file(&rt, path.as_str()).expect(&rt, "the file goes");

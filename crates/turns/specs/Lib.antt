@@ -1,3 +1,6 @@
 pub mod Writing
 pub mod Turning
 pub mod Stops
+pub mod Waiting
+pub mod Queues
+pub mod Exchanging

@@ -93,8 +93,8 @@ module _ {D J : Type 0} {disk : Ghosts D} where
     pub waiting : waiting_of new ≡ []
     pub kept_up : IsKeptUp (store_of old) (store_of new)
 
-  -- Why a turn fails the board, where the device didn't: its batch finds no room; or what the board took off doesn't follow what is published,
-  -- and nothing of it was written; or it is committed and published, and isn't what the board has to settle next.
+  -- Why a turn fails the board, where the device didn't: its batch finds no room; or, as `Stranger`, it wrote nothing, or published one batch.
+  -- Of the board that is refused so, and why, nothing is said.
   abbrev pub IsTurnFailed : Flusher D J disk → Refusal → Flusher D J disk → Type 0
   IsTurnFailed old refusal new =
       (((refusal ≡ JournalFull) ⊎ (refusal ≡ StillNeeded)) × ((batch : List Taken) × (waiting_of new ≡ batch ∷ []) × IsFullFor batch (store_of old)))

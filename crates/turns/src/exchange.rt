@@ -1,5 +1,10 @@
 //! The composers, as the thread that writes has them.
-ghost use Rattle.std.specs.Prelude.{◌≡◌, ◌≤◌, false, Some, IfOk};
+ghost use Rattle.std.specs.Prelude.{◌≡◌, ◌≤◌, ◌<◌, ℕ, false, Some, None, length, All, Contains, OnErr, IfOk, IfErr, IfSome, IfNone};
+ghost use Rattle.recovery.specs.Jobs.{with_job, without_job};
+ghost use Rattle.recovery.specs.Open.{kept_jobs};
+ghost use Rattle.flusher.specs.Holding.{store_of};
+ghost use Rattle.turns.specs.Exchanging.{document_of, due_in, IsFirstLookedAt};
+ghost use Rattle.turns.specs.Waiting.{StaysIn, behind_first};
 ghost use Rattle.turns.specs.Writing.{IsUpkeep, IsUnrefused};
 
 use crate::queue::Queue;
@@ -34,7 +39,11 @@ pub(crate) fn exchange_with(
     every: u32,
     composers: Option<Composers>,
     state: &State,
-) -> Option<Exchange> {
+) -> Option<Exchange>
+    ensures room { IfSome result (λ exchange. exchange.queue.room ≡ state.now.limits.docs) }
+    ensures all { IfSome result (λ exchange. (document : ℕ) → document < length state.now.documents
+        → document < state.now.limits.docs → Contains exchange.queue.numbers document) }
+{
     let composers = composers?;
     if every == 0 {
         return None;
@@ -58,7 +67,11 @@ pub(crate) fn exchange_with(
 
 impl Exchange {
     /// Looks at the documents of a batch in the next turn.
-    pub(crate) fn note(&mut self, batch: &[Taken]) {
+    pub(crate) fn note(&mut self, batch: &[Taken])
+        ensures waits { All (λ taken. taken.document < self.old.queue.room
+            → Contains self.new.queue.numbers taken.document) batch.now }
+        ensures stays { StaysIn self.old.queue self.new.queue }
+    {
         for taken in batch {
             self.queue.add(taken.document_number());
         }
@@ -101,8 +114,7 @@ impl Exchange {
         Ok(())
     }
 
-    // Puts what was done next, and tells whether there may be more. A job that came back undone is given up, and its document looked at
-    // again. Refused with `Fault` alone.
+    // Puts what was done next, and tells whether there may be more. Refused with `Fault` alone.
     fn put_next<D: Disk, J: Site, R: Wait>(
         &mut self,
         rt: &R,
@@ -111,16 +123,9 @@ impl Exchange {
     ) -> Result<bool, Refusal>
         ensures { IsUpkeep result flusher.old flusher.new }
     {
-        let Some(done) = self.next_done(rt) else {
-            return Ok(false);
-        };
-        match done {
-            Ok(composed) => self.put(alloc, flusher, composed),
-            Err(back) => {
-                flusher.give_up_job(&back.job);
-                self.queue.add(back.job.document_number());
-                Ok(true)
-            }
+        match self.next_done(rt) {
+            None => Ok(false),
+            Some(done) => self.take_in(alloc, flusher, done),
         }
     }
 
@@ -130,6 +135,42 @@ impl Exchange {
             Some(composed) => Some(Ok(composed)),
             None => self.composers.take_back(rt),
         }
+    }
+
+    // Takes in what was done: puts the milestone that came of a job, and gives a job up that came back undone. The document is looked at
+    // again. It tells whether there may be more to put. Refused with `Fault` alone.
+    #[tactic(auto, using(crate::proofs::Writing::upkeep_none, crate::proofs::Writing::upkeep_as))]
+    fn take_in<D: Disk, J: Site>(
+        &mut self,
+        alloc: Global,
+        flusher: &mut Flusher<D, J>,
+        done: Done,
+    ) -> Result<bool, Refusal>
+        ensures upkeep { IsUpkeep result flusher.old flusher.new }
+        ensures given_up { IfErr done (λ back. Contains (kept_jobs (store_of flusher.old)) back.job
+            → kept_jobs (store_of flusher.new) ≡ without_job back.job.document (kept_jobs (store_of flusher.old))) }
+        ensures waits { document_of done < self.old.queue.room → Contains self.new.queue.numbers (document_of done) }
+        ensures stays { StaysIn self.old.queue self.new.queue }
+    {
+        match done {
+            Ok(composed) => self.put(alloc, flusher, composed),
+            Err(back) => {
+                self.give_up(flusher, &back.job);
+                Ok(true)
+            }
+        }
+    }
+
+    // Gives a job up that came back undone, so that another one may be due. The document is looked at again.
+    fn give_up<D: Disk, J: Site>(&mut self, flusher: &mut Flusher<D, J>, job: &Job)
+        ensures upkeep { IsUnrefused flusher.old flusher.new }
+        ensures given_up { Contains (kept_jobs (store_of flusher.old)) job.now
+            → kept_jobs (store_of flusher.new) ≡ without_job job.now.document (kept_jobs (store_of flusher.old)) }
+        ensures waits { job.now.document < self.old.queue.room → Contains self.new.queue.numbers job.now.document }
+        ensures stays { StaysIn self.old.queue self.new.queue }
+    {
+        flusher.give_up_job(job);
+        self.queue.add(job.document_number());
     }
 
     // Puts the milestone that came of a job, and tells whether there was memory for it. It puts none where the job isn't the one that is
@@ -143,6 +184,8 @@ impl Exchange {
     ) -> Result<bool, Refusal>
         ensures upkeep { IsUpkeep result flusher.old flusher.new }
         ensures kept { IfOk result (λ more. more ≡ false → self.new.unput ≡ Some composed) }
+        ensures waits { composed.document < self.old.queue.room → Contains self.new.queue.numbers composed.document }
+        ensures stays { StaysIn self.old.queue self.new.queue }
     {
         self.queue.add(composed.job().document_number());
         match flusher.put_milestone(alloc, &composed) {
@@ -187,17 +230,41 @@ impl Exchange {
         alloc: Global,
         flusher: &mut Flusher<D, J>,
     ) -> bool
-        ensures { IsUnrefused flusher.old flusher.new }
+        ensures upkeep { IsUnrefused flusher.old flusher.new }
+        ensures looked_at { IsFirstLookedAt self.old.every (store_of flusher.old) self.old.queue.numbers
+            (store_of flusher.new) self.new.queue.numbers }
+        ensures stays { StaysIn (behind_first self.old.queue) self.new.queue }
     {
         let Some(document) = self.queue.next() else {
             return false;
         };
-        match job_of(alloc, flusher, document, self.every) {
+        match self.job_of(alloc, flusher, document) {
             Ok(None) => true,
             Ok(Some(job)) => self.send(rt, job),
-            Err(_) => {
+            Err(_) => false,
+        }
+    }
+
+    // The job of a document, where one is due. Where it is refused, the document is looked at again.
+    fn job_of<D: Disk, J: Site>(
+        &mut self,
+        alloc: Global,
+        flusher: &mut Flusher<D, J>,
+        document: u32,
+    ) -> Result<Option<Job>, Refusal>
+        ensures upkeep { IsUnrefused flusher.old flusher.new }
+        ensures none { IfOk result (λ job. IfNone job
+            (due_in self.old.every document (store_of flusher.old) ≡ None)) }
+        ensures some { IfOk result (λ job. IfSome job (λ handed. (handed.document ≡ document)
+            × (kept_jobs (store_of flusher.new) ≡ with_job handed (kept_jobs (store_of flusher.old))))) }
+        ensures again { OnErr result (document < self.old.queue.room → Contains self.new.queue.numbers document) }
+        ensures stays { StaysIn self.old.queue self.new.queue }
+    {
+        match due_job(alloc, flusher, document, self.every) {
+            Ok(job) => Ok(job),
+            Err(refusal) => {
                 self.queue.add(document);
-                false
+                Err(refusal)
             }
         }
     }
@@ -213,6 +280,7 @@ impl Exchange {
     // Sends a job to the composers, and tells whether there was a place. Else it is kept.
     fn send<R: Wait>(&mut self, rt: &R, job: Job) -> bool
         ensures kept { result ≡ false → self.new.unsent ≡ Some job }
+        ensures queue { self.new.queue ≡ self.old.queue }
     {
         match self.composers.hand_out(rt, job) {
             Ok(()) => true,
@@ -225,14 +293,17 @@ impl Exchange {
 }
 
 // The job of a document, where one is due.
-fn job_of<D: Disk, J: Site>(
+fn due_job<D: Disk, J: Site>(
     alloc: Global,
     flusher: &mut Flusher<D, J>,
     document: u32,
     every: u32,
 ) -> Result<Option<Job>, Refusal>
     requires { 1 ≤ every }
-    ensures { IsUnrefused flusher.old flusher.new }
+    ensures upkeep { IsUnrefused flusher.old flusher.new }
+    ensures none { IfOk result (λ job. IfNone job (due_in every document (store_of flusher.old) ≡ None)) }
+    ensures some { IfOk result (λ job. IfSome job (λ handed. (handed.document ≡ document)
+        × (kept_jobs (store_of flusher.new) ≡ with_job handed (kept_jobs (store_of flusher.old))))) }
 {
     match flusher.job_due(document, u64::from(every)) {
         None => Ok(None),

@@ -8,9 +8,9 @@
 //! Other threads change the board between a turn's steps, so a turn says nothing of it. It says of its flusher, by `Writes` of
 //! specs/Writing.antt, that no batch that it was given is dropped, none that was published is taken back, and what a crash leaves of them; and
 //! by `IsTurnFailed` why it fails the board. The rest stands in the types of what it passes: a run is one that a board took off, a
-//! receipt is of a batch that the store has committed, and a board settles only by one. A `Run` and a `Written` aren't `Drop`: so each run
-//! that is taken is given to the flusher, and each batch that is written is settled, or the hub is told of a failure; a run that doesn't
-//! follow what is published ends with such a failure too. What a turn answers
+//! receipt is of a batch that the store has committed, and a board settles only by one. A `Run` and a `Written` aren't `Drop`: each batch that
+//! is written is settled, or the hub is told of a failure; and a run is given to the flusher, or ends against a token that it doesn't follow
+//! (`Run::apart`). That token may be an old one, and no clause says that such an end fails the board: the code does it. What a turn answers
 //! with, and what `flush_all` does, are tokens that the hub alone makes: that it settled, that it was told of a failure, that it was ended
 //! and nothing is left to take. A refusal without such a token is `NoMemory`, after which the next turn continues.
 //!

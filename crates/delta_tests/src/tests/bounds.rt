@@ -9,10 +9,10 @@ use std::process::Abort;
 use xform::{move_past, transform};
 
 /// How many units are retained, whether in bold, the text that is inserted behind them, and how many units are deleted.
-pub(super) type Edit = (u64, bool, &'static str, u64);
+type Edit = (u64, bool, &'static str, u64);
 
 /// Two deltas, and what comes of them.
-pub(super) type Row = (Edit, Edit, &'static str);
+type Row = (Edit, Edit, &'static str);
 
 fn bold(alloc: Global) -> Result<Change, Refusal> {
     let mut change = Change::new(alloc);
@@ -100,7 +100,7 @@ const COMPOSED: [Row; 3] = [
 ];
 
 // both from a borrowed delta and from one that is given away
-pub(super) fn transforms(rt: &impl Abort, alloc: Global, row: &Row) {
+fn transforms(rt: &impl Abort, alloc: Global, row: &Row) {
     let first = delta_of(alloc, &row.0).expect(rt, "first");
     let second = delta_of(alloc, &row.1).expect(rt, "second");
     let after = transform(alloc, &first, &second, true);

@@ -58,8 +58,10 @@ fn letters_are_deleted_from_chunks(rt: HostRuntime) -> Result<(), Fail> {
     document.apply(rt.alloc(), &behind(rt.alloc(), 9_999, Op::delete(1))?)?;
     assert_eq!(rt; (runs_of(&document), document.len16()), (9_999, 9_999));
     assert!(rt; document.chunks().len() >= 79);
-    document.apply(rt.alloc(), &behind(rt.alloc(), 0, Op::delete(9_999))?)?;
-    assert!(rt; document.chunks().is_empty());
+    let (_, mut whole) = numbered(rt.alloc())?;
+    assert_eq!(rt; (runs_of(&whole), whole.len16()), (10_000, 10_000));
+    whole.apply(rt.alloc(), &behind(rt.alloc(), 0, Op::delete(10_000))?)?;
+    assert!(rt; whole.chunks().is_empty());
     Ok(())
 }
 

@@ -2,14 +2,13 @@
 use algebra::Task;
 use attributes::{Attrs, Change, Key, Value, ValueRef};
 use delta::{Builder, Delta, Op};
-use document::Document;
 use optext::{read_json, read_ops};
 use refusal::Refusal;
 use std::alloc::Global;
 use std::test::Fail;
 use xform::move_past;
 
-pub(super) fn delta_of(alloc: Global, ops: &str) -> Result<Delta, Refusal> {
+fn delta_of(alloc: Global, ops: &str) -> Result<Delta, Refusal> {
     let value = read_json(alloc, ops.as_bytes())?;
     match value.as_array() {
         Some(operations) => read_ops(alloc, operations.as_slice()),
@@ -119,27 +118,6 @@ fn an_operation_is_changed(rt: HostRuntime) {
     let after = op.then(rt.alloc(), &change).expect(&rt, "then");
     assert!(rt; after != copy);
     assert!(rt; after == Op::text(String::new(rt.alloc()), Attrs::new(rt.alloc())));
-}
-
-/// Deltas that are refused on "a😀", and why.
-const REFUSED: [(&str, Refusal); 2] = [
-    ("[{\"retain\":2},{\"delete\":1}]", Refusal::CutsPair),
-    (
-        "[{\"insert\":\"x\"},{\"retain\":3},{\"delete\":1}]",
-        Refusal::PastEnd,
-    ),
-];
-
-#[test]
-fn a_document_is_as_it_was_after_a_refusal(rt: HostRuntime) {
-    let start = delta_of(rt.alloc(), "[{\"insert\":\"a😀\"}]").expect(&rt, "start");
-    let mut document = Document::from_delta(rt.alloc(), &start).expect(&rt, "document");
-    for (ops, refusal) in &REFUSED {
-        let delta = delta_of(rt.alloc(), ops).expect(&rt, "delta");
-        assert!(rt; document.apply(rt.alloc(), &delta) == Err(*refusal));
-    }
-    let copy = document.copy(rt.alloc()).expect(&rt, "copy");
-    assert!(rt; copy.as_delta(rt.alloc()).expect(&rt, "delta") == start);
 }
 
 #[test]

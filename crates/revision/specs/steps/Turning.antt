@@ -1,5 +1,5 @@
 -- Where among changes the document is deleted or created again.
-use Rattle.std.specs.Prelude.{ℕ, zero, suc, ◌+◌, Bool, List, [], ◌∷◌}
+use Rattle.std.specs.Prelude.{ℕ, zero, suc, ◌+◌, Bool, true, false, List, [], ◌∷◌}
 use Rattle.revision.specs.Command.{Step, Edits, Deletes, Revives}
 use Rattle.revision.specs.Past.{live_after}
 use Rattle.revision.specs.declared.taker.Taker.{Taker}
@@ -25,3 +25,14 @@ turned_floor newest floor (suc turns) = newest + suc turns
 abbrev pub live_after_takers : Bool → List Taker → Bool
 live_after_takers live [] = live
 live_after_takers live (first ∷ others) = live_after_takers (live_after live first.step) others
+
+-- whether a step leaves a document live that it suits
+abbrev pub leaves_live : Step → Bool
+leaves_live Edits = true
+leaves_live Deletes = false
+leaves_live Revives = true
+
+-- whether the document is live after changes of which each suits it, by the last of them alone
+abbrev pub live_by_last : Bool → List Taker → Bool
+live_by_last live [] = live
+live_by_last live (first ∷ others) = live_by_last (leaves_live first.step) others

@@ -1,7 +1,7 @@
 use super::call_without_input;
 
 /// Words, the status, and what is written to standard output and to standard error.
-const ANSWERS: [(&str, u8, &str, &str); 8] = [
+const ANSWERS: [(&str, u8, &str, &str); 6] = [
     (
         "richd delta compose {\"ops\":[{\"insert\":\"abc\"}]} {\"ops\":[{\"retain\":1},{\"delete\":1}]}",
         0,
@@ -38,13 +38,6 @@ const ANSWERS: [(&str, u8, &str, &str); 8] = [
         "{\"ops\":[{\"insert\":\"ab\"}]}\n",
         "",
     ),
-    (
-        "richd delta apply {\"ops\":[{\"retain\":1,\"attributes\":{\"bold\":true}}]} {\"ops\":[]}",
-        1,
-        "",
-        "error 14 PastEnd\n",
-    ),
-    ("richd delta compose x y", 1, "", "error 1 BadLine\n"),
 ];
 
 #[test]

@@ -9,6 +9,7 @@ use std::process::Abort;
 use std::rt::Files;
 use std::sync::Wait;
 use std::thread::Threads;
+use std::time::Clock;
 
 /// A slot of 256 bytes takes entries of 237, and a cell of 1,028 a weight of 900.
 const LIMITS: Limits = Limits {
@@ -26,6 +27,7 @@ fn format_for<
         + Net<Listener = TcpListener, Stream = TcpStream>
         + Threads
         + Wait
+        + Clock
         + Sync
         + Abort,
 >(rt: &R, path: &str, slots: &str) {
@@ -148,6 +150,7 @@ fn is_answered<
         + Net<Listener = TcpListener, Stream = TcpStream>
         + Threads
         + Wait
+        + Clock
         + Sync
         + Abort,
 >(rt: &R, words: &[&str], draws: &mut Draws, rule: &mut Rule) -> Option<Refusal> {
@@ -186,6 +189,7 @@ fn is_printed<
         + Net<Listener = TcpListener, Stream = TcpStream>
         + Threads
         + Wait
+        + Clock
         + Sync
         + Abort,
 >(rt: &R, path: &str, rule: &Rule) {
@@ -210,6 +214,7 @@ fn floors_rise<
         + Net<Listener = TcpListener, Stream = TcpStream>
         + Threads
         + Wait
+        + Clock
         + Sync
         + Abort,
 >(rt: &R, path: &str, rule: &mut Rule) {

@@ -5,6 +5,7 @@ use std::process::Abort;
 use std::rt::Files;
 use std::sync::Wait;
 use std::thread::Threads;
+use std::time::Clock;
 
 /// A source, the lines that it says, their replies, and what the store prints then.
 struct Said {
@@ -387,6 +388,7 @@ fn say_at_once<
         + Net<Listener = TcpListener, Stream = TcpStream>
         + Threads
         + Wait
+        + Clock
         + Sync
         + Abort,
 >(rt: &R, path: &str, said: &Said) {
@@ -402,6 +404,7 @@ fn say_apart<
         + Net<Listener = TcpListener, Stream = TcpStream>
         + Threads
         + Wait
+        + Clock
         + Sync
         + Abort,
 >(rt: &R, path: &str, said: &Said) {
@@ -421,6 +424,7 @@ fn talk<
         + Net<Listener = TcpListener, Stream = TcpStream>
         + Threads
         + Wait
+        + Clock
         + Sync
         + Abort,
 >(rt: &R, path: &str, size: &str, sources: &str, rows: &[Said]) {

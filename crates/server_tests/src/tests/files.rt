@@ -1,5 +1,7 @@
 use super::edits::FULL_LINES;
-use super::{CREATE, HELLO, format_small, is_served, path, prints, remove, runs};
+use super::{
+    CREATE, HELLO, IN_USE, MISSING, fault, format_small, is_served, path, prints, remove, runs,
+};
 use disk::FileDisk;
 use std::fs::{self, File};
 use std::io::{self, Read};
@@ -8,6 +10,7 @@ use std::process::Abort;
 use std::rt::Files;
 use std::sync::Wait;
 use std::thread::Threads;
+use std::time::Clock;
 
 /// Hello and the creation of `d` by source `a`, and the same with other names, one run after another over a store of two
 /// documents: what comes behind the greeting.
@@ -40,21 +43,18 @@ const LAST_REPLIES: &str = "{\"ok\":\"hello\"}\n\
     {\"doc\":\"d\",\"ok\":\"doc\",\"ops\":[{\"insert\":\"z\"}],\"rev\":1}\n";
 
 /// Commands on one file in turn, which is missing at first, each with its status and its error.
-const COMMANDS: [(&str, u8, &str); 6] = [
-    ("serve", 1, "error 34 Fault\n"),
-    ("dump", 1, "error 34 Fault\n"),
+const COMMANDS: [(&str, u8, &str); 4] = [
     ("format", 0, ""),
     ("format", 1, "error 31 AlreadyFormatted\n"),
     ("serve", 0, ""),
     ("dump", 0, ""),
 ];
 
-/// Commands on a file over which a device is, each with its status and its error.
-const IN_USE: [(&str, u8, &str); 3] = [
-    ("format", 1, "error 34 Fault\n"),
-    ("serve", 1, "error 34 Fault\n"),
-    ("dump", 1, "error 34 Fault\n"),
-];
+/// The reason where an address has no port.
+const NO_ADDRESS: &str = "invalid socket address";
+
+/// The reason where somebody else listens at an address.
+const TAKEN: &str = "Address already in use (os error 98)";
 
 /// The open gate and the number of slot 0, then the record: its gate, its length, the batch, the next gate.
 const SLOT: &[u8] =
@@ -120,7 +120,8 @@ fn a_full_journal_that_cannot_be_freed_fails_the_store(rt: HostRuntime) {
     runs(&rt, &serve, &mut input.as_bytes(), (0, replies, ""));
     set_last_number(&rt, path);
     let mut input = HELLO.as_bytes().chain(FULL_LINES.as_bytes());
-    let wanted = (1, LAST_REPLIES, "error 21 StoreFailed\n");
+    let errors = "error 35 StillNeeded\nerror 21 StoreFailed\n";
+    let wanted = (1, LAST_REPLIES, errors);
     runs(&rt, &serve, &mut input, wanted);
     remove(&rt, path);
 }
@@ -136,6 +137,10 @@ fn faults_have_their_statuses(rt: HostRuntime) {
         &mut io::empty(),
         bad_shape,
     );
+    let missing = fault(&rt, "opening", path, MISSING);
+    for command in ["serve", "dump"] {
+        command_runs(&rt, command, path, (1, "", missing.as_str()));
+    }
     for (command, status, errors) in &COMMANDS {
         command_runs(&rt, *command, path, (*status, "", *errors));
     }
@@ -156,6 +161,7 @@ fn command_runs<
         + Net<Listener = TcpListener, Stream = TcpStream>
         + Threads
         + Wait
+        + Clock
         + Sync
         + Abort,
 >(rt: &R, command: &str, path: &str, wanted: (u8, &str, &str)) {
@@ -168,8 +174,9 @@ fn a_file_in_use_is_a_fault(rt: HostRuntime) {
     let path = path.as_str();
     format_small(&rt, path);
     let disk = FileDisk::open(&rt, path).expect(&rt, "the file");
-    for (command, status, errors) in &IN_USE {
-        command_runs(&rt, *command, path, (*status, "", *errors));
+    let locked = fault(&rt, "locking", path, IN_USE);
+    for command in ["format", "serve", "dump"] {
+        command_runs(&rt, command, path, (1, "", locked.as_str()));
     }
     drop(disk);
     command_runs(&rt, "dump", path, (0, "", ""));
@@ -183,6 +190,7 @@ fn listens_nowhere<
         + Net<Listener = TcpListener, Stream = TcpStream>
         + Threads
         + Wait
+        + Clock
         + Sync
         + Abort,
 >(rt: &R, path: &str, address: &str, errors: &str) {
@@ -197,6 +205,7 @@ fn no_address_is_had<
         + Net<Listener = TcpListener, Stream = TcpStream>
         + Threads
         + Wait
+        + Clock
         + Sync
         + Abort,
 >(rt: &R, path: &str) {
@@ -206,8 +215,10 @@ fn no_address_is_had<
     listens_nowhere(rt, path, "nowhere", "error 30 NotFormatted\n");
     remove(rt, path);
     format_small(rt, path);
-    listens_nowhere(rt, path, "nowhere", "error 34 Fault\n");
-    listens_nowhere(rt, path, bound.as_str(), "error 34 Fault\n");
+    let nowhere = fault(rt, "listening on", "nowhere", NO_ADDRESS);
+    listens_nowhere(rt, path, "nowhere", nowhere.as_str());
+    let taken = fault(rt, "listening on", bound.as_str(), TAKEN);
+    listens_nowhere(rt, path, bound.as_str(), taken.as_str());
 }
 
 #[test]
@@ -221,7 +232,8 @@ fn an_address_that_cannot_be_had_is_a_fault(rt: HostRuntime) {
 #[test]
 fn a_file_in_no_folder_is_a_fault(rt: HostRuntime) {
     let path = path(&rt, "folder/none").expect(&rt, "a path");
-    command_runs(&rt, "format", path.as_str(), (1, "", "error 34 Fault\n"));
+    let missing = fault(&rt, "making", path.as_str(), MISSING);
+    command_runs(&rt, "format", path.as_str(), (1, "", missing.as_str()));
 }
 
 /// The creation of a document, and once more.
@@ -243,6 +255,7 @@ fn is_made<
         + Net<Listener = TcpListener, Stream = TcpStream>
         + Threads
         + Wait
+        + Clock
         + Sync
         + Abort,
 >(rt: &R, path: &str, k: u32) {

@@ -6,6 +6,7 @@ use std::process::Abort;
 use std::rt::Files;
 use std::sync::Wait;
 use std::thread::Threads;
+use std::time::Clock;
 
 /// The two slots of a store of this size hold some 14 edits of this kind, and a cell a document of four letters with a whole window.
 const SIZE: &str = "384";
@@ -62,6 +63,7 @@ fn are_taken<
         + Net<Listener = TcpListener, Stream = TcpStream>
         + Threads
         + Wait
+        + Clock
         + Sync
         + Abort,
 >(rt: &R, words: &[&str], above: u64, last: u64) {
@@ -89,6 +91,7 @@ fn dumped<
         + Net<Listener = TcpListener, Stream = TcpStream>
         + Threads
         + Wait
+        + Clock
         + Sync
         + Abort,
 >(rt: &R, path: &str, pick: &str) -> String {
@@ -105,6 +108,7 @@ fn is_held<
         + Net<Listener = TcpListener, Stream = TcpStream>
         + Threads
         + Wait
+        + Clock
         + Sync
         + Abort,
 >(rt: &R, path: &str, pick: &str) {
@@ -125,6 +129,7 @@ fn goes_on<
         + Net<Listener = TcpListener, Stream = TcpStream>
         + Threads
         + Wait
+        + Clock
         + Sync
         + Abort,
 >(rt: &R, path: &str, every: &str, parted: u64) {
@@ -167,6 +172,7 @@ fn has_floor<
         + Net<Listener = TcpListener, Stream = TcpStream>
         + Threads
         + Wait
+        + Clock
         + Sync
         + Abort,
 >(rt: &R, path: &str, pick: &str, apart: u64) {
@@ -188,6 +194,7 @@ fn format_wide<
         + Net<Listener = TcpListener, Stream = TcpStream>
         + Threads
         + Wait
+        + Clock
         + Sync
         + Abort,
 >(rt: &R, path: &str) {
@@ -202,6 +209,7 @@ fn lie_apart<
         + Net<Listener = TcpListener, Stream = TcpStream>
         + Threads
         + Wait
+        + Clock
         + Sync
         + Abort,
 >(rt: &R, path: &str, every: &str, apart: u64) {

@@ -6,6 +6,7 @@ use std::process::Abort;
 use std::rt::Files;
 use std::sync::Wait;
 use std::thread::Threads;
+use std::time::Clock;
 
 /// An input that is read in pieces of one size.
 #[derive(Drop)]
@@ -211,6 +212,7 @@ fn is_replied<
         + Net<Listener = TcpListener, Stream = TcpStream>
         + Threads
         + Wait
+        + Clock
         + Sync
         + Abort,
 >(rt: &R, path: &str, mut input: Pieces<'_>, wanted: &str) {
@@ -226,6 +228,7 @@ fn is_replied_in_pieces<
         + Net<Listener = TcpListener, Stream = TcpStream>
         + Threads
         + Wait
+        + Clock
         + Sync
         + Abort,
 >(rt: &R, path: &str, input: &[u8], wanted: &str) {

@@ -1,4 +1,4 @@
-use super::{CREATE, format_small, is_served, path, prints, remove, runs};
+use super::{CREATE, IN_USE, fault, format_small, is_served, path, prints, remove, runs};
 use std::fs::{self, File};
 use std::io;
 use std::net::{Net, TcpListener, TcpStream};
@@ -6,6 +6,7 @@ use std::process::Abort;
 use std::rt::Files;
 use std::sync::Wait;
 use std::thread::Threads;
+use std::time::Clock;
 
 /// Behind the creation of `d` with z: x after it, and the first unit away.
 const EDITS: &str =
@@ -42,6 +43,7 @@ fn old_store<
         + Net<Listener = TcpListener, Stream = TcpStream>
         + Threads
         + Wait
+        + Clock
         + Sync
         + Abort,
 >(rt: &R, path: &str) {
@@ -58,6 +60,7 @@ fn is_not_opened<
         + Net<Listener = TcpListener, Stream = TcpStream>
         + Threads
         + Wait
+        + Clock
         + Sync
         + Abort,
 >(rt: &R, path: &str) {
@@ -74,6 +77,7 @@ fn migrates<
         + Net<Listener = TcpListener, Stream = TcpStream>
         + Threads
         + Wait
+        + Clock
         + Sync
         + Abort,
 >(rt: &R, old: &str, new: &str, wanted: (u8, &str, &str)) {
@@ -92,12 +96,14 @@ fn is_over<
         + Net<Listener = TcpListener, Stream = TcpStream>
         + Threads
         + Wait
+        + Clock
         + Sync
         + Abort,
 >(rt: &R, old: &str, new: &str) {
     prints(rt, new, "d 3 3 {\"ops\":[{\"insert\":\"x\"}]}\n");
     migrates(rt, old, new, (1, "", "error 31 AlreadyFormatted\n"));
-    migrates(rt, old, old, (1, "", "error 34 Fault\n"));
+    let locked = fault(rt, "locking", old, IN_USE);
+    migrates(rt, old, old, (1, "", locked.as_str()));
     is_served(rt, &["richd", "serve", new], "a", AGAIN, ANSWERED);
     prints(rt, new, "d 4 3 {\"ops\":[{\"insert\":\"x\"}]}\n");
 }
@@ -123,6 +129,7 @@ fn is_filled<
         + Net<Listener = TcpListener, Stream = TcpStream>
         + Threads
         + Wait
+        + Clock
         + Sync
         + Abort,
 >(rt: &R, old: &str, new: &str, bytes: &[u8]) {

@@ -1,5 +1,6 @@
 use super::HELLO;
 use super::going_on::{edits, letter};
+use super::unwatched::Nobody;
 use disk::{Call, Disk, FaultDisk, FaultPlan, Left, MemDisk};
 use recovery::{OpenFault, Pick, Shape, Store, format_device};
 use refusal::Refusal;
@@ -85,7 +86,7 @@ fn ended<R: Threads + Wait + Abort + AllocGlobal + Sync>(
     lines: &str,
 ) -> (FaultDisk, String) {
     let output = Stream::new(Vec::new(rt.alloc()));
-    let streamed = serve_streams(rt, rt.alloc(), store, lines.as_bytes(), output, 2);
+    let streamed = serve_streams(rt, rt.alloc(), store, lines.as_bytes(), output, 2, &Nobody);
     let written = String::from_utf8(streamed.output.into_writer()).expect(rt, "a text");
     (streamed.store.close(), written)
 }

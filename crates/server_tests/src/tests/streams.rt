@@ -7,6 +7,7 @@ use std::process::Abort;
 use std::rt::Files;
 use std::sync::Wait;
 use std::thread::Threads;
+use std::time::Clock;
 
 /// A stream that fails.
 #[derive(Drop)]
@@ -58,6 +59,7 @@ fn sends<
         + Net<Listener = TcpListener, Stream = TcpStream>
         + Threads
         + Wait
+        + Clock
         + Sync
         + Abort,
 >(rt: &R, words: &[&str], input: &str, wanted: &str) {
@@ -80,10 +82,11 @@ fn fails<
         + Net<Listener = TcpListener, Stream = TcpStream>
         + Threads
         + Wait
+        + Clock
         + Sync
         + Abort,
     I: Read,
-    O: Write,
+    O: Write + Send,
 >(rt: &R, words: &[&str], input: &mut I, output: &mut O) {
     let mut errors = Vec::new(rt.alloc());
     assert_eq!(rt; run(rt, words, input, output, &mut errors), 1);
@@ -97,6 +100,7 @@ fn fails_in_a_session<
         + Net<Listener = TcpListener, Stream = TcpStream>
         + Threads
         + Wait
+        + Clock
         + Sync
         + Abort,
 >(rt: &R, path: &str) {
@@ -133,6 +137,7 @@ fn sends_on<
         + Net<Listener = TcpListener, Stream = TcpStream>
         + Threads
         + Wait
+        + Clock
         + Sync
         + Abort,
 >(rt: &R, path: &str) {

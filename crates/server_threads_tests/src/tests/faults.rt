@@ -7,9 +7,22 @@ use std::process::Abort;
 
 const CREATE: &str = "{\"do\":\"create\",\"doc\":\"d\",\"n\":1,\"ops\":[{\"insert\":\"z\"}]}";
 
+const CREATE_OTHER: &str = "{\"do\":\"create\",\"doc\":\"e\",\"n\":1,\"ops\":[]}";
+
+const EDIT: &str =
+    "{\"base\":1,\"do\":\"edit\",\"doc\":\"d\",\"n\":2,\"ops\":[{\"insert\":\"q\"}]}";
+
+const EDIT_BY_OTHER: &str =
+    "{\"base\":1,\"do\":\"edit\",\"doc\":\"d\",\"n\":1,\"ops\":[{\"insert\":\"q\"}]}";
+
+const SHOWN: &str = "{\"doc\":\"d\",\"ok\":\"doc\",\"ops\":[{\"insert\":\"z\"}],\"rev\":1}";
+
 const FAILED: &str = "{\"code\":21,\"error\":\"StoreFailed\"}";
 
 const MISSING: &str = "{\"code\":6,\"error\":\"NoDocument\"}";
+
+/// The first creation opens a slot and is appended, by so many calls of the device.
+const CREATION: u64 = 8;
 
 /// A batch has room for one creation of so many letters of two bytes, and not for two.
 const LETTERS: usize = 1_300;
@@ -22,12 +35,15 @@ const NO_DELTAS: &str = "{\"deltas\":[],\"doc\":\"d\",\"ok\":\"since\",\"rev\":1
 
 const FETCH_OTHER: &str = "{\"do\":\"fetch\",\"doc\":\"e\"}";
 
+// The creation is on the disk when the device fails: then no command is taken, and the document is shown as it was.
 fn fail<R: Abort + AllocGlobal + Net<Stream = TcpStream>>(rt: &R, address: SocketAddr) {
     let ann = greeted(rt, address, "ann");
     let bob = greeted(rt, address, "bob");
-    is_told(rt, &ann, CREATE, FAILED);
-    is_told(rt, &bob, CREATE, FAILED);
-    is_told(rt, &bob, FETCH, MISSING);
+    is_told(rt, &ann, CREATE, TAKEN);
+    is_told(rt, &ann, EDIT, FAILED);
+    is_told(rt, &bob, EDIT_BY_OTHER, FAILED);
+    is_told(rt, &bob, CREATE_OTHER, FAILED);
+    is_told(rt, &bob, FETCH, SHOWN);
 }
 
 // A new device that goes wrong.
@@ -44,8 +60,8 @@ fn calls_of_opening(rt: &(impl Abort + AllocGlobal)) -> u64 {
 
 #[test]
 fn a_failing_device_fails_each_command_and_readers_go_on(rt: HostRuntime) {
-    let plan = FaultPlan::fail(calls_of_opening(&rt), Left::Nothing);
-    let store = opened(&rt, faulty(&rt, plan));
+    let call = calls_of_opening(&rt).saturating_add(CREATION);
+    let store = opened(&rt, faulty(&rt, FaultPlan::fail(call, Left::Nothing)));
     let (_store, ended) = served(&rt, store, EVERY, |address| fail(&rt, address));
     assert_eq!(&rt; ended, Err(Refusal::Fault));
 }
@@ -72,10 +88,10 @@ fn fail_between<R: Abort + AllocGlobal + Net<Stream = TcpStream>>(rt: &R, addres
     is_told(rt, &ann, FETCH_OTHER, MISSING);
 }
 
-// The first creation opens a slot and is appended, by eight calls. The second one's first call fails.
+// The second creation's first call fails.
 #[test]
 fn of_lines_sent_ahead_those_that_are_settled_are_acknowledged(rt: HostRuntime) {
-    let call = calls_of_opening(&rt).saturating_add(8);
+    let call = calls_of_opening(&rt).saturating_add(CREATION);
     let store = opened(&rt, faulty(&rt, FaultPlan::fail(call, Left::Nothing)));
     let (_store, ended) = served(&rt, store, EVERY, |address| fail_between(&rt, address));
     assert_eq!(&rt; ended, Err(Refusal::Fault));

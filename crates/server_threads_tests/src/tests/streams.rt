@@ -1,3 +1,4 @@
+use super::watched::Seen;
 use super::{EVERY, formatted, opened};
 use disk::{Disk, FaultDisk, FaultPlan, Left};
 use recovery::Store;
@@ -62,14 +63,28 @@ impl Write for Broken {
     }
 }
 
-/// Serves lines over a store, and gives the store back, with what ended it and what was written.
+/// Serves lines over a store, and gives the store back, with what ended it and what was written. The watch is told once of a store that
+/// fails.
 fn answered<R: Threads + Wait + Abort + AllocGlobal + Sync, D: Disk + Send + Drop>(
     rt: &R,
     store: Store<D>,
     lines: &str,
 ) -> (Store<D>, Result<(), Failure>, String) {
     let output = Stream::new(Vec::new(rt.alloc()));
-    let streamed = serve_streams(rt, rt.alloc(), store, lines.as_bytes(), output, EVERY);
+    let seen = Seen::new();
+    let streamed = serve_streams(
+        rt,
+        rt.alloc(),
+        store,
+        lines.as_bytes(),
+        output,
+        EVERY,
+        &seen,
+    );
+    assert_eq!(rt;
+        seen.failures(),
+        if streamed.served.is_err() { 1 } else { 0 }
+    );
     let written = String::from_utf8(streamed.output.into_writer()).expect(rt, "a text");
     (streamed.store, streamed.served, written)
 }
@@ -111,6 +126,7 @@ fn an_output_that_fails_ends_the_session(rt: HostRuntime) {
         LINES.as_bytes(),
         Stream::new(Broken),
         EVERY,
+        &Seen::new(),
     );
     assert!(&rt; matches!(streamed.served, Err(Failure::Stream)));
 }

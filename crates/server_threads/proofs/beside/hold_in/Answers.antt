@@ -10,7 +10,7 @@ use Rattle.server_threads.proofs.beside.hold_in.Goals as goal
 -- the thread that writes has the flusher, and shares the hub
 pub spawn_with-spawned-requires-send-F : goal.spawn_with-spawned-requires-send-F
 spawn_with-spawned-requires-send-F g c κs within =
-    let writing = writing_send (record { mir = named 6; lft = κs.1.1.1.1.1.1.0 }) (param 7 g.row.D) (param 5 g.row.J) (param 6 g.row.R) g.D.Disk g.J.Site g.J.Ledger c.type_bounds.send-D c.type_bounds.send-J c.type_bounds.sync-J c.type_bounds.sync-R in
+    let writing = writing_send (record { mir = named 6; lft = κs.1.1.1.1.1.1.0 }) (param 7 g.row.D) (param 5 g.row.J) (param 6 g.row.R) (param 8 g.row.W) g.D.Disk g.J.Site g.J.Ledger c.type_bounds.send-D c.type_bounds.send-J c.type_bounds.sync-J c.type_bounds.sync-R c.type_bounds.sync-W in
     search (param_send, arg_send, recorded_send, struct_send) depth 8
 
 -- and gives the flusher back

@@ -1,4 +1,4 @@
-use Rattle.std.proofs.Common.{◌≡◌, ◌++◌, ◌<◌, List, ℕ, [], ◌∷◌, length, refl, sym, ap, subst, ◌∙◌, append-nil, length-append, arith, rules}
+use Rattle.std.proofs.Common.{◌≡◌, ◌++◌, List, ℕ, [], ◌∷◌, length, refl, sym, ap, subst, ◌∙◌, append-nil, length-append, arith, rules}
 use Rattle.std.proofs.lemmas.Bool.{eqb-true}
 use Rattle.std.proofs.lemmas.List.{nil_from_length}
 use Rattle.serving.specs.Serving.{ServesBytes}

@@ -9,18 +9,18 @@ use Rattle.segments.proofs.ring.Ring.ready.Goals as goal
 pub returns-in-Some-clause-any_moment : goal.returns-in-Some-clause-any_moment
 returns-in-Some-clause-any_moment g c table synced fits = begins (history_of g.D.Disk c.args.disk.now) synced (inl (same_ring _ _ table fits))
 
-pub returns-in_err-area-clause-any_moment : goal.returns-in_err-area-clause-any_moment
-returns-in_err-area-clause-any_moment g c table synced fits =
+pub returns-in_err-open_slot-clause-any_moment : goal.returns-in_err-open_slot-clause-any_moment
+returns-in_err-open_slot-clause-any_moment g c table synced fits =
     let full : fits_newest c.args.self.now c.args.len ≡ false = search rules in
-    leaves_map (opening_ready _ c.args.self.now c.args.len table full) (c.open_next.ensures.any_moment table synced fits)
+    leaves_map (opening_ready _ c.args.self.now c.args.len table full) (c.open_slot.ensures.any_moment table synced fits)
 
 pub returns-clause-any_moment : goal.returns-clause-any_moment
 returns-clause-any_moment g c table synced fits =
     let full : fits_newest c.args.self.now c.args.len ≡ false = search rules in
-    leaves_map (opening_ready _ c.args.self.now c.args.len table full) (c.open_next.ensures.any_moment table synced fits)
+    leaves_map (opening_ready _ c.args.self.now c.args.len table full) (c.open_slot.ensures.any_moment table synced fits)
 
 pub returns-clause-done : goal.returns-clause-done
 returns-clause-done g c table fits =
     let full : fits_newest c.args.self.now c.args.len ≡ false = search rules in
-    let opened = c.in_ok-area.ensures.done table fits in
+    let opened = c.in_ok-open_slot.ensures.done table fits in
     (opened.0, inr (full, opened.1), opened.2)

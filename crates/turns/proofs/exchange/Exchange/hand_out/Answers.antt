@@ -9,7 +9,7 @@ pub loop-init : goal.loop-init
 loop-init g c = upkeep_none tt c.args.flusher.now
 
 pub returns-then-not-hand_next : goal.returns-then-not-hand_next
-returns-then-not-hand_next g c = upkeep_on tt (Ok tt) c.args.flusher.now c.loop.flusher c.hand_next.new.flusher c.loop.invariant c.hand_next.ensures
+returns-then-not-hand_next g c = upkeep_on tt (Ok tt) c.args.flusher.now c.loop.flusher c.hand_next.new.flusher c.loop.invariant c.hand_next.ensures.upkeep
 
 pub loop-preserved : goal.loop-preserved
-loop-preserved g c = upkeep_on tt (Ok tt) c.args.flusher.now c.loop.flusher c.hand_next.new.flusher c.loop.invariant c.hand_next.ensures
+loop-preserved g c = upkeep_on tt (Ok tt) c.args.flusher.now c.loop.flusher c.hand_next.new.flusher c.loop.invariant c.hand_next.ensures.upkeep

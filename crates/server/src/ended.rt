@@ -1,0 +1,87 @@
+//! Why the program ends with status 1.
+use disk::FileDisk;
+use refusal::Refusal;
+use serving::Failure;
+use std::fmt::{self, Display, Formatter};
+use std::io::{self, Write};
+
+/// What is tried with an address.
+pub(crate) const LISTENING: &str = "listening on";
+
+/// What stands behind a `Fault`: what was tried, with which file or address, and the system's reason.
+#[derive(Clone, Copy)]
+pub(crate) struct Cause<'a> {
+    pub(crate) tried: &'static str,
+    pub(crate) what: &'a str,
+    pub(crate) reason: io::Error,
+}
+
+impl Display for Cause<'_> {
+    fn fmt<W: fmt::Write>(&self, f: &mut Formatter<W>) -> fmt::Result {
+        let Cause {
+            tried,
+            what,
+            reason,
+        } = self;
+        write!(f, "richd: {tried} {what}: {reason}")
+    }
+}
+
+/// Why the program ends with status 1.
+#[derive(Drop)]
+pub(crate) enum Ended<'a> {
+    /// It was refused, which is told on standard error, with the cause where the refusal has one.
+    Refused(Refusal, Option<Cause<'a>>),
+    /// A standard stream failed, which is not told.
+    Stream,
+}
+
+impl<'a> Ended<'a> {
+    /// A call of the system failed.
+    pub(crate) fn fault(tried: &'static str, what: &'a str, reason: io::Error) -> Ended<'a> {
+        Ended::Refused(
+            Refusal::Fault,
+            Some(Cause {
+                tried,
+                what,
+                reason,
+            }),
+        )
+    }
+
+    /// It was refused while a store was read from a file or written to it.
+    pub(crate) fn over(path: &'a str, disk: &FileDisk, refusal: Refusal) -> Ended<'a> {
+        Ended::Refused(refusal, cause_of(path, disk, refusal))
+    }
+}
+
+impl From<Failure> for Ended<'_> {
+    fn from(failure: Failure) -> Self {
+        match failure {
+            Failure::Refused(refusal) => Ended::Refused(refusal, None),
+            Failure::Stream => Ended::Stream,
+        }
+    }
+}
+
+/// What stands behind a refusal by a store in a file: the first call on the file that failed, where it is a `Fault`.
+pub(crate) fn cause_of<'a>(path: &'a str, disk: &FileDisk, refusal: Refusal) -> Option<Cause<'a>> {
+    if refusal != Refusal::Fault {
+        return None;
+    }
+    let fault = disk.fault()?;
+    Some(Cause {
+        tried: fault.tried.name(),
+        what: path,
+        reason: fault.reason,
+    })
+}
+
+/// Tells of a refusal, and on a line of its own what stands behind it.
+pub(crate) fn tell<E: Write>(refusal: Refusal, cause: Option<Cause<'_>>, errors: &mut E) {
+    let _ = writeln!(errors, "{refusal}");
+    if let Some(cause) = cause {
+        let _ = writeln!(errors, "{cause}");
+    }
+    let _ = errors.flush();
+}
