@@ -1,16 +1,24 @@
 #!/usr/bin/env python3
-"""Types in both editors of examples/editor at once, in a headless Chromium, and cuts one's connection meanwhile.
+"""Types in the editors of examples/editor, in two windows of a headless Chromium, through what befalls an editor.
 
 usage: checks/editor.py [--quill FOLDER] [PICTURE]
 
-Keys go to both in turn for ten seconds, so that each edit is on its way while the other writes. In the middle the second editor's
-connection is cut. Then an input method composes a character in the first while the second is written in. At the end both have the same contents, `richd dump` shows them too, and each character that was typed is there once.
-A screenshot is left in PICTURE, else in editors.png in the temporary folder of the system.
+1. Keys go to both editors of a window in turn for ten seconds, so that each edit is on its way while the other writes. In the middle the
+   second editor's connection is cut. Each character that was typed is there once.
+2. A character is composed by an input method, while another window's user types before it.
+3. An image is pasted that is too long for a line: it is told and taken out again, and nothing is sent.
+4. Ctrl+Z takes back what was typed in this editor, and leaves what others typed since.
+5. A window loses its server, is typed in, and is loaded again: it shows what was typed, under the same sources, and sends it once there is a
+   server again, once.
 
-The editors are those of the page's own, or Quill where FOLDER has its quill.js and quill.snow.css. Then Ctrl+Z is pressed in the second before
-it has typed anything, which has to leave alone what the first typed.
+After each of these the four editors have the same contents, and at the end `richd dump` shows them too. A screenshot is left in PICTURE, else
+in editors.png in the temporary folder of the system, and one of each further state beside it, as editors-offline.png.
 
-It wants Debian's chromium, chromium-driver, nodejs and node-ws, and the program that ./demo builds, or another that RICHD names.
+The editors are those of the page's own, or Quill where FOLDER has its quill.js and quill.snow.css. At the beginning Ctrl+Z is pressed in the
+second before it has typed anything, which has to leave alone what the first typed.
+
+It wants Debian's chromium, chromium-driver, nodejs and node-ws, and the program that ./demo builds, or another that RICHD names. Where there
+is no Chromium it says so, and its status is 0.
 """
 import argparse
 import base64
@@ -21,6 +29,7 @@ import os
 import pathlib
 import random
 import re
+import shutil
 import signal
 import socket
 import subprocess
@@ -34,6 +43,7 @@ RICHD = os.environ.get("RICHD") or str(ROOT / "crates/richd/out/richd")
 SECONDS = 10  # of typing
 PATIENCE = 120  # seconds, for whatever should come soon, on a busy machine too
 CONTROL, BACKSPACE, ENTER = "\ue009", "\ue003", "\ue007"
+IMAGE = "data:image/png;base64," + "A" * 90_000  # longer than a line may be
 
 # What they type; a star begins and ends what is bold.
 ANN = (
@@ -54,6 +64,7 @@ class Proxy:
         self.listener = socket.create_server(("127.0.0.1", 0))
         self.address = "%s:%d" % self.listener.getsockname()
         self.web_sockets = []
+        self.is_away = False  # WebSockets are refused
         threading.Thread(target=self.accept, daemon=True).start()
 
     def accept(self):
@@ -69,12 +80,20 @@ class Proxy:
         try:
             while piece := source.recv(65_536):
                 if is_request and re.search(rb"^upgrade: *websocket", piece, re.IGNORECASE | re.MULTILINE):
+                    if self.is_away:
+                        break
                     self.web_sockets.append((source, target))
                 target.sendall(piece)
         except OSError:
             pass
         for one in (source, target):
             cut(one)
+
+    def go_away(self):
+        self.is_away = True
+        for pair in self.web_sockets:
+            for one in pair:
+                cut(one)
 
 
 def cut(one):
@@ -124,8 +143,19 @@ class Browser:
         self.call("POST", "/actions", {"actions": [{"type": "key", "id": "keyboard", "actions": actions}]})
 
     def command(self, name, **parameters):
-        """A command of Chromium's own protocol."""
+        """A command of the Chrome DevTools Protocol."""
         return self.call("POST", "/goog/cdp/execute", {"cmd": name, "params": parameters})
+
+    def open_window(self, url):
+        """Opens another window, and gives the handles of both."""
+        first = self.call("GET", "/window")
+        second = self.call("POST", "/window/new", {"type": "window"})["handle"]
+        self.switch(second)
+        self.go_to(url)
+        return first, second
+
+    def switch(self, window):
+        self.call("POST", "/window", {"handle": window})
 
     def screenshot(self):
         return base64.b64decode(self.call("GET", "/screenshot"))
@@ -199,6 +229,10 @@ def are_alike(sides):
     return all(side["isSaved"] and side["shared"] == side["editor"] == sides[0]["shared"] for side in sides)
 
 
+def text_of(ops):
+    return "".join(op["insert"] if isinstance(op["insert"], str) else "*" for op in ops)
+
+
 def undo_alone(browser):
     """Ctrl+Z of one who has typed nothing leaves alone what the other typed."""
     before = contents(browser)[0]["shared"]
@@ -208,35 +242,19 @@ def undo_alone(browser):
     assert contents(browser)[0]["shared"] == before, f"Ctrl+Z made {contents(browser)} of {before}"
 
 
-def compose_beside(browser, ann, bob):
-    """An input method composes a character in ann's editor while bob's is written in: hers is left alone until the character is there."""
-    browser.run(PLACE, 0, None)
-    browser.command("Input.imeSetComposition", text="k", selectionStart=1, selectionEnd=1)
-    word, character = "beside", "\u304b"
-    browser.run("editors[1].editor.updateContents({ ops: [{ insert: arguments[0] }] }, 'user')", word)
-    bob.typed.update(word)
-    wait_until(lambda: word in json.dumps(contents(browser)[0]["shared"]), "the word in ann's document")
-    assert word not in json.dumps(contents(browser)[0]["editor"]), "ann's editor was changed while a character was composed"
-    browser.command("Input.imeSetComposition", text=character, selectionStart=1, selectionEnd=1)
-    browser.command("Input.insertText", text=character)
-    ann.typed.update(character)
-    wait_until(lambda: are_alike(contents(browser)), "the same contents after a composition")
-
-
 def write_together(browser, proxy):
     wait_until(lambda: browser.run("return globalThis.editors !== undefined"), "the page's editors")
     ann, bob = Writer(browser, 0, ANN, "ann"), Writer(browser, 1, BOB, "bob")
     ann.browser.run("editors[0].editor.setSelection(0, 0)")
     browser.press(ENTER)  # a line for each
     wait_until(lambda: are_alike(contents(browser)), "a line for each")
-    if browser.run("return globalThis.Quill !== undefined"):
-        undo_alone(browser)
+    undo_alone(browser)
     connections = len(proxy.web_sockets)
     assert connections == 2, f"{connections} connections"
 
     begin = time.monotonic()
     is_cut = False
-    while (passed := time.monotonic() - begin) < SECONDS:
+    while (passed := time.monotonic() - begin) < SECONDS or not is_cut:
         if passed > SECONDS / 2 and not is_cut:
             is_cut = True
             for one in proxy.web_sockets[-1]:
@@ -244,14 +262,123 @@ def write_together(browser, proxy):
         ann.turn()
         bob.turn()
     wait_until(lambda: are_alike(contents(browser)), "the same contents in both")
-    compose_beside(browser, ann, bob)
-    assert len(proxy.web_sockets) == connections + 1, "no connection was begun again"
-    return ann, bob, contents(browser)
+    assert len(proxy.web_sockets) > connections, "no connection was begun again"
+    return ann, bob
+
+
+class Windows:
+    """Two windows of one browser, `here` and `there`, with two editors each."""
+
+    def __init__(self, browser, proxy, here, there, picture):
+        self.browser, self.proxy, self.here, self.there = browser, proxy, here, there
+        self.picture = pathlib.Path(picture)
+        self.failed = []
+
+    def at(self, window):
+        self.browser.switch(window)
+        return self.browser
+
+    def contents(self):
+        return [side for window in (self.here, self.there) for side in contents(self.at(window))]
+
+    def text(self, window):
+        return text_of(contents(self.at(window))[0]["shared"])
+
+    def settle(self, what):
+        wait_until(lambda: are_alike(self.contents()), f"the same contents in all four after {what}")
+        return self.text(self.here)
+
+    def type(self, window, text, index=0, place=0):
+        self.at(window).run("const [index, place] = arguments; editors[index].editor.setSelection(place, 0)", index, place)
+        self.browser.press(*text)
+
+    def expect(self, holds, what):
+        if not holds:
+            self.failed.append(what)
+
+    def show(self, window, state):
+        """Leaves a screenshot of a state."""
+        picture = self.picture.with_name(f"{self.picture.stem}-{state}{self.picture.suffix}")
+        picture.write_bytes(self.at(window).screenshot())
+
+    def compose(self):
+        """An input method composes in one window, and the other types before it."""
+        before = self.settle("opening")
+        self.at(self.here).run("editors[0].editor.setSelection(3, 0)")
+        self.browser.command("Input.imeSetComposition", text="か", selectionStart=1, selectionEnd=1)
+        self.type(self.there, "ABC ")
+        wait_until(lambda: "ABC " in self.text(self.here), "what others typed, while a character is composed")
+        self.browser.command("Input.imeSetComposition", text="かな", selectionStart=2, selectionEnd=2)
+        self.show(self.here, "composition")
+        self.at(self.here).command("Input.insertText", text="仮名")
+        wait_until(lambda: "仮名" in self.text(self.there), "what was composed")
+        after = self.settle("a composition")
+        self.expect(after == "ABC " + before[:3] + "仮名" + before[3:], "what was composed isn't in its place")
+
+    def paste_image(self):
+        """Quill pastes an image as an embed that holds it."""
+        self.settle("typing")
+        before = contents(self.at(self.here))[0]
+        lost = self.browser.run(
+            """const [image] = arguments;
+            const { editor, shared } = editors[0];
+            const lost = [];
+            shared.addEventListener("trouble", ({ error, delta }) => lost.push([error.name, delta.ops.length]));
+            editor.updateContents({ ops: [{ retain: 2 }, { insert: { image } }] }, "user");
+            return lost;""",
+            IMAGE,
+        )
+        self.expect([name for name, _ in lost] == ["LineTooLong"], f"a pasted image is told as {lost}")
+        wait_until(lambda: contents(self.at(self.here))[0]["editor"] == before["editor"], "the image's way out of the editor")
+        time.sleep(1)
+        self.show(self.here, "image")
+        after = contents(self.at(self.here))[0]
+        self.expect(after["revision"] == before["revision"], "revisions were made of an image that wasn't sent")
+        self.settle("a pasted image")
+
+    def take_back(self):
+        """Ctrl+Z, after another's typing."""
+        before = self.settle("typing")
+        time.sleep(1.2)  # what is typed next is a step of its own
+        self.type(self.here, "mine ", place=1)
+        self.type(self.there, "yours ", place=0)
+        self.settle("typing in both")
+        self.at(self.here).run("editors[0].editor.setSelection(0, 0)")
+        self.browser.press(CONTROL + "z")
+        wait_until(lambda: "mine" not in self.text(self.here), "Ctrl+Z")
+        self.show(self.here, "undo")
+        after = self.settle("Ctrl+Z")
+        self.expect(after == "yours " + before, f"Ctrl+Z left {after[:20]}")
+
+    def outlive(self):
+        """A window without a server is typed in, and loaded again."""
+        before = self.settle("typing")
+        sources = self.at(self.there).run("return editors.map(({ client }) => client.source)")
+        self.proxy.go_away()
+        wait_until(lambda: self.at(self.there).run("return editors[0].shared.state") == "offline", "a window without a server")
+        self.type(self.there, "OFFLINE ")
+        wait_until(lambda: self.at(self.there).run("return editors[0].shared.isKept"), "what was typed to be kept")
+        self.show(self.there, "offline")
+        self.at(self.there).go_to(self.browser.call("GET", "/url"))
+        wait_until(lambda: self.at(self.there).run("return globalThis.editors !== undefined"), "the page that was loaded again")
+        self.expect(self.text(self.there) == "OFFLINE " + before, "what was typed isn't shown after a reload")
+        self.expect(self.browser.run("return editors.map(({ client }) => client.source)") == sources, "the page has other sources after a reload")
+        self.type(self.there, "STILL ", place=8)
+        self.show(self.there, "reloaded")
+        self.proxy.is_away = False
+        wait_until(lambda: "OFFLINE STILL " in self.text(self.here), "what was typed without a server")
+        after = self.settle("a reload")
+        self.expect(after == "OFFLINE STILL " + before, "what was typed without a server isn't there once")
+        self.show(self.there, "saved")
 
 
 def main(picture, quill):
     if not os.access(RICHD, os.X_OK):
         sys.exit(f"{RICHD} isn't there: ./demo builds it, or name another program in RICHD")
+    if shutil.which("chromium") is None or shutil.which("chromedriver") is None:
+        print("skipped: there is no Chromium, Debian's chromium and chromium-driver")
+        return 0
+    failed = []
     with tempfile.TemporaryDirectory() as folder:
         store = os.path.join(folder, "store")
         command = [str(ROOT / "examples/editor/run"), "--listen", "127.0.0.1:0", *(["--quill", quill] if quill else [])]
@@ -262,8 +389,18 @@ def main(picture, quill):
             browser = Browser()
             try:
                 browser.go_to(f"http://{proxy.address}/")
-                ann, bob, sides = write_together(browser, proxy)
+                ann, bob = write_together(browser, proxy)
                 pathlib.Path(picture).write_bytes(browser.screenshot())
+                text = text_of(contents(browser)[0]["shared"])
+                if collections.Counter(text) != ann.typed + bob.typed + collections.Counter("\n\n"):
+                    failed.append("what was typed isn't there once")
+                here, there = browser.open_window(f"http://{proxy.address}/")
+                wait_until(lambda: browser.run("return globalThis.editors !== undefined"), "the second window's editors")
+                windows = Windows(browser, proxy, here, there, picture)
+                for befalls in (windows.compose, windows.paste_image, windows.take_back, windows.outlive):
+                    befalls()
+                failed += windows.failed
+                sides = windows.contents()
             finally:
                 browser.close()
         finally:
@@ -273,19 +410,16 @@ def main(picture, quill):
     name, revision, _, document = dumped.rstrip("\n").split(" ", 3)
 
     ops = sides[0]["shared"]
-    text = "".join(op["insert"] for op in ops)
-    failed = []
     if (name, int(revision), json.loads(document)) != ("letter", sides[0]["revision"], {"ops": ops}):
         failed.append(f"richd dump shows something else: {dumped}")
-    if collections.Counter(text) != ann.typed + bob.typed + collections.Counter("\n\n"):
-        failed.append("what was typed isn't there once")
     for reason in failed:
         print(f"FAILED  {reason}")
     if failed:
-        print(f"        both editors: {json.dumps(ops)}")
+        print(f"        the editors: {json.dumps(ops)}")
         return 1
     print(f"ok      {sum(ann.typed.values())} and {sum(bob.typed.values())} characters in {SECONDS} seconds, with a cut in the middle")
-    print(f"        both editors and richd dump have the same {len(text)} at revision {revision}; the picture is {picture}")
+    print("        a composition, a pasted image, Ctrl+Z, and a reload without a server, in two windows")
+    print(f"        the editors and richd dump have the same {len(text_of(ops))} at revision {revision}; the picture is {picture}")
     return 0
 
 

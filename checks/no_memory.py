@@ -11,7 +11,8 @@ answer takes ten seconds. `error 34 Fault` may stand in its place where the file
 row is through, the store holds by either pick what the undisturbed run leaves, with the sources' numbers.
 
 Where the thread that writes is refused, which is the first one, the program has to end so, and the store to be unchanged, with `--listen`
-too. Where another one is refused, `--listen` has to serve one session fewer, or as many where it is one that composes milestones.
+too. Where another one is refused, a session over standard input has to go on, and `--listen` has to serve one session fewer and to say so, or
+as many where it is one that composes milestones.
 
 Run ./demo first, which builds crates/richd/out/richd, or name another program in RICHD. It needs a C compiler, `cc`. The stores lie in a
 temporary folder (TMPDIR).

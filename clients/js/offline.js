@@ -138,11 +138,19 @@ export class OfflineClient extends Client {
   /** @param {Keeper | undefined} before @param {string} doc @param {OpenOptions} options */
   async #openAfter(before, doc, options) {
     await before?.ended;
+    if ((await options.keeper?.load()) === undefined) await this.#served();
     const document = await super.open(doc, options);
     this.#watched.add(document);
     document.addEventListener("progress", () => this.#guard());
     document.addEventListener("state", () => this.#guard());
     return document;
+  }
+
+  // Waits for a server, however long it takes, or for the end of the client.
+  async #served() {
+    while (this.state !== "connected" && this.state !== "closed") {
+      await new Promise((resolve) => this.addEventListener("state", resolve, { once: true }));
+    }
   }
 
   // Has the browser ask its user as long as something isn't kept. A page that never asks can be shown again as it was when its user comes back.

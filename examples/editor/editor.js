@@ -1,7 +1,7 @@
-// The page: two editors on one document. Each has a client, and so a session, of its own.
+// The page: two editors on one document. Each has a client, and so a session and a source, of its own. What is typed outlives the page.
 
+import { connect } from "../../clients/js/offline.js";
 import { bind } from "../../clients/js/quill.js";
-import { Client } from "../../clients/js/richd.js";
 import { Editable } from "./editable.js";
 
 const DOC = "letter";
@@ -35,39 +35,57 @@ function editorIn(section, Quill) {
   return editor;
 }
 
-const STATES = { saved: "saved", saving: "saving", refused: "refused", offline: "no connection", full: "the server is full", storeFailed: "the server's disk failed", closed: "closed" };
+const STATES = { offline: "no connection", full: "the server is full", storeFailed: "the server's disk failed" }; // others are named as they are
+
+/** Ctrl+Z takes back what was typed here, and Ctrl+Y brings it back. Quill does this by itself. */
+function addHistory(section, shared) {
+  section.addEventListener("keydown", (event) => {
+    const key = event.key.toLowerCase();
+    if (!(event.ctrlKey || event.metaKey) || (key !== "z" && key !== "y")) return;
+    event.preventDefault();
+    if (key === "y" || event.shiftKey) shared.history.redo();
+    else shared.history.undo();
+  });
+}
 
 async function begin(section, Quill) {
-  // Without a name the client has a new one each time the page is loaded. A page that has users takes theirs, for one tab at a time.
-  const client = new Client({ url });
+  const client = await connect({ url });
   const stateLine = section.querySelector(".state");
-  const show = (state, revision) => {
+  const show = (state, words) => {
     stateLine.classList.toggle("cut", state !== "saved" && state !== "saving");
-    stateLine.textContent = `${revision === undefined ? "" : `revision ${revision}, `}${STATES[state]}`;
+    stateLine.textContent = [...words, STATES[state] ?? state].join(", ");
   };
-  const showWaiting = () => client.state !== "connected" && show(client.state);
+  const showWaiting = () => show(client.state, []);
   client.addEventListener("state", showWaiting);
   showWaiting();
-  await client.connected();
+  const shared = await client.open(DOC, { create: [{ insert: "\n" }] });
   client.removeEventListener("state", showWaiting);
 
-  const shared = await client.open(DOC, { create: [{ insert: "\n" }] });
   const editor = editorIn(section, Quill);
   bind(editor, shared);
+  if (Quill === undefined) addHistory(section, shared);
+  const showDocument = () => {
+    const kept = shared.isSaved ? [] : [shared.isKept ? "kept here" : "not kept yet"];
+    show(shared.state, [`revision ${shared.revision}`, ...kept]);
+  };
   shared.addEventListener("trouble", ({ error }) => (stateLine.title = error.message));
-  shared.addEventListener("progress", () => show(shared.state, shared.revision));
-  show(shared.state, shared.revision);
+  shared.addEventListener("doubt", ({ delta }) => (stateLine.title = `perhaps lost: ${JSON.stringify(delta.ops)}`));
+  for (const name of ["progress", "state"]) shared.addEventListener(name, showDocument);
+  showDocument();
   return { client, editor, shared };
 }
 
 const Quill = await loadQuill();
 const sections = [...document.querySelectorAll("section")];
+const editors = [];
+for (const section of sections) {
+  // one after the other, so that each has its source again when the page is loaded again
+  try {
+    editors.push(await begin(section, Quill));
+  } catch (error) {
+    section.querySelector(".state").textContent = error.message;
+    throw error;
+  }
+}
 /** For the console, and for checks/editor.py. */
-globalThis.editors = await Promise.all(
-  sections.map((section) =>
-    begin(section, Quill).catch((error) => {
-      section.querySelector(".state").textContent = error.message;
-      throw error;
-    }),
-  ),
-);
+globalThis.editors = editors;

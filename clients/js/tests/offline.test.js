@@ -9,6 +9,7 @@ import { lock, takeSource } from "../sources.js";
 import { Browser } from "./browser.js";
 import { Draw } from "./draw.js";
 import { served, until } from "./fake.js";
+import { proxied } from "./proxy.js";
 
 /** A server with a document, a browser, and how its pages open that, until the test ends. */
 async function prepared(t, faults, ops = [{ insert: "Hello\n" }]) {
@@ -85,6 +86,18 @@ test("what was typed without a server is shown after a reload, and sent once the
   await until(() => again.revision === server.documents.newest("d"));
   assert.equal(textOf({ ops: newest() }), "Oh. Hello world!\n");
   assert.deepEqual(again.contents.ops, newest());
+});
+
+test("what isn't kept is opened once there is a server, however long that takes", async (t) => {
+  const { load, server } = await prepared(t);
+  const proxy = await proxied(t, { host: "127.0.0.1", port: 1 });
+  const { open } = await load(undefined, { ...proxy.address, timeout: 200 });
+  let isOpen = false;
+  const opening = open().then((document) => ((isOpen = true), document));
+  await new Promise((resolve) => setTimeout(resolve, 400));
+  assert.equal(isOpen, false);
+  proxy.upstream = server.address;
+  assert.equal(textOf((await opening).contents), "Hello\n");
 });
 
 test("an edit leaves once it is written with its number, and one write is made at a time", async (t) => {

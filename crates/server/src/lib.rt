@@ -44,6 +44,7 @@
 mod deltas;
 mod documents;
 mod ended;
+mod files;
 pub mod laws;
 mod program;
 mod standard;

@@ -4,18 +4,19 @@ ghost use Rattle.std.specs.Prelude.{◌≤◌};
 use crate::deltas::print_answer;
 use crate::documents::dump;
 use crate::ended::{Ended, LISTENING, tell};
+use crate::files::{disk_for, is_there, make_file, open_file, open_store, without};
 use crate::standard::{NULL_DEVICE, Standard};
 use crate::watching::{Alone, Front};
 use clap::error::ErrorKind;
 use disk::{FileDisk, Tried};
 use migration::Old;
-use recovery::{OpenFault, Pick, Shape, Store};
+use recovery::{Pick, Shape, Store};
 use refusal::Refusal;
 use server_threads::{serve_on, serve_streams};
 use session::Stream;
 use std::convert::AsStr;
 use std::env::Env;
-use std::fs::{self, File};
+use std::fs::File;
 use std::io::{self, Read, Write};
 use std::net::{Net, SocketAddr, TcpListener, TcpStream};
 use std::rt::Files;
@@ -111,7 +112,7 @@ fn invoke<
             listen: Some(address),
             every,
         } => {
-            let store = open(rt, path, Pick::Newer)?;
+            let store = open_store(rt, path, Pick::Newer)?;
             listen(rt, store, path, address, every, output, errors)
         }
         Invocation::Serve {
@@ -119,11 +120,11 @@ fn invoke<
             listen: None,
             every,
         } => {
-            let store = open(rt, path, Pick::Newer)?;
+            let store = open_store(rt, path, Pick::Newer)?;
             serve_alone(rt, store, path, every, input, output, errors)
         }
         Invocation::Dump { path, older } => {
-            let store = open(rt, path, pick_of(older))?;
+            let store = open_store(rt, path, pick_of(older))?;
             let mut stream = Stream::new(output);
             Ok(dump(rt.alloc(), store.state(), &mut stream)?)
         }
@@ -185,51 +186,6 @@ fn shape_of(given: ShapeOptions) -> Shape {
     }
 }
 
-// A file that is there is used as it is, a missing one is made.
-fn disk_for<'a, R: Files<File = File>>(
-    rt: &R,
-    path: &'a str,
-    shape: Shape,
-) -> Result<FileDisk, Ended<'a>> {
-    if is_there(rt, path)? {
-        return open_file(rt, path);
-    }
-    if !shape.is_in_range() {
-        return Err(Ended::Refused(Refusal::BadShape, None));
-    }
-    make_file(rt, path, shape.device_len())
-}
-
-fn is_there<'a, R: Files<File = File>>(rt: &R, path: &'a str) -> Result<bool, Ended<'a>> {
-    match fs::exists(rt, path) {
-        Ok(is_there) => Ok(is_there),
-        Err(reason) => Err(without(Tried::Opening, path, reason)),
-    }
-}
-
-fn open_file<'a, R: Files<File = File>>(rt: &R, path: &'a str) -> Result<FileDisk, Ended<'a>> {
-    match FileDisk::open(rt, path) {
-        Ok(disk) => Ok(disk),
-        Err(fault) => Err(without(fault.tried, path, fault.reason)),
-    }
-}
-
-fn make_file<'a, R: Files<File = File>>(
-    rt: &R,
-    path: &'a str,
-    len: u64,
-) -> Result<FileDisk, Ended<'a>> {
-    match FileDisk::create(rt, path, len) {
-        Ok(disk) => Ok(disk),
-        Err(fault) => Err(without(fault.tried, path, fault.reason)),
-    }
-}
-
-// A file can't be had.
-fn without(tried: Tried, path: &str, reason: io::Error) -> Ended<'_> {
-    Ended::fault(tried.name(), path, reason)
-}
-
 // Which milestone of a document its reading begins with.
 fn pick_of(older: bool) -> Pick {
     if older { Pick::Older } else { Pick::Newer }
@@ -288,18 +244,6 @@ fn bind<R: Net<Listener = TcpListener, Stream = TcpStream>>(
     let listener = TcpListener::bind(rt, address)?;
     let bound = listener.local_addr()?;
     Ok((listener, bound))
-}
-
-fn open<'a, R: Files<File = File> + AllocGlobal>(
-    rt: &R,
-    path: &'a str,
-    pick: Pick,
-) -> Result<Store<FileDisk>, Ended<'a>> {
-    let disk = open_file(rt, path)?;
-    match Store::open(rt.alloc(), disk, pick) {
-        Ok(store) => Ok(store),
-        Err(OpenFault { disk, refusal }) => Err(Ended::over(path, &disk, refusal)),
-    }
 }
 
 fn tell_end<E: Write>(ended: Ended<'_>, errors: &mut E) -> u8
