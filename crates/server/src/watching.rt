@@ -52,14 +52,30 @@ impl<'a, R: Wait, O: Write, E: Write> Front<'a, R, O, E> {
 
     /// Why the program ends, of which serving was answered so. A store that failed was told of at that moment.
     pub(crate) fn ended<'w>(self, address: &'w str, served: Result<(), Refusal>) -> Ended<'w> {
-        let told = self.told.into_inner();
-        if told.has_output_failed {
+        let Front {
+            rt: _,
+            path: _,
+            bound: _,
+            told,
+        } = self;
+        let Told {
+            output: _,
+            errors: _,
+            has_output_failed,
+            has_store_failed,
+            listener,
+        } = told.into_inner();
+        if has_output_failed {
             return Ended::Stream;
         }
-        match (served, told.listener) {
-            (Err(refusal), _) if !told.has_store_failed => Ended::Refused(refusal, None),
-            (_, Some(reason)) => Ended::fault(LISTENING, address, reason),
-            (_, None) => Ended::Refused(Refusal::Fault, None),
+        if let Err(refusal) = served {
+            if !has_store_failed {
+                return Ended::Refused(refusal, None);
+            }
+        }
+        match listener {
+            Some(reason) => Ended::fault(LISTENING, address, reason),
+            None => Ended::Refused(Refusal::Fault, None),
         }
     }
 }
