@@ -208,7 +208,8 @@ class Binding {
     if (reachesEnd && this.#addLineEnd()) this.#setRight(); // somebody took it away
     for (const { place, op } of this.#uploaded.splice(0)) {
       this.#places.delete(place);
-      this.#quill.updateContents(new this.#Delta().retain(place.index).push(op), "user");
+      const source = this.#quill.isEnabled?.() === false ? "api" : "user"; // one that is disabled takes nothing of its user
+      this.#quill.updateContents(new this.#Delta().retain(place.index).push(op), source);
     }
   }
 

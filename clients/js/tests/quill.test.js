@@ -244,4 +244,11 @@ test("a pasted image is uploaded, and its URL put in its place", async (t) => {
   await until(() => ann.troubles.length === 1);
   assert.deepEqual(ann.troubles, [["Error", [{ insert: { image: "data:," } }], false]]);
   areAlike(ann, bob);
+  ann.quill.press(0, { image: "data:,x" });
+  await until(() => uploads.length === 3);
+  ann.quill.enable(false); // the page lets nothing more be typed
+  uploads[2].resolve("/blobs/2.png");
+  await until(() => ann.document.contents.ops[0].insert.image === "/blobs/2.png");
+  await settled(ann, bob);
+  areAlike(ann, bob);
 });
