@@ -1,4 +1,4 @@
-use Rattle.std.proofs.Common.{◌≡◌, ℕ, List, drop, inr, sym, ap, subst, ◌∙◌}
+use Rattle.std.proofs.Common.{ℕ, List, drop, inr, sym, ap, subst, ◌∙◌}
 use Rattle.std.specs.Prelude.{Contains}
 use Rattle.flusher.specs.Holding.{store_of}
 use Rattle.turns.specs.Exchanging.{IsFirstLookedAt}
@@ -12,8 +12,9 @@ returns-in_default-clause-upkeep g c = upkeep_none tt c.args.flusher.now
 -- a job was handed out
 pub returns-in-Ok-Some-clause-looked_at : goal.returns-in-Ok-Some-clause-looked_at
 returns-in-Ok-Some-clause-looked_at g c =
+    let handed = rw c.in-Ok-Some.field-0-is at c.in-Ok-Some.ensures.some in
     subst (λ (l : List ℕ). IsFirstLookedAt c.args.self.now.every (store_of c.args.flusher.now) l (store_of c.job_of.new.flusher) c.send.new.self.queue.numbers)
-    (sym c.in-Some.ensures.first) (inr (inr (c.in-Ok-Some.job, c.in-Ok-Some.ensures.some)))
+    (sym c.in-Some.ensures.first) (inr (inr (c.in-Ok-Some.job, handed.0, handed.1)))
 
 pub returns-in-Ok-Some-clause-stays : goal.returns-in-Ok-Some-clause-stays
 returns-in-Ok-Some-clause-stays g c = record {
