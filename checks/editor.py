@@ -340,7 +340,8 @@ class Windows:
         """Ctrl+Z, after another's typing."""
         before = self.settle("typing")
         time.sleep(1.2)  # what is typed next is a step of its own
-        self.type(self.here, "mine ", place=1)
+        self.at(self.here).run("editors[0].editor.setSelection(1, 0)")
+        self.browser.command("Input.insertText", text="mine ")  # at once, so it is one step however slow the machine is
         self.type(self.there, "yours ", place=0)
         self.settle("typing in both")
         self.at(self.here).run("editors[0].editor.setSelection(0, 0)")
