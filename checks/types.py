@@ -27,6 +27,7 @@ STRICT = {"strict": True, "target": "es2022", "module": "node16", "moduleResolut
 
 GIVEN = """\
 import { connect, Client, RichDocument, RichdError } from "richd";
+import type { DocumentEvents, DocumentState, OpenOptions } from "richd";
 import { Delta } from "richd/delta";
 import { connect as connectOffline } from "richd/offline";
 import { bind } from "richd/quill";
@@ -48,6 +49,11 @@ RIGHT = [
     'const lasting = await connectOffline({ url: "ws://127.0.0.1:8080/" }); const isKept: boolean = lasting.isKept && letter.isKept;',
     'lasting.addEventListener("left", ({ doc, delta, error }) => console.log(doc, delta.ops, error.name)); isKept;',
     'letter.addEventListener("doubt", ({ delta, revision }) => letter.apply([{ retain: revision }, ...delta.ops]));',
+    'letter.addEventListener("state", ({ state }) => { const known: DocumentState = state; return known === "closed"; });',
+    'const lost = ({ delta, isFinal }: DocumentEvents["trouble"]) => isFinal || delta.ops; letter.addEventListener("trouble", lost);',
+    'const made: OpenOptions = { create: [{ insert: "a" }] }; await client.open("letter", made);',
+    'letter.addEventListener("progress", () => console.log(letter.revision, letter.isSaved, letter.history.canUndo));',
+    'letter.addEventListener("rebased", ({ from, to }) => console.log(to - from));',
     'for await (const { rev, ops } of client.follow("letter", 0)) console.log(rev + 1, ops.length);',
     'try { await letter.flush(); } catch (error) { if (error instanceof RichdError && error.name === "Closed") throw error; }',
 ]
@@ -66,6 +72,8 @@ WRONG = [
     (2339, 'letter.addEventListener("change", ({ error }) => console.log(error));'),
     (2540, 'letter.revision = 5;'),
     (2367, 'letter.addEventListener("trouble", ({ error }) => error.name === "TooFat");'),
+    (2367, 'letter.addEventListener("state", ({ state }) => state === "lost");'),
+    (2339, 'for await (const { revision } of client.follow("letter", 0)) console.log(revision);'),
     (2345, 'client.addEventListener("left", () => {});'),
     (2339, 'document.flush();'),
 ]

@@ -81,9 +81,10 @@ export async function startBridge({ host, port, listenHost = "127.0.0.1", listen
     }
   });
 
-  // A page of another origin may not connect: a browser would let it, and richd asks for no password.
+  // A page of another host may not connect: a browser would let it, and richd asks for no password. Its scheme is https where something
+  // before the bridge encrypts.
   /** @param {{ origin?: string, req: import("node:http").IncomingMessage }} asked */
-  const isOwnPage = ({ origin, req }) => origin === undefined || origin === `http://${req.headers.host}`;
+  const isOwnPage = ({ origin, req }) => origin === undefined || [`http://${req.headers.host}`, `https://${req.headers.host}`].includes(origin);
   const sockets = new WebSocketServer({ server, maxPayload: MOST_BYTES, verifyClient: isOwnPage });
   sockets.on("connection", (/** @type {any} */ webSocket) => {
     const session = net.connect({ host, port, noDelay: true });

@@ -37,6 +37,14 @@ const NEVER = { timeout: Infinity }; // an edit is sent until it is answered
  * @property {import("./keeping.js").Keeper} [keeper]  keeps what isn't on the server's disk yet; `richd/offline` gives one
  */
 
+/**
+ * The events of a document, by their names.
+ * @typedef {{
+ *   change: ChangeEvent, trouble: TroubleEvent, doubt: DoubtEvent, unkept: UnkeptEvent, rebased: RebasedEvent,
+ *   state: StateEvent<DocumentState>, progress: Event
+ * }} DocumentEvents
+ */
+
 /** @returns {Promise<typeof OwnDelta>} */
 async function deltaClass() {
   const { Quill } = /** @type {any} */ (globalThis);
@@ -96,8 +104,7 @@ async function fetchCreated(client, name, ops) {
  * `base` is the document at `revision`. What is shown is `base`, with `sent` behind it, and `typed` behind that. News that comes while
  * `sent` has no answer is held until it has one: only then is it known which revision is its own.
  *
- * @extends {Emitter<{ change: ChangeEvent, trouble: TroubleEvent, doubt: DoubtEvent, unkept: UnkeptEvent, rebased: RebasedEvent,
- *   state: StateEvent<DocumentState>, progress: Event }>}
+ * @extends {Emitter<DocumentEvents>}
  */
 export class RichDocument extends Emitter {
   /** @type {import("./richd.js").Client} */

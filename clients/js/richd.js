@@ -21,6 +21,9 @@ const MOST_DOCS = 1_000; // of which something is kept though nothing is asked; 
 /**
  * @typedef {import("./delta.js").Op} Op
  * @typedef {import("./limits.js").Limits} Limits
+ * @typedef {import("./document.js").DocumentState} DocumentState
+ * @typedef {import("./document.js").DocumentEvents} DocumentEvents
+ * @typedef {import("./document.js").OpenOptions} OpenOptions
  *
  * @typedef {"connected" | "offline" | "full" | "closed"} ClientState  "full" is "offline" where the server has no place
  *
@@ -172,6 +175,7 @@ export class Client extends Emitter {
    * @param {string} doc
    * @param {number} fromRev
    * @param {{ signal?: AbortSignal }} [options]  the signal ends it with its reason
+   * @returns {AsyncGenerator<{ rev: number, ops: Op[] }, void, void>}
    */
   follow(doc, fromRev, options) {
     return follow(this, doc, fromRev, options?.signal);

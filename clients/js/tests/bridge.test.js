@@ -55,8 +55,12 @@ test("a page of another origin may not connect", async (t) => {
       webSocket.on("error", () => resolve(false));
       t.after(() => webSocket.terminate());
     });
+  const origin = new URL(bridge.url).origin;
   assert.equal(await opened("http://elsewhere.example"), false);
-  assert.equal(await opened(bridge.url.slice(0, -1)), true);
+  assert.equal(await opened("https://elsewhere.example"), false);
+  assert.equal(await opened("null"), false);
+  assert.equal(await opened(origin), true);
+  assert.equal(await opened(origin.replace("http:", "https:")), true); // behind something that encrypts
 });
 
 /** The status and the content of a path, which is sent as it is. */

@@ -5,16 +5,9 @@
  * `base` is the document at `revision`. What is shown is `base`, with `sent` behind it, and `typed` behind that. News that comes while
  * `sent` has no answer is held until it has one: only then is it known which revision is its own.
  *
- * @extends {Emitter<{ change: ChangeEvent, trouble: TroubleEvent, doubt: DoubtEvent, unkept: UnkeptEvent, rebased: RebasedEvent,
- *   state: StateEvent<DocumentState>, progress: Event }>}
+ * @extends {Emitter<DocumentEvents>}
  */
-export class RichDocument extends Emitter<{
-    change: ChangeEvent;
-    trouble: TroubleEvent;
-    doubt: DoubtEvent;
-    unkept: UnkeptEvent;
-    rebased: RebasedEvent;
-}> {
+export class RichDocument extends Emitter<DocumentEvents> {
     /**
      * @param {import("./richd.js").Client} client
      * @param {string} name
@@ -113,11 +106,24 @@ export type OpenOptions = {
      */
     keeper?: import("./keeping.js").Keeper | undefined;
 };
+/**
+ * The events of a document, by their names.
+ */
+export type DocumentEvents = {
+    change: ChangeEvent;
+    trouble: TroubleEvent;
+    doubt: DoubtEvent;
+    unkept: UnkeptEvent;
+    rebased: RebasedEvent;
+    state: StateEvent<DocumentState>;
+    progress: Event;
+};
+import { Emitter } from "./emitter.js";
+import { Delta as OwnDelta } from "./delta.js";
+import { History } from "./history.js";
 import { ChangeEvent } from "./events.js";
 import { TroubleEvent } from "./events.js";
 import { DoubtEvent } from "./events.js";
 import { UnkeptEvent } from "./events.js";
 import { RebasedEvent } from "./events.js";
-import { Emitter } from "./emitter.js";
-import { Delta as OwnDelta } from "./delta.js";
-import { History } from "./history.js";
+import { StateEvent } from "./events.js";

@@ -1,6 +1,9 @@
 /**
  * @typedef {import("./delta.js").Op} Op
  * @typedef {import("./limits.js").Limits} Limits
+ * @typedef {import("./document.js").DocumentState} DocumentState
+ * @typedef {import("./document.js").DocumentEvents} DocumentEvents
+ * @typedef {import("./document.js").OpenOptions} OpenOptions
  *
  * @typedef {"connected" | "offline" | "full" | "closed"} ClientState  "full" is "offline" where the server has no place
  *
@@ -103,10 +106,14 @@ export class Client<More extends {
      * @param {string} doc
      * @param {number} fromRev
      * @param {{ signal?: AbortSignal }} [options]  the signal ends it with its reason
+     * @returns {AsyncGenerator<{ rev: number, ops: Op[] }, void, void>}
      */
     follow(doc: string, fromRev: number, options?: {
         signal?: AbortSignal | undefined;
-    } | undefined): any;
+    } | undefined): AsyncGenerator<{
+        rev: number;
+        ops: Op[];
+    }, void, void>;
     /**
      * Calls a follower for each revision above its own, as `follow` gives it. Returns what ends that.
      * @param {string} doc
@@ -125,6 +132,9 @@ export class Client<More extends {
 }
 export type Op = import("./delta.js").Op;
 export type Limits = import("./limits.js").Limits;
+export type DocumentState = import("./document.js").DocumentState;
+export type DocumentEvents = import("./document.js").DocumentEvents;
+export type OpenOptions = import("./document.js").OpenOptions;
 /**
  * "full" is "offline" where the server has no place
  */

@@ -91,9 +91,12 @@ class Draft(Follower):
 
     def apply(self, ops: Delta) -> None:
         """Types something: changes the contents now, and the document on the server as soon as can be. Raises ValueError where it
-        reaches past the end, or parts a character of two units."""
+        reaches past the end, parts a character of two units, or has something that neither inserts, retains nor deletes."""
         if self._failure is not None:
             raise self._failure
+        for operation in ops:
+            if not {"insert", "retain", "delete"}.intersection(operation):
+                raise ValueError(f"{operation!r} is no operation")
         if delta.before(ops) > delta.after(self._contents):
             raise ValueError("it reaches past the end of the document")
         messages.spelled({"ops": ops})  # raises where it can't be sent

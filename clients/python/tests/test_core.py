@@ -796,7 +796,7 @@ class Drafts(CoreTest):
         self.assertEqual(taken, 3)
 
     def test_what_reaches_past_the_end_changes_nothing(self):
-        for ops in ([{"retain": 12}, {"insert": "x"}], [{"delete": 12}], [{"insert": "\udc00"}]):
+        for ops in ([{"retain": 12}, {"insert": "x"}], [{"delete": 12}], [{"insert": "\udc00"}], [{"retain": 5}, {"inserted": "x"}]):
             with self.assertRaises(ValueError):
                 self.draft.apply(ops)
         self.assertEqual(self.draft.text, "Hello world")
