@@ -1,3 +1,4 @@
+mod Crossing
 mod Fronts
 mod Dumps
 mod Worked

@@ -1,0 +1,8 @@
+use denote.Exit.{yes}
+use denote.Param.Send.{param_send, arg_send}
+use Rattle.server.proofs.Crossing.{device_send}
+use Rattle.server.proofs.program.listen.Goals as goal
+
+-- the store's device goes to the thread that writes
+pub serve_on-store-requires-send-D : goal.serve_on-store-requires-send-D
+serve_on-store-requires-send-D g c κs within = param_send 2 _ (arg_send _ yes _ device_send)
