@@ -34,7 +34,7 @@ def table(rows):
         lines.append(f"| {name} | {cell(proof)} | {cell(tests)} | {cell(edits)}{f' ({count})' if count else ''} |")
     sums = [sum(row[1][at] for row in rows) for at in range(3)]
     every = len(list(TOP.glob("crates/*/must-fail/*.edit")))
-    lines.append(f"| **all: {sum(sums):.0f}** | {sums[0]:.0f} | {sums[1]:.0f} | {sums[2]:.0f} ({every}) |")
+    lines.append(f"| **all: {sum(sums):.0f}** | {cell(sums[0])} | {cell(sums[1])} | {cell(sums[2])} ({every}) |")
     return "\n".join(lines) + "\n"
 
 
