@@ -5,4 +5,4 @@ use Rattle.server_threads_tests.proofs.tests.many.eight_write_into_a_file.Goals 
 
 -- the store's device goes to the thread that writes
 pub eight_write-requires-send-D : goal.eight_write-requires-send-D
-eight_write-requires-send-D g c κs within = param_send 1 _ (arg_send _ yes _ device_send)
+eight_write-requires-send-D g c κs = param_send 1 _ (arg_send _ yes _ device_send)
