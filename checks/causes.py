@@ -57,7 +57,8 @@ def refused(words, what, reason, **how):
 
 def commands(path):
     """Each command that opens a store that is there."""
-    return [["format", path], ["dump", path], ["serve", path], ["serve", path, "--listen", "127.0.0.1:0"], ["migrate", path, fresh()]]
+    serves = [["serve", path], ["serve", path, "--listen", "127.0.0.1:0"]]
+    return [["format", path], ["dump", path], *serves, ["migrate", path, fresh()], ["copy", path, fresh()]]
 
 
 def fresh():
@@ -130,6 +131,7 @@ def one_line():
         file.write(bytes(4096))
     rows = [(["format", store], b"error 31 AlreadyFormatted\n"), (["dump", empty], b"error 30 NotFormatted\n")]
     rows += [(["dump", old], b"error 38 OldFormat\n"), (["format", fresh(), "--slots", "1"], b"error 33 BadShape\n")]
+    rows += [(["copy", old, fresh()], b"error 38 OldFormat\n"), (["copy", store, fresh(), "--docs", "1"], b"error 33 BadShape\n")]
     rows += [(["migrate", store, fresh()], b"error 39 NotOldFormat\n"), (["delta", "compose", "x", "y"], b"error 1 BadLine\n")]
     for words, wanted in rows:
         done = run(*words)

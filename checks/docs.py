@@ -7,8 +7,12 @@ usage: checks/docs.py     in any folder; it prints a line for each finding, and 
   broken, and with what the head imports.
 - What README.md and the files of docs/ quote as code exists: one file has all words of a name as State::plan, and a path is that of a file.
 - Each `old:` of an edit stands once in its file, as the pairs before it leave that.
-- docs/PROMISES.md names each edit, and its column of edits names no other: as EDIT, or as CRATE/EDIT where two crates have the name.
-- The files that docs/PROMISES.md says to read have so many lines, and together so many hundreds.
+- docs/CONTRACTS.md is what checks/contracts.py writes, and so names each edit beside the function that it changes.
+- Where docs/PROMISES.md names clauses behind a function, as `Store::commit` (`committed`, `done`), one function or type of that name has them all.
+- The files that docs/PROMISES.md says to read in an hour and in an afternoon have so many lines, and so many together.
+- docs/TESTS.md has as many tests, crates of tests, rows, wrong bodies and calls of scripts as there are, and names each script of checks/.
+- A link of these pages leads to a file, and to a heading of it.
+- Each public function, type and trait of the crates has a comment.
 - crates.txt lists each crate, behind those that it stands on.
 
 What is quoted and is neither a name nor a path (a line of JSON, a command line, a formula) isn't looked at.
@@ -16,6 +20,9 @@ What is quoted and is neither a name nor a path (a line of JSON, a command line,
 import pathlib
 import re
 import sys
+
+import contracts
+from sources import functions_of
 
 TOP = pathlib.Path(__file__).resolve().parent.parent
 CRATES = TOP / "crates"
@@ -65,20 +72,35 @@ def check_edits():
                 text = text.replace(old, value)
 
 
-def check_named_edits():
+def check_contracts():
+    if not contracts.is_up_to_date():
+        find(contracts.PAGE, "it isn't up to date: run checks/contracts.py")
+
+
+# What has names of its own, beside what it belongs to: functions their clauses, types and records what they keep, files of laws their laws.
+def named_parts():
+    for path in files(CRATES, ".rt"):
+        for it in functions_of(path):
+            yield it.owner, it.name, {*re.findall(r"(?:requires|ensures) (\w+) \{", it.head)}
+        for name, _, _, kept in contracts.types_of(path):
+            yield None, name, {*kept}
+        if path.name == "laws.rt":
+            yield path.parts[-3], "laws", {it.name for it in functions_of(path)}
+    for path in files(CRATES, ".antt"):
+        for name, fields in re.findall(r"^ *pub record (\w+)[^\n]*\n((?:^ +pub \w+ :.*\n(?:^ {6,}.*\n)*)+)", path.read_text(), re.M):
+            yield None, name, {*re.findall(r"^ +pub (\w+) :", fields, re.M)}
+
+
+# What stands behind a name and begins with a capital is a definition, and no clause.
+def check_clauses():
     document = TOP / "docs/PROMISES.md"
-    edits = sorted(CRATES.glob("*/must-fail/*.edit"))
-    names = [it.stem for it in edits]
-    named = {it.stem if names.count(it.stem) == 1 else f"{it.parent.parent.name}/{it.stem}": it for it in edits}
-    for name, edit in named.items():
-        if f"`{name}`" not in document.read_text():
-            find(edit, f"docs/PROMISES.md doesn't name it as `{name}`")
-    in_table = False
-    for line in document.read_text().splitlines():
-        in_table = line.endswith("| Edits |") or in_table and line.startswith("|")
-        for name in re.findall(r"`([^`]+)`", line.split("|")[-2]) if in_table else []:
-            if name not in named:
-                find(document, f"there is no edit `{name}`")
+    parts = [*named_parts()]
+    for quoted, behind in re.findall(r"`([\w:]+)` \(((?:`\w+`(?:, )?)+)\)", document.read_text()):
+        *owner, name = quoted.split("::")
+        wanted = {it for it in re.findall(r"\w+", behind) if it[0].islower()}
+        is_module = owner and owner[-1][0].islower() and name != "laws"
+        if not any(name == there and wanted <= has and (not owner or is_module or owner[-1] == of) for of, there, has in parts):
+            find(document, f"no `{quoted}` has the clauses {', '.join(sorted(wanted))}")
 
 
 # Each name that a text imports, with its whole path.
@@ -140,7 +162,7 @@ def check_quoted():
     sources = files(CRATES, ".rt", ".antt", ".edit")
     words = ELSEWHERE | {it.stem for it in sources} | {it.name for it in [*CRATES.iterdir(), *TOP.iterdir()]}
     together = [words]
-    for path in [*sources, *files(TOP / "bench", ".py"), *files(TOP / "examples", ".py", ".mjs")]:
+    for path in [*sources, *files(TOP / "bench", ".py"), *files(TOP / "examples", ".py", ".mjs"), *files(TOP / "gateway", ".js")]:
         together.append({*re.findall(r"\w+", path.read_text()), *path.with_suffix("").parts})
         words = words | together[-1]
     paths = [it.relative_to(TOP).as_posix() for it in TOP.rglob("*") if not {"out", ".git"} & set(it.parts)]
@@ -159,32 +181,78 @@ def check_quoted():
                     find(document, f"there is no `{quoted}`")
 
 
-# A file without its crate stands in the folder, or in the crate, of the file before it.
+# A file without its crate stands in the folder, or in the crate, of the file before it. The paragraph above a table says how many lines it has
+# together: in tens, or in hundreds where they are more than a thousand.
 def check_lengths():
     document = TOP / "docs/PROMISES.md"
-    text = document.read_text()
-    together = 0
-    for names, counts in re.findall(r"^\| (\w+/[\w/., ]+) \| ([\d, ]+) \|", text, re.M):
-        folder = CRATES
-        for name, count in zip(names.split(", "), counts.split(", "), strict=True):
-            path = next((it for it in (CRATES / name, folder / name, folder.parent / name) if it.is_file()), None)
-            if path is None:
-                find(document, f"there is no file {name}")
-                continue
-            folder = path.parent
-            lines = len(path.read_text().splitlines())
-            together += lines
-            if lines != int(count):
-                find(document, f"{path.relative_to(CRATES)} has {lines} lines, and not {count}")
-    if f"{round(together, -2):,} lines" not in text:
-        find(document, f"the files to read have {together:,} lines")
+    for above, table in re.findall(r"^(.+)\n\n\| File under crates/ .*\n\|---.*\n((?:\|.*\n)+)", document.read_text(), re.M):
+        together = 0
+        for names, counts in re.findall(r"^\| (\w+/[\w/., ]+) \| ([\d, ]+) \|", table, re.M):
+            folder = CRATES
+            for name, count in zip(names.split(", "), counts.split(", "), strict=True):
+                path = next((it for it in (CRATES / name, folder / name, folder.parent / name) if it.is_file()), None)
+                if path is None:
+                    find(document, f"there is no file {name}")
+                    continue
+                folder = path.parent
+                lines = len(path.read_text().splitlines())
+                together += lines
+                if lines != int(count):
+                    find(document, f"{path.relative_to(CRATES)} has {lines} lines, and not {count}")
+        if f"{round(together, -2 if together > 1000 else -1):,} lines" not in above:
+            find(document, f"the files to read have {together:,} lines: {above[:40]}..")
+
+
+# What docs/TESTS.md counts of the gate.
+def check_counts():
+    document = TOP / "docs/TESTS.md"
+    tests = [it.read_text().count("#[test]") for crate in CRATES.glob("*_tests") for it in files(crate, ".rt")]
+    rows = [line for line in (CRATES / "rows/stdin").read_text().splitlines() if line and not line.startswith("#")]
+    calls = [int(it) for it in re.findall(r"^    calls: (\d+),", (CRATES / "hostile_tests/src/scripts.rt").read_text(), re.M)]
+    crates, edits = len([*CRATES.glob("*_tests")]), len([*CRATES.glob("*/must-fail/*.edit")])
+    count = f"{sum(tests)} tests in {crates} crates, {len(rows)} rows of deltas, {edits} wrong bodies"
+    for wanted in (count, f"scripts of {sum(calls)} calls"):
+        if wanted not in document.read_text():
+            find(document, f"this should stand there: {wanted}")
+    for script in sorted((TOP / "checks").glob("*.py")):
+        if f"usage: checks/{script.name}" in script.read_text() and script.name not in document.read_text():
+            find(script, "docs/TESTS.md doesn't name it")
+
+
+# A link within the repository leads to a file, and to a heading of it.
+def check_comments():
+    for path in sorted(CRATES.glob("*/src/**/*.rt")):
+        lines = path.read_text().splitlines()
+        for place, line in enumerate(lines):
+            told = re.match(r"\s*pub (?:fn|struct|enum|trait) (\w+)", line)
+            above = place - 1
+            while told and above >= 0 and lines[above].lstrip().startswith("#["):
+                above -= 1
+            if told and not lines[above].lstrip().startswith("///"):
+                find(path, f"{told[1]} has no comment")
+
+
+def check_links():
+    for document in [TOP / "README.md", *files(TOP / "docs", ".md")]:
+        for path, anchor in re.findall(r"\]\((?!\w+:)([^)#]*)(?:#([^)]*))?\)", document.read_text()):
+            target = document.parent / path if path else document
+            if not target.exists():
+                find(document, f"there is no file {path}")
+            elif anchor:
+                headings = re.findall(r"^#+ (.*)$", target.read_text(), re.M)
+                if anchor not in {re.sub(r"[^\w -]", "", it.lower()).replace(" ", "-") for it in headings}:
+                    find(document, f"{path} has no heading #{anchor}")
 
 
 check_order()
 check_edits()
-check_named_edits()
+check_contracts()
+check_clauses()
 check_callers()
 check_quoted()
 check_lengths()
+check_counts()
+check_comments()
+check_links()
 print("\n".join(findings) or "All of it agrees.")
 sys.exit(1 if findings else 0)

@@ -17,19 +17,16 @@ in editors.png in the temporary folder of the system, and one of each further st
 The editors are those of the page's own, or Quill where FOLDER has its quill.js and quill.snow.css. At the beginning Ctrl+Z is pressed in the
 second before it has typed anything, which has to leave alone what the first typed.
 
-It wants Debian's chromium, chromium-driver, nodejs and node-ws, and the program that ./demo builds, or another that RICHD names. Where there
-is no Chromium it says so, and its status is 0.
+It wants Debian's chromium, nodejs and node-ws, and the program that ./demo builds, or another that RICHD names. Where there is no Chromium it
+says so, and its status is 0.
 """
 import argparse
-import base64
 import collections
-import http.client
 import json
 import os
 import pathlib
 import random
 import re
-import shutil
 import signal
 import socket
 import subprocess
@@ -38,11 +35,11 @@ import tempfile
 import threading
 import time
 
+from chromium import BACKSPACE, CONTROL, ENTER, IS_THERE, PATIENCE, Chromium
+
 ROOT = pathlib.Path(__file__).resolve().parent.parent
 RICHD = os.environ.get("RICHD") or str(ROOT / "crates/richd/out/richd")
 SECONDS = 10  # of typing
-PATIENCE = 120  # seconds, for whatever should come soon, on a busy machine too
-CONTROL, BACKSPACE, ENTER = "\ue009", "\ue003", "\ue007"
 IMAGE = "data:image/png;base64," + "A" * 90_000  # longer than a line may be
 
 # What they type; a star begins and ends what is bold.
@@ -101,71 +98,6 @@ def cut(one):
         one.shutdown(socket.SHUT_RDWR)
     except OSError:
         pass
-
-
-class Browser:
-    """A headless Chromium, by the calls of the WebDriver standard."""
-
-    def __init__(self):
-        self.driver = subprocess.Popen(["chromedriver", "--port=0"], stdout=subprocess.PIPE, text=True)
-        for line in self.driver.stdout:
-            if found := re.search(r"started successfully on port (\d+)", line):
-                break
-        self.connection = http.client.HTTPConnection("127.0.0.1", int(found[1]), timeout=PATIENCE)
-        self.base = "/session"
-        options = {"args": ["--headless=new", "--no-sandbox", "--disable-dev-shm-usage", "--window-size=1100,640"]}
-        try:
-            session = self.call("POST", "", {"capabilities": {"alwaysMatch": {"goog:chromeOptions": options}}})
-        except BaseException:
-            self.driver.terminate()
-            raise
-        self.base += "/" + session["sessionId"]
-
-    def call(self, method, path, body=None):
-        self.connection.request(method, self.base + path, None if body is None else json.dumps(body))
-        response = self.connection.getresponse()
-        value = json.load(response)["value"]
-        if response.status != 200:
-            raise RuntimeError(value["message"])
-        return value
-
-    def go_to(self, url):
-        self.call("POST", "/url", {"url": url})
-
-    def run(self, script, *arguments):
-        return self.call("POST", "/execute/sync", {"script": script, "args": arguments})
-
-    def press(self, *keys):
-        """Presses keys one after the other; a key of several characters is a chord."""
-        actions = []
-        for key in keys:
-            actions += [{"type": "keyDown", "value": one} for one in key] + [{"type": "keyUp", "value": one} for one in reversed(key)]
-        self.call("POST", "/actions", {"actions": [{"type": "key", "id": "keyboard", "actions": actions}]})
-
-    def command(self, name, **parameters):
-        """A command of the Chrome DevTools Protocol."""
-        return self.call("POST", "/goog/cdp/execute", {"cmd": name, "params": parameters})
-
-    def open_window(self, url):
-        """Opens another window, and gives the handles of both."""
-        first = self.call("GET", "/window")
-        second = self.call("POST", "/window/new", {"type": "window"})["handle"]
-        self.switch(second)
-        self.go_to(url)
-        return first, second
-
-    def switch(self, window):
-        self.call("POST", "/window", {"handle": window})
-
-    def screenshot(self):
-        return base64.b64decode(self.call("GET", "/screenshot"))
-
-    def close(self):
-        try:
-            self.call("DELETE", "")
-        finally:
-            self.driver.terminate()
-            self.driver.wait()
 
 
 def wait_until(holds, what):
@@ -310,7 +242,7 @@ class Windows:
         wait_until(lambda: "ABC " in self.text(self.here), "what others typed, while a character is composed")
         self.browser.command("Input.imeSetComposition", text="かな", selectionStart=2, selectionEnd=2)
         self.show(self.here, "composition")
-        self.at(self.here).command("Input.insertText", text="仮名")
+        self.at(self.here).type("仮名")
         wait_until(lambda: "仮名" in self.text(self.there), "what was composed")
         after = self.settle("a composition")
         self.expect(after == "ABC " + before[:3] + "仮名" + before[3:], "what was composed isn't in its place")
@@ -341,12 +273,12 @@ class Windows:
         before = self.settle("typing")
         time.sleep(1.2)  # what is typed next is a step of its own
         self.at(self.here).run("editors[0].editor.setSelection(1, 0)")
-        self.browser.command("Input.insertText", text="mine ")  # at once, so it is one step however slow the machine is
+        self.browser.type("MINE ")  # at once, so it is one step however slow the machine is
         self.type(self.there, "yours ", place=0)
         self.settle("typing in both")
         self.at(self.here).run("editors[0].editor.setSelection(0, 0)")
         self.browser.press(CONTROL + "z")
-        wait_until(lambda: "mine" not in self.text(self.here), "Ctrl+Z")
+        wait_until(lambda: "MINE" not in self.text(self.here), "Ctrl+Z")
         self.show(self.here, "undo")
         after = self.settle("Ctrl+Z")
         self.expect(after == "yours " + before, f"Ctrl+Z left {after[:20]}")
@@ -360,7 +292,7 @@ class Windows:
         self.type(self.there, "OFFLINE ")
         wait_until(lambda: self.at(self.there).run("return editors[0].shared.isKept"), "what was typed to be kept")
         self.show(self.there, "offline")
-        self.at(self.there).go_to(self.browser.call("GET", "/url"))
+        self.at(self.there).go_to(self.browser.run("return location.href"))
         wait_until(lambda: self.at(self.there).run("return globalThis.editors !== undefined"), "the page that was loaded again")
         self.expect(self.text(self.there) == "OFFLINE " + before, "what was typed isn't shown after a reload")
         self.expect(self.browser.run("return editors.map(({ client }) => client.source)") == sources, "the page has other sources after a reload")
@@ -376,8 +308,8 @@ class Windows:
 def main(picture, quill):
     if not os.access(RICHD, os.X_OK):
         sys.exit(f"{RICHD} isn't there: ./demo builds it, or name another program in RICHD")
-    if shutil.which("chromium") is None or shutil.which("chromedriver") is None:
-        print("skipped: there is no Chromium, Debian's chromium and chromium-driver")
+    if not IS_THERE:
+        print("skipped: there is no Chromium, Debian's chromium")
         return 0
     failed = []
     with tempfile.TemporaryDirectory() as folder:
@@ -387,15 +319,15 @@ def main(picture, quill):
         try:
             host, port = re.search(r"http://(.+):(\d+)/", served.stdout.readline()).groups()
             proxy = Proxy((host, int(port)))
-            browser = Browser()
+            browser = Chromium()
             try:
-                browser.go_to(f"http://{proxy.address}/")
+                here = browser.open_window(f"http://{proxy.address}/")
                 ann, bob = write_together(browser, proxy)
                 pathlib.Path(picture).write_bytes(browser.screenshot())
                 text = text_of(contents(browser)[0]["shared"])
                 if collections.Counter(text) != ann.typed + bob.typed + collections.Counter("\n\n"):
                     failed.append("what was typed isn't there once")
-                here, there = browser.open_window(f"http://{proxy.address}/")
+                there = browser.open_window(f"http://{proxy.address}/")
                 wait_until(lambda: browser.run("return globalThis.editors !== undefined"), "the second window's editors")
                 windows = Windows(browser, proxy, here, there, picture)
                 for befalls in (windows.compose, windows.paste_image, windows.take_back, windows.outlive):

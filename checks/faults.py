@@ -3,7 +3,7 @@
 
 usage: checks/faults.py [MOST] [RUNS]     (default: each call of each row fails; as many runs at once as there are processors)
 
-A row is what is run: `format`, `dump`, `migrate`, the scripts of scripts.py over standard input, three sessions at once over TCP. The first,
+A row is what is run: `format`, `dump`, `migrate`, `copy`, the scripts of scripts.py over standard input, three sessions at once over TCP. The first,
 second, .. call of a kind fails, until a run doesn't come so far; with MOST, so many of them, evenly spread. A write that fails has
 written nothing, half of it, or all. What then has to come: a program that opens the store ends with `error 34 Fault`, status 1, and has
 written nothing; a command is answered by StoreFailed (21), as is each later one, `error 34 Fault` is told once, the session ends with

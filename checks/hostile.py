@@ -21,7 +21,7 @@ sys.path.insert(0, str(Path(__file__).resolve().parent.parent / "clients/python"
 
 import richd
 from richd.link import TcpLink
-from richd.messages import edit, fetch, spelled, subscribe
+from richd.messages import edit, fetch, since, spelled, subscribe
 from richd.program import Server, format_store
 
 PLACES = 64
@@ -31,6 +31,8 @@ HELLO = b'{"do":"hello","source":"s"}\n'
 GREETING = b'{"ok":"hello"}\n'
 BAD_LINE = b'{"code":1,"error":"BadLine"}\n'
 LINE_TOO_LONG = b'{"code":23,"error":"LineTooLong"}\n'
+SLOW = 16  # peers that read a long reply slowly
+SLOW_MOST = 1 << 20  # bytes of memory for each of them
 TOO_MANY_OPS = b'{"code":4,"error":"TooManyOps"}\n'
 
 
@@ -241,6 +243,34 @@ def never_reads_news():
             pass
 
 
+def slow_readers():
+    """16 peers that each ask for all that is held of a document's past, 12 MB, and read slowly: the server's memory grows by no more than
+    SLOW_MOST for each. One of them then reads the whole reply, which has each change as it was sent."""
+    text, rounds = "€" * 20_000, 200
+    with server.connect("past", timeout=PATIENCE) as writer:
+        assert writer.create("past", []) == richd.Taken(1)
+        for number in range(1, 2 * rounds + 1):
+            ops = [{"insert": text}] if number % 2 else [{"delete": len(text)}]
+            assert writer.edit("past", ops, number) == richd.Taken(number + 1)
+    insert, delete = b'[{"insert":"' + text.encode() + b'"}]', b'[{"delete":20000}]'
+    wanted = b'{"deltas":[' + b",".join([b"[]"] + [insert, delete] * rounds) + b'],"doc":"past","ok":"since","rev":%d}\n' % (2 * rounds + 1)
+    streams, before, most, part = [session_soon() for _ in range(SLOW)], memory("VmRSS"), 0, 20_000
+    for stream in streams:
+        stream.send(spelled(since("past", 0)))
+    for read in range(30):
+        for stream in streams:
+            assert read_up_to(stream, part) == wanted[read * part : (read + 1) * part]
+        most = max(most, memory("VmRSS") - before)
+        time.sleep(0.1)
+    assert most <= SLOW * SLOW_MOST, f"{most >> 10} KiB more for {SLOW} replies of {len(wanted) >> 10} KiB"
+    assert read_up_to(streams[0], len(wanted) - 30 * part) == wanted[30 * part :]
+    most = max(most, memory("VmRSS") - before)
+    for stream in streams:
+        stream.close()
+    time.sleep(1)
+    print(f"        {SLOW} replies of {len(wanted) >> 10} KiB: at most {most >> 10} KiB more, {(memory('VmRSS') - before) >> 10} KiB afterwards")
+
+
 def dear_lines():
     """64 sessions at once whose lines take the most memory to be read: small values, as many as a line holds."""
     line = b'{"do":"create","doc":"dear","n":1,"ops":[' + b",".join([b"[]"] * 21_000) + b"]}\n"
@@ -302,6 +332,7 @@ rows = [
     never_reads,
     never_reads_news,
     dear_lines,
+    slow_readers,
     stopped_server,
     news_in_time,
 ]

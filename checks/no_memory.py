@@ -3,7 +3,7 @@
 
 usage: checks/no_memory.py [MOST] [RUNS]     (default: each request of each row is refused; as many runs at once as there are processors)
 
-A row is what is run: `format`, `dump`, `migrate`, `delta`, the scripts of scripts.py over standard input, three sessions at once over TCP. The first,
+A row is what is run: `format`, `dump`, `migrate`, `copy`, `delta`, the scripts of scripts.py over standard input, three sessions at once over TCP. The first,
 second, .. request for memory is refused, and then the first, second, .. for a thread, until a run doesn't come so far; with MOST, so many of
 them, evenly spread. What then has to come: an answer is the undisturbed run's or NoMemory (22), and after that the same line is asked again;
 a program that ends says `error 22 NoMemory`, its status is 1, and the store is as a stop leaves it, after a refused start unchanged; no

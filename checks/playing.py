@@ -1,4 +1,4 @@
-"""The rows that no_memory.py and faults.py both play: `format`, `dump`, `migrate`, the scripts of scripts.py, three sessions at once."""
+"""The rows that no_memory.py and faults.py both play: `format`, `dump`, `migrate`, `copy`, the scripts of scripts.py, three sessions at once."""
 import functools
 import os
 import shutil
@@ -46,13 +46,14 @@ def dump_store(refusal, script):
         agree(content_of(refusal.store) == before, f"`dump --pick {pick}` changed the file")
 
 
-def migrate_store(refusal, script, there):
-    """`migrate` of what a script leaves, in the first format, to a file that is missing, or is there and holds nothing."""
-    old, wanted, words = refusal.store + ".old", refusal.store + ".wanted", ["migrate", refusal.store + ".old", refusal.store]
-    content = in_first_format(content_of(script.left))
+def move_store(refusal, script, there, command, is_old=False, options=()):
+    """`migrate` or `copy` of what a script leaves, to a file that is missing, or is there and holds nothing. `migrate` wants the first format."""
+    old, wanted = refusal.store + ".old", refusal.store + ".wanted"
+    words = [command, old, refusal.store, *options]
+    content = in_first_format(content_of(script.left)) if is_old else content_of(script.left)
     with open(old, "wb") as file:
         file.write(content)
-    undisturbed("migrate", old, wanted)
+    undisturbed(command, old, wanted, *options)
     if there:
         with open(refusal.store, "wb") as file:
             file.write(bytes(os.path.getsize(wanted)))
@@ -63,13 +64,15 @@ def migrate_store(refusal, script, there):
         ended = refusal.run(words)
     if refusal.is_of_the_file() and refusal.has_shown and ended == ALREADY_FORMATTED:
         ended = DONE  # its last call failed, and did what it should
-    agree(ended == DONE, f"`migrate` gives {ended}")
-    agree(content_of(old) == content, "`migrate` changed the old file")
+    agree(ended == DONE, f"`{command}` gives {ended}")
+    agree(content_of(old) == content, f"`{command}` changed the old file")
     agree(content_of(refusal.store) == content_of(wanted), "the file isn't the one that the undisturbed run makes")
     for pick in ("newer", "older"):
         agree(dumped(refusal.store, pick) == script.ends, f"by the {pick} pick it holds {dumped(refusal.store, pick)}")
 
 
+migrate_store = functools.partial(move_store, command="migrate", is_old=True)
+copy_store = functools.partial(move_store, command="copy", options=["--slots", "4"])
 OLD = [script for script in SCRIPTS if not script.has_deletions]  # the first format has no deletions
 FILES = [
     ("format of a small store", functools.partial(format_store, options=S, there=False)),
@@ -78,6 +81,8 @@ FILES = [
     *((f"dump of {script.name}", functools.partial(dump_store, script=script)) for script in SCRIPTS),
     *((f"migration of {script.name}", functools.partial(migrate_store, script=script, there=False)) for script in OLD),
     ("migration to a file that is there", functools.partial(migrate_store, script=SCRIPTS[0], there=True)),
+    *((f"copy of {script.name}", functools.partial(copy_store, script=script, there=False)) for script in SCRIPTS),
+    ("copy to a file that is there", functools.partial(copy_store, script=SCRIPTS[0], there=True)),
 ]
 SESSIONS = [
     *((script.name, functools.partial(play, script=script)) for script in SCRIPTS),

@@ -122,6 +122,13 @@ ROWS = [
         0,
     ),
     (
+        "a creation that is settled, sent again before and between edits",
+        DEEP,
+        b"".join([HELLO, CREATE, FETCH])
+        + b"".join(CREATE + edit(n, n - 1, {"insert": "a"}) + CREATE + edit(n + 1, n, {"insert": "b"}) + FETCH for n in range(2, 16, 2)),
+        0,
+    ),
+    (
         "65 older revisions, and the first again",
         DEEP,
         b"".join([HELLO, CREATE] + [edit(n, n - 1, {"insert": "a"}) for n in range(2, 67)] + [fetch(r) for r in [*range(1, 66), 1]]),

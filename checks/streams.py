@@ -4,7 +4,7 @@
 usage: checks/streams.py
 
 A file that a program opens gets the lowest number that is free. So a store that is opened while standard input, output or the errors' stream is
-closed could get its number, and what the program prints would stand over the store. A row is a command: `format`, `dump`, `migrate`, `delta`,
+closed could get its number, and what the program prints would stand over the store. A row is a command: `format`, `dump`, `migrate`, `copy`, `delta`,
 `serve` over standard input and with `--listen`. Over each subset of the three streams:
 
 - the store holds what it holds where none is closed, byte for byte where the command only reads;
@@ -133,11 +133,15 @@ def makes(*words):
     """A command that makes a store."""
 
     def play(folder, closed, variables=None):
+        def over(new):
+            paths = {"OLD": folder.old, "STORE": folder.store, "NEW": new}
+            return [paths.get(word, word) for word in words]
+
         before = content_of(folder.old)
-        ended = run([folder.old if word == "OLD" else folder.new if word == "NEW" else word for word in words], closed, variables=variables)
+        ended = run(over(folder.new), closed, variables=variables)
         agree(content_of(folder.old) == before, "the old store's bytes have changed")
         if variables is None:
-            ends_as(ended, closed, run([folder.old if word == "OLD" else folder.wanted if word == "NEW" else word for word in words], ()))
+            ends_as(ended, closed, run(over(folder.wanted), ()))
             agree(content_of(folder.new) == content_of(folder.wanted), "the new store isn't what it should be")
         else:
             agree(not os.path.exists(folder.new), "a file was made")
@@ -226,6 +230,7 @@ ROWS = {
     "dump": reads("dump", "STORE"),
     "dump by the older pick": reads("dump", "STORE", "--pick", "older"),
     "migrate": makes("migrate", "OLD", "NEW"),
+    "copy": makes("copy", "STORE", "NEW"),
     "delta": reads("delta", "compose", '{"ops":[{"insert":"abc"}]}', '{"ops":[{"retain":1},{"delete":1}]}'),
     "serve over standard input": serve_alone,
     "serve --listen": serve_on,

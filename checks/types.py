@@ -27,7 +27,7 @@ STRICT = {"strict": True, "target": "es2022", "module": "node16", "moduleResolut
 
 GIVEN = """\
 import { connect, Client, RichDocument, RichdError } from "richd";
-import type { DocumentEvents, DocumentState, OpenOptions } from "richd";
+import type { DocumentEvents, DocumentState, OpenOptions, Other, Range } from "richd";
 import { Delta } from "richd/delta";
 import { connect as connectOffline } from "richd/offline";
 import { bind } from "richd/quill";
@@ -54,6 +54,12 @@ RIGHT = [
     'const made: OpenOptions = { create: [{ insert: "a" }] }; await client.open("letter", made);',
     'letter.addEventListener("progress", () => console.log(letter.revision, letter.isSaved, letter.history.canUndo));',
     'letter.addEventListener("rebased", ({ from, to }) => console.log(to - from));',
+    'letter.presence.set({ index: 5, length: 0 }); letter.presence.set(null);',
+    'for (const { id, user, range } of letter.presence.others) console.log(id.length, user.length, range.index + range.length);',
+    'letter.presence.addEventListener("change", ({ others }) => { const all: Other[] = others; return all.length; });',
+    'bind(quill, letter, { colorOf: (user) => (user === "ann" ? "red" : "blue") });',
+    'letter.addEventListener("trouble", ({ error }) => error.name === "NotAllowed" || error.name === "Replaced" || error.code === 60);',
+    'const places: Range = { index: 0, length: 2 }; letter.presence.set(places);',
     'for await (const { rev, ops } of client.follow("letter", 0)) console.log(rev + 1, ops.length);',
     'try { await letter.flush(); } catch (error) { if (error instanceof RichdError && error.name === "Closed") throw error; }',
 ]
@@ -73,6 +79,13 @@ WRONG = [
     (2540, 'letter.revision = 5;'),
     (2367, 'letter.addEventListener("trouble", ({ error }) => error.name === "TooFat");'),
     (2367, 'letter.addEventListener("state", ({ state }) => state === "lost");'),
+    (2345, 'letter.presence.set({ index: 5 });'),
+    (2345, 'letter.presence.set([5, 0]);'),
+    (2540, 'letter.presence.others = [];'),
+    (2339, 'letter.presence.addEventListener("change", ({ delta }) => console.log(delta));'),
+    (2345, 'letter.presence.addEventListener("cursor", () => {});'),
+    (2322, 'bind(quill, letter, { colorOf: () => 7 });'),
+    (2339, 'for (const { name } of letter.presence.others) console.log(name);'),
     (2339, 'for await (const { revision } of client.follow("letter", 0)) console.log(revision);'),
     (2345, 'client.addEventListener("left", () => {});'),
     (2339, 'document.flush();'),

@@ -15,59 +15,17 @@ it has to name the type too, or none of these types. A law is a function of a fi
 """
 import collections
 import functools
-import pathlib
 import re
 import sys
+
+from sources import CRATES, code, crate_of, functions_of, is_shown
 
 # What nobody calls, and why it is there.
 ALLOWED = {
     "Ticket::order": "tells who has a ticket where its command stands in the order",
     "Unsettled::shows": "its contract says what the token shows, as that of a law does",
+    "Hub::submit_all": "a session calls it through `Desk::ask_all`, a trait's method, by which no type is named",
 }
-
-CRATES = pathlib.Path(__file__).resolve().parent.parent / "crates"
-
-# a function in its file: the type or trait that it belongs to (or None), its name, its signature with its clauses, and its body
-Function = collections.namedtuple("Function", "path owner name head body")
-
-HEAD = re.compile(r"( *)(?:pub(?:\(\w+\))? )?(?:const )?(?:final )?fn (\w+)")
-
-
-# The type of an `impl`, or the trait: what its first line names once all in <> is dropped.
-def owner_of(text):
-    while re.search(r"<[^<>]*>", text):
-        text = re.sub(r"<[^<>]*>", "", text)
-    return re.sub(r".* for |.*(?:impl|trait) ", "", re.split(r" (?:\{|where)|:(?!:)", text)[0]).split("::")[-1].lstrip("&").strip()
-
-
-def functions_of(path):
-    lines = path.read_text().splitlines()
-    owner, at = None, 0
-    while at < len(lines):
-        if re.match(r"(pub )?(impl|trait)\b", lines[at]):
-            owner = owner_of(" ".join(lines[at:at + 8]).replace("->", ""))
-        head = HEAD.match(lines[at])
-        at += 1
-        if not head:
-            continue
-        indent, first, with_clauses = head[1], at - 1, False
-        last, depth = first, 0
-        while depth or lines[last] != indent + "{" and not lines[last].endswith((";", "{}")):
-            with_clauses = with_clauses or re.match(rf"{indent}    (ghost|requires|ensures)\b", lines[last])
-            if lines[last].endswith(" {") and not with_clauses:
-                break
-            if with_clauses:
-                depth += lines[last].count("{") - lines[last].count("}")
-            last += 1
-        at = last + 1
-        if lines[last].endswith("{"):
-            at = lines.index(indent + "}", last)
-        yield Function(path, owner if indent else None, head[2], "\n".join(lines[first:last + 1]), "\n".join(lines[last + 1:at]))
-
-
-# Code without comments and texts.
-def code(text):
-    return re.sub(r'"(?:\\.|[^"\\\n])*"', '""', re.sub(r"//.*", "", text))
 
 
 def may_want_memory(function):
@@ -113,19 +71,14 @@ def calls_in(path, text, owner):
                 yield function
 
 
-# What others can name: by a `pub use` of its crate, or in a `pub mod`.
+# What others can name.
 def is_public(function):
-    crate = CRATES / function.path.relative_to(CRATES).parts[0]
-    if not function.head.lstrip().startswith("pub fn"):
-        return False
-    shown = " ".join(re.findall(r"^pub use [^;]*;", "".join(texts[it] for it in paths if crate in it.parents), re.M))
-    is_module = re.search(rf"^pub mod {function.path.stem};", texts[crate / "src/lib.rt"], re.M)
-    return is_module or re.search(rf"\b{function.owner or function.name}\b", shown)
+    return function.head.lstrip().startswith("pub fn") and is_shown(function.path, function.owner or function.name)
 
 
 # The crates of tests, and the programs.
 def runs(path):
-    crate = CRATES / path.relative_to(CRATES).parts[0]
+    crate = crate_of(path)
     return crate.name.endswith("_tests") or (crate / "src/main.rt").exists()
 
 

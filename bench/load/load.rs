@@ -12,6 +12,7 @@
 //! | `--typing letters` or `rich` | letters | a letter put in and taken out again; or a bold one, with attributes set and removed around it |
 //! | `--observers N` | 0 | further sessions that follow the document of the first writer |
 //! | `--seconds S` | 3 | how long it is measured, after a second that doesn't count |
+//! | `--edits N` | | each writer makes so many edits, however long that takes; the rates that are printed mean nothing then |
 //!
 //! Documents have 8,192 letters at their creation. Each answer is checked as it comes: it is the next one due, and the revisions of a
 //! session rise. At the end the revisions of a document are 2, 3 and so on, each made by one edit; the document is read back at the last
@@ -88,11 +89,12 @@ impl Session {
         Ok(session)
     }
 
-    /// Sends edits until enough are on their way.
-    fn send(&mut self, system: &dyn System, ahead: usize) -> Result<(), String> {
+    /// Sends edits until enough are on their way, or all are sent that it is to make.
+    fn send(&mut self, system: &dyn System, options: &Options) -> Result<(), String> {
         let mut out = Vec::new();
         let now = Instant::now();
-        while self.due.len() < ahead {
+        let left = options.edits.map_or(usize::MAX, |edits| edits.saturating_sub(self.revisions.len()));
+        while self.due.len() < options.ahead.min(left) {
             self.number += 1;
             system.spell(&mut out, &self.document, self.number, self.revision, &self.typist.next());
             self.due.push_back((self.number, now));
@@ -137,7 +139,7 @@ fn run(options: &Options, system: &dyn System, sessions: &mut [Session]) -> Resu
     let begin = Instant::now() + options.unmeasured;
     let span = Span { begin, end: begin + options.measured };
     for session in sessions.iter_mut().filter(|session| !session.is_observer) {
-        session.send(system, options.ahead)?;
+        session.send(system, options)?;
     }
     let mut last = Instant::now();
     while sessions.iter().any(|session| !session.due.is_empty()) {
@@ -145,8 +147,8 @@ fn run(options: &Options, system: &dyn System, sessions: &mut [Session]) -> Resu
             let session = &mut sessions[place];
             session.receive(system, &span).map_err(|fault| format!("session {place}: {fault}"))?;
             last = Instant::now();
-            if !session.is_observer && last < span.end {
-                session.send(system, options.ahead)?;
+            if !session.is_observer && (options.edits.is_some() || last < span.end) {
+                session.send(system, options)?;
             }
         }
         if last.elapsed() > PATIENCE {

@@ -27,6 +27,8 @@ pub struct Options {
     /// How many edits of a session are on their way at a time.
     pub ahead: usize,
     pub typing: Typing,
+    /// How many edits each writer makes, where it isn't the time that ends them.
+    pub edits: Option<usize>,
     pub measured: Duration,
     pub unmeasured: Duration,
 }
@@ -42,6 +44,7 @@ impl Options {
             one_document: false,
             ahead: 1,
             typing: Typing::Letters,
+            edits: None,
             measured: Duration::from_secs(3),
             unmeasured: Duration::from_secs(1),
         };
@@ -60,6 +63,7 @@ impl Options {
                 ("--ahead", _) => options.ahead = number(name, value)?,
                 ("--typing", "letters") => options.typing = Typing::Letters,
                 ("--typing", "rich") => options.typing = Typing::Rich,
+                ("--edits", _) => options.edits = Some(number(name, value)?),
                 ("--seconds", _) => options.measured = Duration::from_secs_f64(number(name, value)?),
                 _ => return Err(format!("{name} {value} isn't known")),
             }

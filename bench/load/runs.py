@@ -36,9 +36,9 @@ class Measured(NamedTuple):
     p99: float
 
 
-def built(folder):
-    """Compiles the load and the bare server."""
-    for name in ("load", "bare"):
+def built(folder, names=("load", "bare")):
+    """Compiles the load and the bare server, or one of them."""
+    for name in names:
         command = ["rustc", "-O", "--edition", "2021", "-o", os.path.join(folder, name), str(HERE / f"{name}.rs")]
         subprocess.run(command, check=True)
 

@@ -1,41 +1,31 @@
 #!/usr/bin/env node
-// A bridge for browsers: it carries the bytes of a WebSocket to a richd that listens on TCP, and back, one session for each. It serves
-// the editor of examples/editor too, and this folder, from which the editor loads the client.
+// A bridge for browsers: the smallest use of the gateway. It serves the pages of examples/, and this folder, from which they load the client;
+// their WebSockets are the gateway's. Whoever connects is who the address says, as ?user=ann, and may do all.
 //
-//     node clients/js/bridge.js HOST:PORT [--listen HOST:PORT] [--quill FOLDER]
+//     node clients/js/bridge.js HOST:PORT [--listen HOST:PORT] [--origin URL]... [--data FOLDER] [--quill FOLDER]
 //
 // The first address is the one of `richd serve STORE --listen HOST:PORT`. It listens on 127.0.0.1:8080 unless it is told otherwise; port 0
-// is one that is free. FOLDER holds quill.js and quill.snow.css, which the editor loads where they are given.
+// is one that is free. A page may connect that comes from a URL that is given, else one that was loaded from here by a name of this machine.
+// The first FOLDER keeps which names were lent; the last holds quill.js and quill.snow.css, which the editor loads where they are given.
 
 import { readdirSync, realpathSync } from "node:fs";
 import { readFile } from "node:fs/promises";
 import http from "node:http";
-import { createRequire } from "node:module";
-import net from "node:net";
+import os from "node:os";
 import path from "node:path";
 import { fileURLToPath } from "node:url";
 import { parseArgs } from "node:util";
+import { createGateway } from "../../gateway/gateway.js";
+import { webSockets as findWebSockets } from "../../gateway/websockets.js";
 
 const HERE = path.dirname(fileURLToPath(import.meta.url));
-const EDITOR = "/examples/editor/";
-const SERVED = { "/clients/js/": HERE, [EDITOR]: path.join(HERE, "../../examples/editor") };
+const PAGES = ["/examples/editor/", "/examples/notes/"];
+const SERVED = Object.fromEntries(["/clients/js/", ...PAGES].map((prefix) => [prefix, path.join(HERE, "../..", prefix)]));
 /** @type {Record<string, string>} */
 const TYPES = { ".html": "text/html", ".js": "text/javascript", ".css": "text/css", ".png": "image/png" };
-const MOST_BYTES = 65_537; // of a message: a line and its end
-const FULL = 4503; // the code of a WebSocket's end where richd has no place
 
-/** The package ws. Debian's lies where a Node of another origin doesn't look. */
-export function webSockets() {
-  const require = createRequire(import.meta.url);
-  for (const name of ["ws", "/usr/share/nodejs/ws"]) {
-    try {
-      return require(name);
-    } catch (error) {
-      if (error.code !== "MODULE_NOT_FOUND") throw error;
-    }
-  }
-  throw new Error("the package ws is missing: install Debian's node-ws, or npm's ws");
-}
+/** The package ws. */
+export const webSockets = /** @type {() => any} */ (findWebSockets);
 
 /**
  * The files that are served, each by the path that it is asked for by. No other path leads to a file.
@@ -53,25 +43,45 @@ function filesIn(folders) {
 }
 
 /**
- * Serves the editor, and carries each WebSocket's bytes to a session of its own.
+ * Where a bridge to a store keeps which names it lent: it has to be there again at the next start.
+ * @param {string} host
+ * @param {number} port
+ */
+function dataFor(host, port) {
+  const state = process.env.XDG_STATE_HOME ?? path.join(os.homedir(), ".local/state");
+  return path.join(state, "richd-bridge", `${host.replace(/[^A-Za-z0-9.-]/g, "_")}-${port}`);
+}
+
+/**
+ * Who a request is by: this is no sign-in, but a name to show to others.
+ * @param {{ url?: string }} request
+ */
+function userOf({ url }) {
+  return new URLSearchParams(url.split("?")[1]).get("user") || "anybody";
+}
+
+/**
+ * Serves the pages, and their WebSockets by a gateway.
  * @param {object} options
  * @param {string} options.host  of richd
  * @param {number} options.port
  * @param {string} [options.listenHost]
  * @param {number} [options.listenPort]  0 is one that is free
+ * @param {string[]} [options.origins]  of pages that may connect
+ * @param {string} [options.data]  a folder that keeps which names were lent
  * @param {string} [options.quill]  a folder with Quill's files
- * @returns {Promise<{ url: string, webSocketUrl: string, close: () => void }>}
+ * @returns {Promise<{ url: string, webSocketUrl: string, close: () => Promise<void> }>}
  */
-export async function startBridge({ host, port, listenHost = "127.0.0.1", listenPort = 0, quill }) {
-  const { WebSocketServer, createWebSocketStream } = webSockets();
+export async function startBridge({ host, port, listenHost = "127.0.0.1", listenPort = 0, origins, data = dataFor(host, port), quill }) {
   const files = filesIn(quill === undefined ? SERVED : { ...SERVED, "/quill/": quill });
-  files.set(EDITOR, files.get(EDITOR + "index.html"));
+  for (const page of PAGES) files.set(page, files.get(page + "index.html"));
+  const gateway = await createGateway({ name: "bridge", stores: [{ name: "store", host, port }], data, origins, authorize: userOf });
 
   const server = http.createServer(async (request, response) => {
     const [pathname] = request.url.split("?");
-    if (pathname === "/") return response.writeHead(302, { location: EDITOR }).end();
+    if (pathname === "/") return response.writeHead(302, { location: PAGES[0] }).end();
     const file = files.get(pathname);
-    if (file === undefined) return response.writeHead(404).end("no such page\n");
+    if (file === undefined) return gateway.handleRequest(request, response) || response.writeHead(404).end("no such page\n");
     try {
       const content = await readFile(file);
       response.writeHead(200, { "content-type": `${TYPES[path.extname(file)]}; charset=utf-8`, "cache-control": "no-cache" });
@@ -80,35 +90,19 @@ export async function startBridge({ host, port, listenHost = "127.0.0.1", listen
       response.writeHead(404).end("no such page\n");
     }
   });
-
-  // A page of another host may not connect: a browser would let it, and richd asks for no password. Its scheme is https where something
-  // before the bridge encrypts.
-  /** @param {{ origin?: string, req: import("node:http").IncomingMessage }} asked */
-  const isOwnPage = ({ origin, req }) => origin === undefined || [`http://${req.headers.host}`, `https://${req.headers.host}`].includes(origin);
-  const sockets = new WebSocketServer({ server, maxPayload: MOST_BYTES, verifyClient: isOwnPage });
-  sockets.on("connection", (/** @type {any} */ webSocket) => {
-    const session = net.connect({ host, port, noDelay: true });
-    const stream = createWebSocketStream(webSocket);
-    let isConnected = false;
-    session.on("connect", () => (isConnected = true));
-    session.on("error", () => {}); // its close follows
-    session.on("close", () => (isConnected && session.bytesRead === 0 ? webSocket.close(FULL, "full") : stream.end()));
-    stream.on("error", () => session.destroy());
-    stream.on("close", () => session.destroy());
-    stream.pipe(session).pipe(stream, { end: false });
-  });
+  server.on("upgrade", (request, socket, head) => gateway.handleUpgrade(request, socket, head));
 
   await new Promise((resolve, reject) => {
     server.once("error", reject);
-    server.listen(listenPort, listenHost, resolve);
+    server.listen(listenPort, listenHost, () => resolve(undefined));
   });
-  const address = `${listenHost}:${server.address().port}`;
+  const address = `${listenHost}:${/** @type {import("node:net").AddressInfo} */ (server.address()).port}`;
   return {
     url: `http://${address}/`,
     webSocketUrl: `ws://${address}/`,
-    close() {
-      for (const webSocket of sockets.clients) webSocket.terminate();
+    async close() {
       server.close();
+      await gateway.close();
     },
   };
 }
@@ -120,13 +114,21 @@ function readAddress(text) {
 }
 
 async function main() {
-  const options = { listen: { type: "string", default: "127.0.0.1:8080" }, quill: { type: "string" } };
-  const { values, positionals } = parseArgs({ options, allowPositionals: true });
-  if (positionals.length !== 1) throw new Error("usage: bridge.js HOST:PORT [--listen HOST:PORT] [--quill FOLDER]");
+  const { values, positionals } = parseArgs({
+    options: {
+      listen: { type: "string", default: "127.0.0.1:8080" },
+      origin: { type: "string", multiple: true },
+      data: { type: "string" },
+      quill: { type: "string" },
+    },
+    allowPositionals: true,
+  });
+  if (positionals.length !== 1) throw new Error("usage: bridge.js HOST:PORT [--listen HOST:PORT] [--origin URL]... [--data FOLDER] [--quill FOLDER]");
   const [host, port] = readAddress(positionals[0]);
   const [listenHost, listenPort] = readAddress(values.listen);
-  const bridge = await startBridge({ host, port, listenHost, listenPort, quill: values.quill });
+  const bridge = await startBridge({ host, port, listenHost, listenPort, origins: values.origin, data: values.data, quill: values.quill });
   console.log(`bridge ${bridge.url}`);
+  for (const signal of /** @type {const} */ (["SIGTERM", "SIGINT"])) process.once(signal, () => bridge.close().then(() => process.exit(0)));
 }
 
 const isProgram = process.argv[1] !== undefined && realpathSync(process.argv[1]) === fileURLToPath(import.meta.url);

@@ -9,6 +9,7 @@ import { History, Steps } from "./history.js";
 import { cutsPair, growthOf, reachOf, takenOver } from "./operations.js";
 import { parted } from "./parting.js";
 import { Pauses } from "./pauses.js";
+import { Places, Presence } from "./presence.js";
 
 const ROOM = 48 * 1024; // bytes of an edit's operations, in a line that may have 65,536
 const LEAST_ROOM = 64;
@@ -82,18 +83,18 @@ function frozen(op) {
  */
 async function fetchCreated(client, name, ops) {
   const pauses = new Pauses();
-  for (;;) {
+  for (let tries = 0; ; tries += 1) {
     try {
-      await client.create(name, ops);
-    } catch (error) {
-      if (error.code !== Refusal.Exists) throw error;
-    }
-    try {
-      return await client.fetch(name);
+      return await client.fetch(name); // whoever only reads needs no number
     } catch (error) {
       if (error.code !== Refusal.NoDocument && error.code !== Refusal.Deleted) throw error;
     }
-    await pauses.wait();
+    if (tries > 0) await pauses.wait();
+    try {
+      await client.create(name, ops);
+    } catch (error) {
+      if (error.code !== Refusal.Exists && error.name !== "InDoubt") throw error;
+    }
   }
 }
 
@@ -124,8 +125,8 @@ export class RichDocument extends Emitter {
   #sent = null;
   /** @type {number | null} the revision that `sent` made, once it is answered */
   #taken = null;
-  /** @type {number | undefined} the number of `sent`, where there is a keeper and it may have left */
-  #number;
+  /** @type {import("./line.js").Numbered | undefined} what `sent` is known by, where there is a keeper and it may have left */
+  #numbered;
   /** @type {import("./keeping.js").Keeper | undefined} */
   #keeper;
   /** @type {Delta} */
@@ -144,8 +145,17 @@ export class RichDocument extends Emitter {
   #pastEnds = 0; // how often in a row an edit was refused by PastEnd, though the document was fetched anew
   #pauses = new Pauses();
   #leave = () => {};
+  #depart = () => {}; // and isn't present any more
   #steps = new Steps();
   #history = new History(this.#steps, (way) => this.#turn(way));
+  #places = new Places({
+    revision: () => this.#revision,
+    pending: () => (this.#sent === null ? [this.#typed] : [this.#sent, this.#typed]),
+    tell: (rev, at) => this.#client.tellPresence(this.#name, rev, at),
+    since: (rev) => this.#client.since(this.#name, rev),
+    deltaOf: (ops) => new this.#Delta(ops),
+  });
+  #presence = new Presence(this.#places);
   /** @type {{ resolve: (revision: number) => void, reject: (error: Error) => void }[]} those who wait in `flush` */
   #waiting = [];
 
@@ -171,6 +181,7 @@ export class RichDocument extends Emitter {
     }
     document.#length = document.#contents.length();
     client.addEventListener("state", document.#tell);
+    document.#meet();
     document.#state = document.state;
     document.#keeper?.watch(document, () => document.#snapshot());
     if (document.#sent !== null) document.#sendOff();
@@ -203,6 +214,11 @@ export class RichDocument extends Emitter {
   /** Undo and redo of what was typed here. */
   get history() {
     return this.#history;
+  }
+
+  /** Who else is in the document, and where; and where its own user is. */
+  get presence() {
+    return this.#presence;
   }
 
   /** Whether it is followed no longer: it was closed, or trouble came that is final. */
@@ -246,6 +262,7 @@ export class RichDocument extends Emitter {
       throw error;
     }
     this.#steps.record(delta.invert(this.#contents));
+    this.#places.move(delta, true);
     this.#type(delta);
   }
 
@@ -273,6 +290,7 @@ export class RichDocument extends Emitter {
   // Tells that it may stand otherwise than before.
   #tell = () => {
     this.dispatchEvent(new Event("progress"));
+    this.#places.settle();
     const { state } = this;
     if (state === this.#state) return;
     this.#state = state;
@@ -284,6 +302,7 @@ export class RichDocument extends Emitter {
     if (this.#isClosed) throw new RichdError(0, "Closed");
     const step = this.#steps.take(way, this.#contents);
     if (step === undefined) return false;
+    this.#places.move(step, true);
     this.#type(step);
     this.dispatchEvent(this.#changeEvent(step));
     return true;
@@ -310,6 +329,21 @@ export class RichDocument extends Emitter {
   /** Follows it no longer. What was sent is still answered; what wasn't is dropped. */
   close() {
     this.#stop(new RichdError(0, "Closed"));
+  }
+
+  // Hears of those who are present, in each session.
+  #meet() {
+    const [client, places] = [this.#client, this.#places];
+    const [begin, end] = [() => places.begin(), () => places.end()];
+    const leave = client.onPresence(this.#name, (line) => places.take(line));
+    client.addEventListener("connected", begin);
+    client.addEventListener("cut", end);
+    this.#depart = () => {
+      places.set(null);
+      leave();
+      client.removeEventListener("connected", begin);
+      client.removeEventListener("cut", end);
+    };
   }
 
   get #isInDoubt() {
@@ -356,20 +390,18 @@ export class RichDocument extends Emitter {
     const [first, rest] = parted(this.#typed, this.#room);
     this.#sent = new this.#Delta(first.ops);
     this.#typed = new this.#Delta(rest.ops);
-    this.#number = undefined;
+    this.#numbered = undefined;
     this.#sendOff();
   }
 
-  // Sends `sent`, again where it has a number. With a keeper it leaves once it is written, with its number.
+  // Sends `sent`, again where it has a number. With a keeper it leaves once it is written, with its number and lease.
   #sendOff() {
     const keeper = this.#keeper;
-    const hold = keeper && (async (/** @type {number} */ number) => {
-      if (number === this.#number) return keeper.confirmLease();
-      await keeper.askLease();
-      this.#number = number;
+    const hold = keeper && (async (/** @type {import("./line.js").Numbered} */ numbered) => {
+      this.#numbered = numbered;
       await keeper.write();
     });
-    const limits = { ...NEVER, onRetry: (/** @type {RichdError} */ error) => this.#onRetry(error), hold, kept: this.#number, signal: keeper?.signal };
+    const limits = { ...NEVER, onRetry: (/** @type {RichdError} */ error) => this.#onRetry(error), hold, kept: this.#numbered, signal: keeper?.signal };
     this.#client.edit(this.#name, this.#sent.ops, this.#revision, limits).then(
       ({ rev }) => {
         this.#hasStoreFailed = false;
@@ -385,17 +417,18 @@ export class RichDocument extends Emitter {
   /** @returns {import("./keeping.js").Snapshot} */
   #snapshot() {
     const [base, revision, isStale, sent, typed] = [this.#base, this.#revision, this.#isStale, this.#sent, this.#typed];
-    return { base, revision, isStale, sent, number: sent === null ? undefined : this.#number, typed };
+    const { number, lease } = (sent && this.#numbered) ?? {};
+    return { base, revision, isStale, sent, number, lease, typed };
   }
 
   // Begins with what was kept. What was to be sent, and never left, is typed.
   /** @param {import("./keeping.js").Kept} kept */
-  #restore({ base, revision, isStale, sent, number, typed }) {
+  #restore({ base, revision, isStale, sent, number, lease, typed }) {
     const [leaving, behind] = [new this.#Delta(sent ?? []), new this.#Delta(typed)];
     this.#begin(revision, new this.#Delta(base));
     this.#isStale = isStale;
     this.#contents = this.#base.compose(leaving).compose(behind);
-    this.#number = number;
+    this.#numbered = number === undefined ? undefined : { number, lease };
     this.#sent = number === undefined ? null : leaving;
     this.#typed = number === undefined ? leaving.compose(behind) : behind;
   }
@@ -428,6 +461,7 @@ export class RichDocument extends Emitter {
     } else {
       this.#base = this.#base.compose(this.#sent);
       this.#revision = this.#taken;
+      this.#places.step(this.#sent, this.#revision, true);
     }
     this.#sent = this.#taken = null;
   }
@@ -440,6 +474,7 @@ export class RichDocument extends Emitter {
   #takeOver(change, revision) {
     this.#base = this.#base.compose(change);
     this.#revision = revision;
+    this.#places.step(change, revision, false);
     this.#strays = 0;
     if (this.#sent !== null) {
       const sent = change.transform(this.#sent, true);
@@ -458,6 +493,7 @@ export class RichDocument extends Emitter {
     this.#typed = change.transform(this.#typed, true);
     if (shown.ops.length === 0) return;
     this.#steps.move(shown);
+    this.#places.move(shown, false);
     this.#change(shown);
     this.dispatchEvent(this.#changeEvent(shown));
   }
@@ -472,6 +508,7 @@ export class RichDocument extends Emitter {
   #onRefusal(error) {
     this.#hasStoreFailed = false;
     if (error.name === "Closed") return this.#stop(error);
+    if (error.name === "Replaced") return this.#fail(error);
     if (error.name === "InDoubt") return this.#leaveOut();
     const isTooLong = [Refusal.TooManyOps, Refusal.TooWide, Refusal.LineTooLong].includes(error.code);
     const isElsewhere = [Refusal.Future, Refusal.TooOld].includes(error.code) || (error.code === Refusal.PastEnd && this.#pastEnds < MOST_PAST_ENDS);
@@ -507,6 +544,7 @@ export class RichDocument extends Emitter {
    */
   #drop(typed, error) {
     const shown = typed.invert(this.#base);
+    this.#places.move(shown, false);
     this.#typed = new this.#Delta();
     this.#steps.clear();
     this.#room = ROOM;
@@ -522,7 +560,8 @@ export class RichDocument extends Emitter {
   // Fetches the newest revision, and moves what was typed onto it as if one change had come.
   async #fetchAnew() {
     this.#leave();
-    if (this.#sent !== null) this.#base = this.#base.compose(this.#sent);
+    const sent = this.#sent;
+    if (sent !== null) this.#base = this.#base.compose(sent);
     this.#sent = this.#taken = null;
     this.#strays += 1;
     if (this.#strays === 1) this.#pauses.reset();
@@ -536,6 +575,7 @@ export class RichDocument extends Emitter {
       const from = this.#revision;
       this.#steps.clear();
       this.#begin(rev, fetched);
+      this.#places.leap(sent === null ? change : sent.compose(change), from, rev);
       this.#show(change);
       this.dispatchEvent(new RebasedEvent(from, rev));
       this.#goOn();
@@ -558,6 +598,7 @@ export class RichDocument extends Emitter {
 
   /** @param {any} error */
   #fail(error) {
+    if (this.#isClosed) return;
     this.#stop(error);
     if (error.name === "Closed") return;
     const lost = this.#isInDoubt ? this.#sent.compose(this.#typed) : this.#typed;
@@ -569,6 +610,7 @@ export class RichDocument extends Emitter {
     if (this.#isClosed) return;
     this.#isClosed = true;
     this.#leave();
+    this.#depart();
     if (error instanceof RichdError && error.code > 0) this.#keeper?.forget(error);
     else this.#keeper?.close(error);
     this.#pauses.end();

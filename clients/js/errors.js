@@ -1,16 +1,17 @@
 // What may go wrong.
 
 /**
- * @typedef {"Timeout" | "Closed" | "Cut" | "Full" | "Parted" | "InDoubt"} OwnName  of an error of the client itself
+ * @typedef {"Timeout" | "Closed" | "Cut" | "Full" | "Replaced" | "Parted" | "InDoubt"} OwnName  of an error of the client itself
  * @typedef {"BadLine" | "BadMessage" | "BadOps" | "TooManyOps" | "NoHello" | "NoDocument" | "Exists" | "BadName" | "Gap" | "OldNumber"
  *   | "TooManySources" | "Future" | "TooOld" | "PastEnd" | "CutsPair" | "TooHeavy" | "TooWide" | "RevisionsSpent" | "NothingToUndo"
- *   | "TooManyDocuments" | "StoreFailed" | "NoMemory" | "LineTooLong" | "Deleted"} RefusalName  of a refusal of the server
+ *   | "TooManyDocuments" | "StoreFailed" | "NoMemory" | "LineTooLong" | "Deleted" | "NotAllowed"} RefusalName  of a refusal of the server, the last one of a gateway
  */
 
 /**
  * A refusal of the server, with its number and name (13 and "TooOld"), or one of the client itself, with 0 for its number:
- * "Timeout", "Closed", "Cut" and "Full" as causes of a call that had no connection, "Parted" of an editor that showed something else, and
- * "InDoubt" of an edit that was kept, and isn't sent again.
+ * "Timeout", "Closed", "Cut" and "Full" as causes of a call that had no connection, "Replaced" where another client has come to a gateway
+ * with the same source, "Parted" of an editor that showed something else, and "InDoubt" of a command that may have been taken, and isn't sent
+ * again.
  */
 export class RichdError extends Error {
   /**
@@ -43,4 +44,5 @@ export const Refusal = {
   NoMemory: 22,
   LineTooLong: 23,
   Deleted: 40,
+  NotAllowed: 60,
 };

@@ -29,8 +29,9 @@ export class TroubleEvent extends Event {
 }
 
 /**
- * An edit that was sent before the page was loaded, and of which can't be known whether it was taken. It isn't sent again, and isn't shown:
- * where it was taken it comes as others' changes do. `delta` is the edit, on the document at `revision`.
+ * An edit that was sent, before the page was loaded or under a name that a gateway has lent to another since, so that it can't be known whether
+ * it was taken. It isn't sent again, and isn't shown: where it was taken it comes as others' changes do. `delta` is the edit, on the document at
+ * `revision`.
  */
 export class DoubtEvent extends Event {
   /** @param {Delta} delta @param {number} revision */
@@ -63,6 +64,15 @@ export class StateEvent extends Event {
   constructor(state) {
     super("state");
     this.state = state;
+  }
+}
+
+/** Others who are in the document came, went or moved: `others` are all that are there now. */
+export class PresenceEvent extends Event {
+  /** @param {import("./presence.js").Other[]} others */
+  constructor(others) {
+    super("change");
+    this.others = others;
   }
 }
 

@@ -1,6 +1,5 @@
 // How a document that types ahead is kept, so that it outlives its page.
 
-import { RichdError } from "./errors.js";
 import { UnkeptEvent } from "./events.js";
 import { Pauses } from "./pauses.js";
 
@@ -16,16 +15,13 @@ const PACE = 1_000; // milliseconds, at most so often what the server has anyway
  * @property {(pairs: [Key, any][], dropped?: Key[]) => Promise<void>} put  is done once all of it is on the disk, and does all or nothing
  * @property {() => Promise<Key[]>} keys
  *
- * @typedef {object} Lease  under which name a document's edits are numbered, and for the how manieth time that name is lent
- * @property {string} name
- * @property {number} epoch
- *
  * @typedef {object} Snapshot  what a document that types ahead is at a moment
  * @property {Delta} base
  * @property {number} revision
  * @property {boolean} isStale
  * @property {Delta | null} sent
  * @property {number} [number]  of `sent`, once it may leave
+ * @property {import("./leases.js").Lease} [lease]  under which the number counts
  * @property {Delta} typed
  *
  * @typedef {object} Kept  the same, as it was kept
@@ -34,12 +30,13 @@ const PACE = 1_000; // milliseconds, at most so often what the server has anyway
  * @property {boolean} isStale
  * @property {Op[] | null} sent
  * @property {number} [number]
+ * @property {import("./leases.js").Lease} [lease]
  * @property {Op[]} typed
  */
 
 /** @param {Snapshot | undefined} one @param {Snapshot} other */
 function areAlike(one, other) {
-  return one !== undefined && ["base", "revision", "isStale", "sent", "number", "typed"].every((part) => one[part] === other[part]);
+  return one !== undefined && ["base", "revision", "isStale", "sent", "number", "lease", "typed"].every((part) => one[part] === other[part]);
 }
 
 /** @param {Snapshot} snapshot */
@@ -52,9 +49,6 @@ const hasPending = ({ sent, typed }) => sent !== null || typed.ops.length > 0;
 export class Keeper {
   #store;
   #key;
-  #leaseOf;
-  /** @type {Lease | undefined} */
-  #lease;
   /** @type {() => Snapshot} */
   #read;
   /** @type {EventTarget} */
@@ -67,7 +61,7 @@ export class Keeper {
   #pauses = new Pauses();
   #closing = new AbortController();
   #isForgotten = false;
-  /** @type {(() => void)[]} those who wait until what is there now is written */
+  /** @type {{ resolve: () => void, reject: (reason: any) => void }[]} those who wait until what is there now is written */
   #waiting = [];
   /** @type {() => void} */
   #end;
@@ -78,21 +72,17 @@ export class Keeper {
   /**
    * @param {Store} store
    * @param {Key} key  of the document, and behind it "base" for what the server has of it
-   * @param {() => Promise<Lease>} leaseOf  the lease that is held
    */
-  constructor(store, key, leaseOf) {
+  constructor(store, key) {
     this.#store = store;
     this.#key = key;
-    this.#leaseOf = leaseOf;
   }
 
   /** @returns {Promise<Kept | undefined>} */
   async load() {
     const state = await this.#store.get(this.#key);
     if (state === undefined) return undefined;
-    const { lease, ...kept } = state;
-    this.#lease = lease;
-    return { ...kept, base: await this.#store.get([...this.#key, "base"]) };
+    return { ...state, base: await this.#store.get([...this.#key, "base"]) };
   }
 
   /**
@@ -117,24 +107,14 @@ export class Keeper {
     return areAlike(this.#written, this.#read());
   }
 
-  /** Asks which lease is held, for edits that get their number now. */
-  async askLease() {
-    this.#lease = await this.#heldLease();
-  }
-
-  /** Waits until what is there now is written. */
+  /** Waits until what is there now is written, and throws the reason where the keeper ends before. */
   async write() {
+    this.signal.throwIfAborted();
     if (this.isUpToDate) return;
-    await new Promise((resolve) => {
-      this.#waiting.push(() => resolve(undefined));
+    await new Promise((resolve, reject) => {
+      this.#waiting.push({ resolve: () => resolve(undefined), reject });
       this.#touch();
     });
-  }
-
-  /** Throws InDoubt where a number was kept under another lease than the one that is held. */
-  async confirmLease() {
-    const held = await this.#heldLease();
-    if (held.name !== this.#lease?.name || held.epoch !== this.#lease?.epoch) throw new RichdError(0, "InDoubt");
   }
 
   /**
@@ -157,19 +137,6 @@ export class Keeper {
     this.close(reason);
   }
 
-  /** @returns {Promise<Lease>} */
-  async #heldLease() {
-    const pauses = new Pauses();
-    for (;;) {
-      try {
-        return await this.#leaseOf();
-      } catch {
-        this.signal.throwIfAborted();
-        await pauses.wait();
-      }
-    }
-  }
-
   #touch() {
     if (this.#isWriting || this.signal.aborted || this.isUpToDate) return;
     const isIdle = this.#waiting.length === 0 && !hasPending(this.#read()) && this.#written !== undefined && !hasPending(this.#written);
@@ -185,7 +152,7 @@ export class Keeper {
     try {
       await this.#put();
       this.#pauses.reset();
-      for (const resolve of waiting) resolve();
+      for (const { resolve } of waiting) resolve();
       this.#document.dispatchEvent(new Event("progress"));
     } catch (error) {
       this.#waiting.unshift(...waiting);
@@ -201,7 +168,7 @@ export class Keeper {
     const snapshot = this.#read();
     const { base, sent, typed, ...rest } = snapshot;
     /** @type {[Key, any][]} */
-    const pairs = [[this.#key, { ...rest, sent: sent && sent.ops, typed: typed.ops, lease: this.#lease }]];
+    const pairs = [[this.#key, { ...rest, sent: sent && sent.ops, typed: typed.ops }]];
     if (base !== this.#written?.base) pairs.push([[...this.#key, "base"], base.ops]);
     await this.#store.put(pairs);
     this.#written = snapshot;
@@ -210,6 +177,7 @@ export class Keeper {
   async #finish() {
     clearTimeout(this.#timer);
     this.#isWriting = true;
+    for (const { reject } of this.#waiting.splice(0)) reject(this.signal.reason);
     try {
       if (this.#isForgotten) await this.#store.put([], [this.#key, [...this.#key, "base"]]);
       else if (this.#read !== undefined && !this.isUpToDate) await this.#put();

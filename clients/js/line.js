@@ -1,6 +1,7 @@
 // What is asked of one document, in the order in which it was asked. It numbers the source's commands.
 
 import { Refusal, RichdError } from "./errors.js";
+import { areSame } from "./leases.js";
 import { firstUnused } from "./numbers.js";
 import { Pauses } from "./pauses.js";
 
@@ -8,6 +9,11 @@ const MOST_COMMANDS = 16; // that are on their way: a server answers so many of 
 
 /**
  * @typedef {import("./session.js").Reply} Reply
+ * @typedef {import("./leases.js").Lease} Lease
+ *
+ * @typedef {object} Numbered  what a command is known by
+ * @property {number} number
+ * @property {Lease} lease  under which the number counts
  *
  * @typedef {object} Item  something that was asked
  * @property {import("./session.js").Message} message  without its number
@@ -21,17 +27,21 @@ const MOST_COMMANDS = 16; // that are on their way: a server answers so many of 
  *   sent again
  * @property {RichdError} [trouble]  what it was refused by, and is sent again for all the same
  * @property {(error: RichdError) => void} [onRetry]  is told of each
- * @property {(number: number) => Promise<void>} [hold]  is waited for before it is sent under a number
- * @property {number} [holding]  the number that it is held for
- * @property {number} [held]  the number that it was held for
- * @property {number} [kept]  the number under which it was sent before this program began, if it was
- * @property {boolean} [isInDoubt]  its number is neither the next one nor the last one that is used, so it may be another's
+ * @property {(numbered: Numbered) => Promise<void>} [hold]  is waited for before it is sent under a number
+ * @property {Numbered} [holding]  what it is held for
+ * @property {Numbered} [held]  what it was held for
+ * @property {Numbered} [kept]  what it was sent as before this program began, if it was
+ * @property {boolean} [isInDoubt]  its number is of another lease, or neither the next one nor the last one that is used, so it may be another's
+ * @property {boolean} [needsNoLease]  in the session that there is now: it creates a document that is nowhere
  */
 
 /**
  * At most 16 commands of a document are on their way. What is asked behind a command that waits does so too, so that a read sees what
  * was commanded before it. What isn't answered when the session ends is sent again in the next one, a command with its number, in the
  * order in which it was asked.
+ *
+ * A gateway lends a name for the document, and the numbers count under that lease alone. So it is asked for in each session, before the first
+ * command. Where it is another than before, what was sent and isn't answered ends with "InDoubt", and what wasn't sent gets new numbers.
  */
 export class Line {
   #doc;
@@ -41,6 +51,10 @@ export class Line {
   #items = [];
   /** @type {number | undefined} the number of the next command, where it is known */
   #number;
+  /** @type {Lease | undefined} under which it counts */
+  #lease;
+  #isLeased = false; // and is known to be held in the session that there is now
+  #believesGateway = true; // in the number that it tells
   #isDeleted = false; // as far as is known: then a creation has the next number, and else the first
   #isLearning = false;
   #pauses = new Pauses();
@@ -88,6 +102,9 @@ export class Line {
    */
   set session(session) {
     this.#session = session;
+    this.#isLeased = false;
+    for (const item of this.#items) item.needsNoLease = false;
+    if (session?.isGateway === false) this.#goOnUnder({ name: session.source, epoch: 0 });
     this.#pump();
   }
 
@@ -110,12 +127,16 @@ export class Line {
       if (!this.#items.includes(item)) continue; // it was refused as it was sent
       if (item.isCommand && commands === MOST_COMMANDS) return;
       if (item.isSent && item.isBehind) return; // its answer comes first
+      if (!item.isSent && item.isCommand && !this.#isLeased && !item.needsNoLease) {
+        if (commands === 0) this.#askLease(item);
+        return;
+      }
       if (!item.isSent && item.isCommand && !this.#hasNumber(item)) {
         if (commands === 0) this.#learn();
         return;
       }
       if (item.isInDoubt) return this.#end(item, new RichdError(0, "InDoubt"));
-      if (!item.isSent && item.hold !== undefined && item.held !== item.number) return this.#hold(item);
+      if (!item.isSent && !this.#isHeld(item, item.held)) return this.#hold(item);
       if (item.isCommand) commands += 1;
       if (!item.isSent) this.#send(item);
     }
@@ -125,7 +146,7 @@ export class Line {
   #hasNumber(item) {
     if (item.number !== undefined) return true;
     if (item.kept !== undefined) return this.#hasKeptNumber(item);
-    item.number = item.message.do === "create" && !this.#isDeleted ? 1 : this.#number;
+    item.number = item.message.do === "create" && !this.#isDeleted && !this.#wasAnothers ? 1 : this.#number;
     item.counts = item.number !== undefined && item.number === this.#number;
     if (item.counts) this.#number += 1;
     if (item.message.do === "delete" && item.number !== undefined) this.#isDeleted = true;
@@ -135,22 +156,34 @@ export class Line {
   // Of a command that was kept it isn't known whether it was taken: then its number is the last one that is used, else the next one.
   /** @param {Item} item */
   #hasKeptNumber(item) {
-    if (this.#number === undefined) return false;
-    item.counts = item.kept === this.#number;
-    item.isInDoubt = !item.counts && item.kept !== this.#number - 1;
+    const { number, lease } = item.kept;
+    const isOwn = areSame(lease, this.#lease);
+    if (isOwn && this.#number === undefined) return false;
+    item.counts = isOwn && number === this.#number;
+    item.isInDoubt = !item.counts && !(isOwn && number === this.#number - 1);
     if (item.counts) this.#number += 1;
-    Object.assign(item, { number: item.kept, sendings: 1 });
+    Object.assign(item, { number, sendings: 1, held: { number, lease: this.#lease } });
     return true;
+  }
+
+  /** Whether the name that is lent was another's before, so a document's first number may be. */
+  get #wasAnothers() {
+    return this.#lease?.epoch > 1;
+  }
+
+  /** @param {Item} item @param {Numbered} [held] */
+  #isHeld({ hold, number }, held) {
+    return hold === undefined || (held?.number === number && held.lease === this.#lease);
   }
 
   /** @param {Item} item */
   #hold(item) {
-    const { number } = item;
-    if (item.holding === number) return;
-    item.holding = number;
-    item.hold(number).then(
+    if (this.#isHeld(item, item.holding)) return;
+    const holding = { number: item.number, lease: this.#lease };
+    item.holding = holding;
+    item.hold(holding).then(
       () => {
-        item.held = number;
+        item.held = holding;
         this.#pump();
       },
       (error) => this.#items.includes(item) && this.#end(item, error),
@@ -210,6 +243,8 @@ export class Line {
     } else if (item.isCommand && this.#isMisnumbered(item, error, reply)) {
       this.#free(item, undefined);
       Object.assign(item, { isSent: false, sendings: 0, number: undefined });
+      this.#believesGateway = false;
+      this.#isLeased = !this.#session.isGateway; // the name may have been lent to another
       this.#pump();
     } else {
       this.#pauses.reset();
@@ -250,6 +285,52 @@ export class Line {
     }, this.#pauses.next());
   }
 
+  /**
+   * Asks the gateway which name it lends for the document, for a command that is to be sent. The creation of a document that is nowhere yet
+   * is sent without: whatever name it gets, it is its first command.
+   * @param {Item} item
+   */
+  #askLease(item) {
+    this.#isLearning = true;
+    this.#session.send({ do: "lease", doc: this.#doc }, (error, reply) => {
+      this.#isLearning = false;
+      const isThere = this.#items.includes(item);
+      if (error?.code === 0) return; // the next session asks again
+      if (error === null) {
+        this.#goOnUnder({ name: reply.lease, epoch: reply.epoch }, this.#believesGateway ? reply.n : undefined);
+      } else if (error.code === Refusal.NoMemory || error.code === Refusal.StoreFailed) {
+        item.trouble = error;
+        this.#rest();
+        if (isThere) item.onRetry?.(error);
+      } else if (error.code === Refusal.NoDocument && item.message.do === "create") {
+        item.needsNoLease = true;
+        this.#number = 1;
+      } else if (isThere) {
+        const mayBeTaken = item.sendings > 0 || item.kept !== undefined;
+        return this.#end(item, mayBeTaken ? new RichdError(0, "InDoubt", error) : error);
+      }
+      this.#pump();
+    });
+  }
+
+  /**
+   * Goes on under a lease. Under another one than before the numbers of that are worth nothing.
+   * @param {Lease} lease
+   * @param {number} [number]  of the next command, where a gateway tells it
+   */
+  #goOnUnder(lease, number) {
+    this.#isLeased = true;
+    if (areSame(lease, this.#lease)) return void (this.#number ??= number);
+    const isFirst = this.#lease === undefined;
+    this.#lease = lease;
+    if (isFirst && this.#items.some(({ counts }) => counts)) return; // a creation was sent without a lease, and so under this one
+    this.#number = number ?? (isFirst && !this.#wasAnothers ? this.#number : undefined);
+    const inDoubt = this.#items.filter((item) => item.isCommand && item.sendings > 0);
+    this.#items = this.#items.filter((item) => !inDoubt.includes(item));
+    for (const item of this.#items) item.number = undefined;
+    for (const item of inDoubt) item.settle(new RichdError(0, "InDoubt"));
+  }
+
   // Finds the next number, and goes on. A probe is an edit on a base that no document has reached, so it is never taken: the answer
   // is `again` or OldNumber up to the last number, and Gap, Future or another refusal above it.
   async #learn() {
@@ -266,6 +347,7 @@ export class Line {
       });
     try {
       this.#number = await firstUnused(isUsed);
+      this.#believesGateway = true;
     } catch (error) {
       if (error.code !== 0) this.#rest();
     }

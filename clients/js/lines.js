@@ -43,13 +43,15 @@ export class LineReader {
 const isText = (value) => typeof value === "string";
 /** @param {any} value */
 const isNumber = (value) => Number.isSafeInteger(value) && value >= 0;
+/** @param {any} at */
+const isPlace = (at) => at === null || (Array.isArray(at) && at.length === 2 && at.every(isNumber));
 /** @param {any} ops */
 const areOps = (ops) => Array.isArray(ops) && ops.every(isOp);
 /** @param {any} ops */
 const areInserts = (ops) => areOps(ops) && ops.every(({ insert }) => insert !== undefined);
 
 /**
- * A line of news, a refusal, or what may be another reply; undefined where it is none of them.
+ * A line of news, one of somebody's presence, a refusal, or what may be another reply; undefined where it is none of them.
  * @param {string} text
  * @returns {Reply | undefined}
  */
@@ -61,9 +63,10 @@ export function readLine(text) {
     return undefined;
   }
   if (typeof line !== "object" || line === null) return undefined;
-  const { doc, news, ended, code, ops } = line;
+  const { doc, news, ended, presence, code, ops } = line;
   if (news !== undefined) return isText(doc) && isNumber(news) && areOps(ops) ? line : undefined;
   if (ended !== undefined) return isText(doc) && isNumber(ended) ? line : undefined;
+  if (presence !== undefined) return isText(doc) && isNumber(presence) && isText(line.user) && isNumber(line.rev) && isPlace(line.at) ? line : undefined;
   if (code !== undefined) return isNumber(code) && code > 0 && isText(line.error) ? line : undefined;
   return isText(line.ok) ? line : undefined;
 }
@@ -75,6 +78,8 @@ const REPLIES = {
   since: ({ ok, rev, deltas }) => ok === "since" && isNumber(rev) && Array.isArray(deltas) && deltas.every(areOps),
   subscribe: ({ ok, rev }) => ok === "subscribed" && isNumber(rev),
   unsubscribe: ({ ok }) => ok === "unsubscribed",
+  lease: ({ ok, lease, epoch, n }) => ok === "lease" && isText(lease) && isNumber(epoch) && (n === undefined || (isNumber(n) && n > 0)),
+  presence: ({ ok }) => ok === "presence",
 };
 
 /**

@@ -2,7 +2,8 @@
 
 import { RichdError } from "./errors.js";
 
-const FULL = 4503; // the code by which a bridge closes a WebSocket, where the server has no place
+/** What it means where a gateway closes a WebSocket by one of these codes. By any other, as 1012, one connects again. @type {Record<number, string>} */
+const ENDS = { 4409: "Replaced", 4503: "Full" };
 
 /**
  * Where a server is: one of the three.
@@ -22,7 +23,7 @@ const FULL = 4503; // the code by which a bridge closes a WebSocket, where the s
  * @property {undefined} [port]
  * @property {undefined} [url]
  *
- * @typedef {object} WebSocketAddress  a bridge
+ * @typedef {object} WebSocketAddress  a gateway
  * @property {string} url
  * @property {WebSocketClass} [WebSocket]  where there is no global one, as in Node 18 and 20
  * @property {undefined} [host]
@@ -43,7 +44,8 @@ const FULL = 4503; // the code by which a bridge closes a WebSocket, where the s
  *
  * @typedef {object} Listener  what is called for a link that is open
  * @property {(bytes: Uint8Array) => void} onBytes
- * @property {(cause?: Error) => void} onClose  once, at its end; the cause is "Full" where the server has no place
+ * @property {(cause?: Error) => void} onClose  once, at its end; the cause is "Full" where the server has no place, and "Replaced" where a gateway
+ *     has another client of the same source
  *
  * @typedef {object} Link
  * @property {(bytes: Uint8Array) => void} send
@@ -101,7 +103,7 @@ function openWebSocket({ url, WebSocket = globalThis.WebSocket }, { onBytes, onC
     socket.onclose = (/** @type {{ code: number }} */ { code }) => {
       clearTimeout(timer);
       if (!isOpen) reject(new Error(`no WebSocket at ${url}`));
-      else onClose(code === FULL ? new RichdError(0, "Full") : undefined);
+      else onClose(code in ENDS ? new RichdError(0, ENDS[code]) : undefined);
     };
   });
 }

@@ -9,13 +9,10 @@ import { lock, takeSource, thisPage } from "./sources.js";
 /**
  * @typedef {import("./document.js").OpenOptions} OpenOptions
  * @typedef {import("./document.js").RichDocument} RichDocument
- * @typedef {import("./keeping.js").Lease} Lease
  * @typedef {import("./keeping.js").Store} Store
  *
  * @typedef {object} OfflineOptions
  * @property {string} [server]  a name for the server, under which its documents are kept: the `url` if it isn't given
- * @property {(doc: string, source: string) => Promise<Lease>} [leaseOf]  asks a gateway that lends names which one is held for a document. Without it that
- *     is the source, which is never lent again
  * @property {number} [timeout]  as `connect` of `richd` takes them
  * @property {number} [patience]
  * @property {AbortSignal} [signal]
@@ -131,8 +128,7 @@ export class OfflineClient extends Client {
 
   /** @param {string} doc @param {string} source */
   #keeperOf(doc, source) {
-    const leaseOf = this.#options.leaseOf ?? (async () => ({ name: source, epoch: 0 }));
-    return new Keeper(this.#page.store, [this.#server, source, doc], () => leaseOf(doc, source));
+    return new Keeper(this.#page.store, [this.#server, source, doc]);
   }
 
   /** @param {Keeper | undefined} before @param {string} doc @param {OpenOptions} options */

@@ -16,15 +16,30 @@ import { growthOf, reachOf } from "./operations.js";
  * @param {string} name  the embed's, as "image"
  * @returns {Promise<string> | string}
  *
+ * @typedef {object} Cursors  what shows carets and selections: quill-cursors, or what has these three of its methods
+ * @property {(id: string, name: string, color: string) => unknown} createCursor
+ * @property {(id: string, range: import("./presence.js").Range) => void} moveCursor
+ * @property {(id: string) => void} removeCursor
+ *
  * @typedef {object} BindOptions
  * @property {Upload} [upload]  without it an embed goes into the document as it is, or is refused where it is too long for a line
+ * @property {(user: string) => string} [colorOf]  the color of somebody's caret, one for each name if it isn't given
  */
+
+/** A color for a name. @param {string} name */
+function colorFor(name) {
+  let sum = 0;
+  for (let index = 0; index < name.length; index += 1) sum = (Math.imul(sum, 31) + name.charCodeAt(index)) >>> 0;
+  const hue = (Math.imul(sum, 0x9e3779b1) >>> 0) / 2 ** 32; // names that are alike have colors that aren't
+  return `hsl(${Math.round(360 * hue)}, 70%, 40%)`;
+}
 
 /**
  * Shows a document in an editor, and keeps both alike. An editor of Quill's kind wants a line's end at the end of its contents, which is
  * added to the document where it has none. The editor's history keeps what its user did from here on, and nothing else. What the document
  * refuses is taken out of the editor again, and the document's "trouble" tells of it; so it does where the editor is found to show something
- * else than the document ("Parted"). Where the document is closed the editor is disabled.
+ * else than the document ("Parted"). Where the document is closed the editor is disabled. Where the editor has the module "cursors", which is
+ * quill-cursors, it shows the carets and selections of others, and they are told of its user's.
  * @param {any} quill
  * @param {RichDocument} document
  * @param {BindOptions} [options]
@@ -56,6 +71,11 @@ class Binding {
   #places = new Set();
   /** @type {{ place: { index: number }, op: Op }[]} */
   #uploaded = [];
+  /** @type {Cursors | undefined} */
+  #cursors;
+  #colorOf;
+  /** @type {Set<string>} those that are shown */
+  #shown = new Set();
   #ending = new AbortController();
 
   /** @param {any} quill @param {RichDocument} document @param {BindOptions} [options] */
@@ -63,6 +83,7 @@ class Binding {
     this.#quill = quill;
     this.#document = document;
     this.#upload = options?.upload;
+    this.#colorOf = options?.colorOf ?? colorFor;
     this.#Delta = /** @type {any} */ (document.contents.constructor);
     this.#held = new this.#Delta();
     if (!document.isClosed) this.#addLineEnd();
@@ -76,11 +97,47 @@ class Binding {
     document.addEventListener("state", (/** @type {any} */ { state }) => state === "closed" && this.#close(), { signal });
     quill.root?.addEventListener("compositionstart", () => (this.#isComposing = true), { signal });
     quill.root?.addEventListener("compositionend", () => queueMicrotask(() => this.#afterComposition()), { signal });
+    this.#cursors = quill.getModule?.("cursors") ?? undefined;
+    if (this.#cursors !== undefined) this.#bePresent();
   }
 
   end() {
     this.#quill.off?.("text-change", this.#onTyped);
     this.#ending.abort();
+    if (this.#cursors === undefined) return;
+    this.#quill.off?.("selection-change", this.#onSelected);
+    this.#document.presence.set(null);
+    this.#showCursors([]);
+  }
+
+  // Until its user has put the caret somewhere he is at the beginning.
+  #bePresent() {
+    const { presence } = this.#document;
+    this.#quill.on("selection-change", this.#onSelected);
+    presence.addEventListener("change", () => this.#showCursors(), { signal: this.#ending.signal });
+    presence.set(this.#quill.getSelection?.() ?? { index: 0, length: 0 });
+  }
+
+  /** @param {import("./presence.js").Range | null} range  null where the editor isn't the one that is typed in: then its user stays where he was */
+  #onSelected = (range) => {
+    if (range === null) return;
+    const [start, end] = [range.index, range.index + range.length].map((index) => this.#held.transformPosition(index, true));
+    this.#document.presence.set({ index: start, length: end - start });
+  };
+
+  // While the editor is left alone the places of the others aren't those of what it shows.
+  #showCursors(others = this.#document.presence.others) {
+    if (this.#cursors === undefined || this.#held.ops.length > 0) return;
+    const gone = new Set(this.#shown);
+    for (const { id, user, range } of others) {
+      if (!gone.delete(id)) this.#cursors.createCursor(id, user, this.#colorOf(user));
+      this.#shown.add(id);
+      this.#cursors.moveCursor(id, range);
+    }
+    for (const id of gone) {
+      this.#shown.delete(id);
+      this.#cursors.removeCursor(id);
+    }
   }
 
   #close() {
@@ -204,6 +261,7 @@ class Binding {
     const change = this.#held;
     this.#held = new this.#Delta();
     if (change.ops.length > 0) this.#update(change);
+    this.#showCursors();
     const reachesEnd = reachOf(change) === this.#document.length - growthOf(change);
     if (reachesEnd && this.#addLineEnd()) this.#setRight(); // somebody took it away
     for (const { place, op } of this.#uploaded.splice(0)) {

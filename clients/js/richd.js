@@ -24,6 +24,8 @@ const MOST_DOCS = 1_000; // of which something is kept though nothing is asked; 
  * @typedef {import("./document.js").DocumentState} DocumentState
  * @typedef {import("./document.js").DocumentEvents} DocumentEvents
  * @typedef {import("./document.js").OpenOptions} OpenOptions
+ * @typedef {import("./presence.js").Other} Other
+ * @typedef {import("./presence.js").Range} Range
  *
  * @typedef {"connected" | "offline" | "full" | "closed"} ClientState  "full" is "offline" where the server has no place
  *
@@ -74,6 +76,8 @@ export class Client extends Emitter {
   /** @type {Map<string, { line: Line, news: News }>} */
   #docs = new Map();
   #hasForgotten = false; // one of them
+  /** @type {Map<string, Set<(line: import("./session.js").Reply) => void>>} who hears of those who are present in a document */
+  #present = new Map();
 
   /** @param {import("./links.js").Address & Options} options */
   constructor(options) {
@@ -197,6 +201,36 @@ export class Client extends Emitter {
   }
 
   /**
+   * Calls a function with each line that a gateway tells of others who are present in a document, while one is present oneself. Returns what
+   * ends that.
+   * @param {string} doc
+   * @param {(line: import("./session.js").Reply) => void} take
+   */
+  onPresence(doc, take) {
+    const all = this.#present.get(doc) ?? new Set();
+    this.#present.set(doc, all.add(take));
+    return () => {
+      all.delete(take);
+      if (all.size === 0 && this.#present.get(doc) === all) this.#present.delete(doc);
+    };
+  }
+
+  /**
+   * Tells a gateway where one is in a document at a revision, or with null that one has left. Says whether there is a gateway: other servers
+   * aren't told.
+   * @param {string} doc
+   * @param {number} rev
+   * @param {[number, number] | null} at
+   * @returns {Promise<boolean>}
+   */
+  async tellPresence(doc, rev, at) {
+    const session = this.#session;
+    if (!session?.isGateway) return false;
+    await new Promise((resolve, reject) => session.send({ do: "presence", doc, rev, at }, (error) => (error ? reject(error) : resolve(undefined))));
+    return true;
+  }
+
+  /**
    * Opens a document that types ahead.
    * @param {string} doc
    * @param {import("./document.js").OpenOptions} [options]
@@ -285,7 +319,8 @@ export class Client extends Emitter {
       try {
         this.#session = await Session.begin(this.#options, this.#source, {
           onNews: (line) => this.#docs.get(line.doc)?.news.take(line),
-          onEnd: () => this.#onCut(),
+          onPresence: (line) => this.#present.get(line.doc)?.forEach((take) => take(line)),
+          onEnd: (cause) => this.#onCut(cause),
           patience: Math.min(this.#options.patience ?? PATIENCE, LONGEST),
           signal,
         });
@@ -295,6 +330,7 @@ export class Client extends Emitter {
         signal.throwIfAborted();
         if (error.code === "ENOENT" || error instanceof TypeError) throw error; // no such program, or no such link here
         if (error.code > 0 && error.code !== Refusal.NoMemory) throw error; // the name is none
+        if (error.cause?.name === "Replaced") throw error.cause;
         this.#trouble = error;
         this.#tell(error.cause?.name === "Full" ? "full" : "offline");
       }
@@ -328,11 +364,13 @@ export class Client extends Emitter {
     this.dispatchEvent(new StateEvent(state));
   }
 
-  #onCut() {
+  /** @param {Error} [cause] */
+  #onCut(cause) {
     if (this.#session.hasServed) this.#pauses.reset();
     this.#session = null;
     for (const { line } of this.#docs.values()) line.session = null;
     if (this.#closing.signal.aborted) return this.#stop(this.#closing.signal.reason);
+    if (cause?.name === "Replaced") return this.#shut(cause);
     this.#tell("offline");
     this.dispatchEvent(new Event("cut"));
     this.#begin(true);

@@ -15,6 +15,7 @@ import { MAX_LINE } from "./operations.js";
  * @property {number} [base]
  * @property {number} [rev]
  * @property {import("./delta.js").Op[]} [ops]
+ * @property {[number, number] | null} [at]
  *
  * @typedef {object} Reply  a line that comes, with the members that its kind has
  * @property {string} [doc]
@@ -27,6 +28,12 @@ import { MAX_LINE } from "./operations.js";
  * @property {number} [ended]
  * @property {number} [code]
  * @property {string} [error]
+ * @property {number} [gateway]
+ * @property {string} [lease]
+ * @property {number} [epoch]
+ * @property {number} [presence]
+ * @property {[number, number] | null} [at]
+ * @property {string} [user]
  *
  * @callback Settle  is called once for each message, in their order, before any later line is read
  * @param {RichdError | null} error
@@ -44,10 +51,14 @@ export class Session {
   #waiting = [];
   /** @type {Heartbeat} */
   #heartbeat;
-  /** @type {{ onNews: (line: Reply) => void, onEnd: () => void }} */
+  /** @type {{ onNews: (line: Reply) => void, onPresence: (line: Reply) => void, onEnd: (cause?: Error) => void }} */
   #listener;
+  #source;
+  #isGateway = false;
   #isEnding = false;
   #hasEnded = false;
+  /** @type {Error | undefined} */
+  #cause; // of its end
   #lines = 0; // that came
   /** @type {() => void} */
   #end;
@@ -55,19 +66,25 @@ export class Session {
   /** @type {Promise<void>} when the session has ended */
   ended = new Promise((resolve) => (this.#end = resolve));
 
+  /** @param {string} source */
+  constructor(source) {
+    this.#source = source;
+  }
+
   /**
    * Opens a link, and says hello.
    * @param {import("./links.js").Address} address
    * @param {string} source
    * @param {object} options
    * @param {(line: Reply) => void} options.onNews  is called with each line of news
-   * @param {() => void} options.onEnd  is called when the session ends that was begun
+   * @param {(line: Reply) => void} options.onPresence  is called with each line of somebody's presence
+   * @param {(cause?: Error) => void} options.onEnd  is called when the session ends that was begun
    * @param {number} options.patience  after so many milliseconds in which nothing came the session is cut; after half of them it asks
    * @param {AbortSignal} [options.signal]  cuts the session while it begins
    */
-  static async begin(address, source, { onNews, onEnd, patience, signal }) {
-    const session = new Session();
-    session.#listener = { onNews, onEnd: () => {} };
+  static async begin(address, source, { onNews, onPresence, onEnd, patience, signal }) {
+    const session = new Session(source);
+    session.#listener = { onNews, onPresence, onEnd: () => {} };
     const listener = {
       onBytes: (/** @type {Uint8Array} */ bytes) => session.#read(bytes),
       onClose: (/** @type {Error | undefined} */ cause) => session.#close(cause),
@@ -85,18 +102,29 @@ export class Session {
     signal?.addEventListener("abort", cut);
     if (signal?.aborted) cut();
     try {
-      await new Promise((resolve, reject) => {
-        session.send({ do: "hello", source }, (error) => (error ? reject(error) : resolve()));
+      const { gateway } = await new Promise((resolve, reject) => {
+        session.send({ do: "hello", source }, (error, reply) => (error ? reject(error) : resolve(reply)));
       });
+      session.#isGateway = gateway !== undefined;
     } catch (error) {
       link.cut();
       throw error;
     } finally {
       signal?.removeEventListener("abort", cut);
     }
-    if (session.#hasEnded) throw new RichdError(0, "Cut");
+    if (session.#hasEnded) throw new RichdError(0, "Cut", session.#cause);
     session.#listener.onEnd = onEnd;
     return session;
+  }
+
+  /** The name that it began with. */
+  get source() {
+    return this.#source;
+  }
+
+  /** Whether it is one of a gateway, which lends names and tells who is present. */
+  get isGateway() {
+    return this.#isGateway;
   }
 
   /** Whether more came than the greeting. */
@@ -156,6 +184,7 @@ export class Session {
       this.#lines += 1;
       return this.#listener.onNews(line);
     }
+    if (line.presence !== undefined) return this.#isGateway ? this.#listener.onPresence(line) : this.cut();
     const { message, settle } = this.#waiting[0] ?? {};
     if (message === undefined || (line.code === undefined && !isReplyTo(line, message))) return this.cut();
     this.#lines += 1;
@@ -173,9 +202,10 @@ export class Session {
   #close(cause) {
     if (this.#hasEnded) return;
     this.#hasEnded = true;
+    this.#cause = cause;
     this.#heartbeat?.end();
     for (const { settle } of this.#waiting.splice(0)) settle(new RichdError(0, "Cut", cause));
     this.#end();
-    this.#listener.onEnd();
+    this.#listener.onEnd(cause);
   }
 }

@@ -1,18 +1,22 @@
-// A text with bold and italic parts in a `contenteditable`, for pages without Quill. It has the methods of Quill that `bind` calls, and
-// keeps to its rule that a text ends with a line's end.
+// A text with bold and italic parts, headers and lists in a `contenteditable`, for pages without Quill. It has the methods of Quill that `bind`
+// calls, and keeps to its rules: a text ends with a line's end, and a line's end has the line's attributes.
 
 import { Delta } from "../../clients/js/delta.js";
 import { difference } from "../../clients/js/difference.js";
+import { Carets } from "./carets.js";
 
 const TAGS = { bold: "b", italic: "i" };
 const EMBED = "\u25a3"; // stands for what this editor can't show; one unit
 
+/** What a line is shown as, by the attributes of its end. */
+const classOf = ({ header, list } = {}) => (header ? `header${header}` : list ? `list ${list}` : "");
+
 const isEmbed = (op) => typeof op.insert !== "string";
 
-function nodeOf(op) {
-  let node = document.createTextNode(isEmbed(op) ? EMBED : op.insert);
+function nodeOf(text, attributes) {
+  let node = document.createTextNode(text);
   for (const [name, tag] of Object.entries(TAGS)) {
-    if (op.attributes?.[name] !== true) continue;
+    if (attributes?.[name] !== true) continue;
     const element = document.createElement(tag);
     element.append(node);
     node = element;
@@ -20,12 +24,27 @@ function nodeOf(op) {
   return node;
 }
 
+/** A block for each line, with the line's end in it. */
+function blocksOf({ ops }) {
+  const blocks = [document.createElement("div")];
+  for (const op of ops) {
+    for (const part of isEmbed(op) ? [EMBED] : op.insert.match(/[^\n]+|\n/g)) {
+      blocks.at(-1).append(nodeOf(part, op.attributes));
+      if (part !== "\n") continue;
+      blocks.at(-1).className = classOf(op.attributes);
+      blocks.push(document.createElement("div"));
+    }
+  }
+  return blocks.slice(0, -1);
+}
+
 const textOf = ({ ops }) => ops.map((op) => (isEmbed(op) ? EMBED : op.insert)).join("");
 
 export class Editable {
   #element;
   #contents = new Delta([{ insert: "\n" }]);
-  #listeners = new Set();
+  #listeners = { "text-change": new Set(), "selection-change": new Set() };
+  #carets;
   #typing = {}; // attributes that were set with nothing selected, for what is typed next
   #isComposing = false; // a character of several keys: until it ends the text is the browser's, and `bind` leaves it alone
 
@@ -38,6 +57,8 @@ export class Editable {
     element.addEventListener("input", () => this.#isComposing || this.#readBack());
     element.addEventListener("compositionstart", () => (this.#isComposing = true));
     element.addEventListener("compositionend", () => this.#afterComposition());
+    document.addEventListener("selectionchange", () => this.#tell("selection-change", this.getSelection()));
+    this.#carets = new Carets(element, (index, end) => this.#rangeOf(index, end));
     this.#render();
   }
 
@@ -69,11 +90,26 @@ export class Editable {
   }
 
   on(name, listener) {
-    if (name === "text-change") this.#listeners.add(listener);
+    this.#listeners[name]?.add(listener);
   }
 
   off(name, listener) {
-    this.#listeners.delete(listener);
+    this.#listeners[name]?.delete(listener);
+  }
+
+  #tell(name, ...what) {
+    for (const listener of this.#listeners[name]) listener(...what);
+  }
+
+  /** What shows the carets of others, where `bind` asks for it. */
+  getModule(name) {
+    return name === "cursors" ? this.#carets : undefined;
+  }
+
+  /** What is selected, or null where the caret is elsewhere. */
+  getSelection() {
+    const selected = this.#selected();
+    return selected === undefined ? null : { index: selected[0], length: selected[1] - selected[0] };
   }
 
   setSelection(index, length = 0) {
@@ -93,6 +129,24 @@ export class Editable {
     this.#change(new Delta().retain(start).retain(end - start, { [name]: hasAll ? null : true }), "user");
   }
 
+  /** Gives the lines of what is selected a header or a list, or none where the first of them has it. */
+  toggleLine(name, value) {
+    const [start, end] = this.#selected() ?? [0, 0];
+    const change = new Delta();
+    let isSet;
+    for (let at = 0, last = -1; last < end; ) {
+      last = this.#lineEnd(Math.max(start, last + 1));
+      isSet ??= this.#attributesAt(last)[name] === value;
+      change.retain(last - at).retain(1, { header: null, list: null, ...(!isSet && { [name]: value }) });
+      at = last + 1;
+    }
+    this.#change(change, "user");
+  }
+
+  #lineEnd(index) {
+    return textOf(this.#contents).indexOf("\n", index);
+  }
+
   #beforeInput(event) {
     if (!event.cancelable || this.#isComposing) return; // what the browser does is read back
     event.preventDefault();
@@ -108,19 +162,33 @@ export class Editable {
 
   #replace(range, text) {
     const [start, end] = this.#indexesOf(range);
-    const change = new Delta().retain(start).insert(text, this.#attributesFor(start)).delete(end - start);
+    const change = new Delta().retain(start);
+    if (text !== "\n") change.insert(text, this.#attributesFor(start)).delete(end - start);
+    else this.#partLine(change, start, end);
     this.#typing = {};
     this.#change(change, "user", [start + text.length, start + text.length]);
+  }
+
+  // Both lines are as the one was, but for a header, which only the first is.
+  #partLine(change, start, end) {
+    const last = this.#lineEnd(end);
+    const { header, list } = this.#attributesAt(last);
+    change.insert("\n", { ...(header && { header }), ...(list && { list }) }).delete(end - start);
+    if (header) change.retain(last - end).retain(1, { header: null });
   }
 
   // What is typed at a place has the attributes of what stands before it, and those that were set for it.
   #attributesFor(start) {
     const set = Object.entries({ ...this.#attributesBefore(start), ...this.#typing });
-    return Object.fromEntries(set.filter(([, value]) => value !== false));
+    return Object.fromEntries(set.filter(([name, value]) => name in TAGS && value !== false));
   }
 
   #attributesBefore(index) {
-    return index > 0 ? (this.#contents.slice(index - 1, index).ops[0].attributes ?? {}) : {};
+    return index > 0 ? this.#attributesAt(index - 1) : {};
+  }
+
+  #attributesAt(index) {
+    return this.#contents.slice(index, index + 1).ops[0]?.attributes ?? {};
   }
 
   #change(change, source, selected = this.#selected()?.map((index) => change.transformPosition(index, true))) {
@@ -128,12 +196,13 @@ export class Editable {
     const before = this.#contents;
     this.#contents = before.compose(change);
     this.#render(selected);
-    for (const listener of this.#listeners) listener(change, before, source);
+    this.#tell("text-change", change, before, source);
   }
 
   #render(selected) {
-    this.#element.replaceChildren(...this.#contents.ops.map(nodeOf));
+    this.#element.replaceChildren(...blocksOf(this.#contents));
     if (selected !== undefined) this.#select(selected);
+    this.#carets.draw();
   }
 
   #afterComposition() {
@@ -175,12 +244,20 @@ export class Editable {
     document.getSelection().setBaseAndExtent(...this.#placeOf(start), ...this.#placeOf(end));
   }
 
+  #rangeOf(index, end) {
+    const range = document.createRange();
+    range.setStart(...this.#placeOf(index));
+    range.setEnd(...this.#placeOf(end));
+    return range;
+  }
+
   #placeOf(index) {
     const texts = document.createTreeWalker(this.#element, NodeFilter.SHOW_TEXT);
     let left = Math.min(index, this.getLength() - 1);
     while (texts.nextNode()) {
-      if (left <= texts.currentNode.length) return [texts.currentNode, left];
-      left -= texts.currentNode.length;
+      const { data, length } = texts.currentNode;
+      if (left < length || (left === length && data !== "\n")) return [texts.currentNode, left];
+      left -= length;
     }
     return [this.#element, 0];
   }

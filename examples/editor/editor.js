@@ -5,16 +5,24 @@ import { bind } from "../../clients/js/quill.js";
 import { Editable } from "./editable.js";
 
 const DOC = "letter";
-const url = `ws://${location.host}/`;
+const socket = `${location.protocol === "https:" ? "wss" : "ws"}://${location.host}/`;
 
-/** Quill's class where the bridge was given Quill's files, else undefined. */
-async function loadQuill() {
-  const { ok } = await fetch("/quill/quill.js", { method: "HEAD" });
-  if (!ok) return undefined;
-  const style = Object.assign(document.createElement("link"), { rel: "stylesheet", href: "/quill/quill.snow.css" });
-  const script = Object.assign(document.createElement("script"), { src: "/quill/quill.js" });
-  document.head.append(style, script);
+/** Loads one of Quill's files where the bridge was given it. */
+async function load(name) {
+  const src = `/quill/${name}`;
+  const { ok } = await fetch(src, { method: "HEAD" });
+  if (!ok) return false;
+  const script = Object.assign(document.createElement("script"), { src });
+  document.head.append(script);
   await new Promise((resolve) => (script.onload = resolve));
+  return true;
+}
+
+/** Quill's class where it is there, with quill-cursors where that is there, else undefined. */
+async function loadQuill() {
+  if (!(await load("quill.js"))) return undefined;
+  document.head.append(Object.assign(document.createElement("link"), { rel: "stylesheet", href: "/quill/quill.snow.css" }));
+  if (await load("quill-cursors.js")) globalThis.Quill.register("modules/cursors", globalThis.QuillCursors);
   return globalThis.Quill;
 }
 
@@ -23,7 +31,8 @@ function editorIn(section, Quill) {
   const toolbar = section.querySelector(".toolbar");
   if (Quill !== undefined) {
     toolbar.remove();
-    return new Quill(text, { theme: "snow", formats: ["bold", "italic"], modules: { toolbar: [["bold", "italic"]] } });
+    const cursors = globalThis.QuillCursors !== undefined && { cursors: true };
+    return new Quill(text, { theme: "snow", formats: ["bold", "italic"], modules: { toolbar: [["bold", "italic"]], ...cursors } });
   }
   const editor = new Editable(text);
   for (const [name, label] of [["bold", "B"], ["italic", "I"]]) {
@@ -35,7 +44,9 @@ function editorIn(section, Quill) {
   return editor;
 }
 
-const STATES = { offline: "no connection", full: "the server is full", storeFailed: "the server's disk failed" }; // others are named as they are
+// How it stands, and why it ended; other states are named as they are.
+const STATES = { offline: "no connection", full: "the server is full", storeFailed: "the server's disk failed" };
+const REASONS = { NotAllowed: "you may not change it", Replaced: "it was opened elsewhere", Deleted: "it was deleted" };
 
 /** Ctrl+Z takes back what was typed here, and Ctrl+Y brings it back. Quill does this by itself. */
 function addHistory(section, shared) {
@@ -49,7 +60,7 @@ function addHistory(section, shared) {
 }
 
 async function begin(section, Quill) {
-  const client = await connect({ url });
+  const client = await connect({ url: `${socket}?user=${section.id}`, server: socket });
   const stateLine = section.querySelector(".state");
   const show = (state, words) => {
     stateLine.classList.toggle("cut", state !== "saved" && state !== "saving");
@@ -64,11 +75,18 @@ async function begin(section, Quill) {
   const editor = editorIn(section, Quill);
   bind(editor, shared);
   if (Quill === undefined) addHistory(section, shared);
+  let reason; // of the last trouble
   const showDocument = () => {
+    const { state } = shared;
     const kept = shared.isSaved ? [] : [shared.isKept ? "kept here" : "not kept yet"];
-    show(shared.state, [`revision ${shared.revision}`, ...kept]);
+    const why = (state === "refused" || state === "closed") && reason ? [reason] : [];
+    show(state, [`revision ${shared.revision}`, ...kept, ...why]);
   };
-  shared.addEventListener("trouble", ({ error }) => (stateLine.title = error.message));
+  shared.addEventListener("trouble", ({ error, delta }) => {
+    reason = REASONS[error.name] ?? error.message;
+    stateLine.title = `${error.message}: ${JSON.stringify(delta.ops)}`;
+    showDocument();
+  });
   shared.addEventListener("doubt", ({ delta }) => (stateLine.title = `perhaps lost: ${JSON.stringify(delta.ops)}`));
   for (const name of ["progress", "state"]) shared.addEventListener(name, showDocument);
   showDocument();

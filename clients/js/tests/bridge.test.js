@@ -1,7 +1,10 @@
 // The bridge: sessions over a WebSocket, and the files that it serves.
 
 import assert from "node:assert/strict";
+import { mkdtempSync, rmSync } from "node:fs";
 import http from "node:http";
+import os from "node:os";
+import path from "node:path";
 import test from "node:test";
 import { startBridge, webSockets } from "../bridge.js";
 import { connect } from "../richd.js";
@@ -11,10 +14,12 @@ const { WebSocket } = webSockets();
 
 async function bridged(t) {
   const server = await served();
-  const bridge = await startBridge(server.address);
-  t.after(() => {
-    bridge.close();
+  const data = mkdtempSync(path.join(os.tmpdir(), "richd-js-"));
+  const bridge = await startBridge({ ...server.address, data });
+  t.after(async () => {
+    await bridge.close();
     server.close();
+    rmSync(data, { recursive: true });
   });
   return { server, bridge };
 }
@@ -39,11 +44,14 @@ test("a WebSocket carries a session, over a cut too", async (t) => {
   assert.deepEqual(right.contents.ops, server.documents.at("d"));
 });
 
-test("the end of either side is the end of the other", async (t) => {
+test("many clients share its sessions, and one that goes takes none along", async (t) => {
   const { server, bridge } = await bridged(t);
-  const client = await connected(t, bridge.webSocketUrl);
-  await client.close();
-  await until(() => server.sessions[0].hasEnded);
+  const clients = [];
+  for (let k = 0; k < 80; k += 1) clients.push(await connected(t, bridge.webSocketUrl));
+  await Promise.all(clients.map((client, index) => client.create(`d${index}`, [{ insert: "\n" }])));
+  await clients[0].close();
+  assert.equal((await clients[79].fetch("d79")).rev, 1);
+  assert.ok(server.sessions.length <= 64, `${server.sessions.length} sessions`);
 });
 
 test("a page of another origin may not connect", async (t) => {
@@ -82,6 +90,7 @@ test("it serves the editor and the client, and nothing else", async (t) => {
   for (const [path, part] of [
     ["/examples/editor/", "<title>"],
     ["/examples/editor/editor.js?1", "bind("],
+    ["/examples/notes/?user=ann", "<title>"],
     ["/clients/js/richd.js", "export class Client"],
   ]) {
     const { status, content } = await got(bridge, path);

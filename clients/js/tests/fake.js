@@ -21,7 +21,10 @@ export async function scripted(onLine) {
     let text = "";
     socket.setEncoding("utf8");
     socket.on("error", () => {});
-    socket.on("close", () => (session.hasEnded = true));
+    socket.on("close", () => {
+      session.hasEnded = true;
+      session.onEnd?.();
+    });
     socket.on("end", () => socket.end());
     socket.on("data", (data) => {
       const lines = (text + data).split("\n");
@@ -135,13 +138,37 @@ export class Documents {
   }
 }
 
+/** Those who are present in documents, as a gateway tells of them. */
+class Rooms {
+  #rooms = new Map(); // doc -> session -> its line
+  #count = 0; // of sessions
+
+  answer({ doc, at, rev }, session) {
+    const room = this.#rooms.get(doc) ?? new Map();
+    this.#rooms.set(doc, room);
+    const isNew = !room.has(session);
+    const line = { at, doc, presence: (session.presence ??= this.#count += 1), rev, user: `user of ${session.source}` };
+    if (at === null) room.delete(session);
+    else room.set(session, line);
+    session.reply({ doc, ok: "presence" }, ...(isNew && at !== null ? [...room.values()].filter((other) => other !== line) : []));
+    for (const other of room.keys()) if (other !== session) other.reply(line);
+  }
+
+  leave(session) {
+    for (const [doc, room] of this.#rooms) if (room.has(session)) this.answer({ doc, at: null, rev: 0 }, session);
+  }
+}
+
 /**
  * Serves documents. `refuse` may give a reply in place of the documents, and nothing is done then. `spoil` is called once they have
- * answered, and returns true where the reply isn't to be sent.
- * @param {{ refuse?: (message: any) => any, spoil?: (message: any, session: any) => boolean }} [faults]
+ * answered, and returns true where the reply isn't to be sent. With `lend` it is a gateway, which lends this name for a document to who said
+ * hello with a token: `{ lease, epoch, n }`, or a refusal.
+ * @param {{ refuse?: (message: any) => any, spoil?: (message: any, session: any) => boolean, lend?: (doc: string, token: string) => any }} [faults]
  */
-export async function served({ refuse = () => undefined, spoil = () => false } = {}) {
+export async function served({ refuse = () => undefined, spoil = () => false, lend } = {}) {
   const documents = new Documents();
+  const rooms = new Rooms();
+  const messages = []; // all but hello
   const tell = (session) => {
     for (const [doc, rev] of [...(session.follows ?? [])].sort()) {
       const newest = documents.newest(doc);
@@ -157,14 +184,20 @@ export async function served({ refuse = () => undefined, spoil = () => false } =
     if (message.do === "hello") {
       Object.assign(session, { source: message.source, documents });
       session.follows = new Map();
-      return session.reply({ ok: "hello" });
+      session.onEnd = () => rooms.leave(session);
+      return session.reply(lend === undefined ? { ok: "hello" } : { gateway: 1, ok: "hello" });
     }
-    const reply = refuse(message) ?? documents.answer(message, session.source);
+    messages.push(message);
+    const lent = lend?.(message.doc, session.source);
+    const refused = refuse(message);
+    if (message.do === "presence" && lent !== undefined && refused === undefined) return rooms.answer(message, session);
+    const given = message.do !== "lease" ? documents : { answer: () => (lent?.code ? lent : { doc: message.doc, ok: "lease", ...lent }) };
+    const reply = refused ?? given.answer(message, lent?.lease ?? session.source);
     if (spoil(message, session)) return;
     session.reply(reply);
     if (reply.ok === "subscribed") session.follows.set(message.doc, reply.rev);
     if (reply.ok === "unsubscribed") session.follows.delete(message.doc);
     for (const other of sessions) if (!other.hasEnded) tell(other);
   });
-  return Object.assign(server, { documents });
+  return Object.assign(server, { documents, messages });
 }

@@ -1,10 +1,14 @@
 // Three who write at once with an editor each, over kills of the server, cuts, deaf lines, deletions, undos, and reloads of pages that keep what
-// was typed. checks/clients.py runs it. usage: node fuzz.js SECONDS [SEED]
+// was typed. checks/clients.py runs it. usage: node fuzz.js [--gateway] SECONDS [SEED]
+//
+// With --gateway they write through one, which is killed, too, and each shows the carets of the others.
 //
 // A round has a store of its own and lasts some ten seconds. In the first of three only characters are put in, each one another: at the end each
 // is there once. The second deletes, formats, pastes and undoes too, and the third deletes the document meanwhile. At the end of each all three
 // editors, their documents and `richd dump` hold the same.
 
+import path from "node:path";
+import { webSockets } from "../bridge.js";
 import { Delta } from "../delta.js";
 import { RichdError } from "../errors.js";
 import { bind } from "../quill.js";
@@ -15,7 +19,9 @@ import { Store } from "./program.js";
 import { proxied } from "./proxy.js";
 import { Quill } from "./quill_stub.js";
 
-const [seconds = 300, seed = 1] = process.argv.slice(2).map(Number);
+const words = process.argv.slice(2);
+const programs = words[0] === "--gateway" ? await import("../../../gateway/tests/programs.js") : undefined;
+const [seconds = 300, seed = 1] = words.slice(programs === undefined ? 0 : 1).map(Number);
 const PEOPLE = 3;
 const ROUND = 10_000; // milliseconds of writing
 const LONGEST = 120_000; // milliseconds until all is settled, on a busy machine too
@@ -24,7 +30,7 @@ const SHAPES = [[], ["--keep", "3"], ["--keep", "16", "--slots", "2", "--slot", 
 const KINDS = ["characters", "changes", "deletions"];
 
 const draw = new Draw(seed);
-const count = { edits: 0, kills: 0, cuts: 0, "deaf lines": 0, deletions: 0, undos: 0, compositions: 0, reloads: 0, "of them unsaved": 0, rounds: 0, revisions: 0 };
+const count = { edits: 0, kills: 0, "kills of the gateway": 0, cuts: 0, "deaf lines": 0, deletions: 0, undos: 0, compositions: 0, reloads: 0, "of them unsaved": 0, rounds: 0, revisions: 0 };
 const troubles = {};
 const differences = [];
 let characters = 0; // that were put in, in all rounds
@@ -44,7 +50,9 @@ class Person {
 
   async begin() {
     this.page = this.browser.page(this.page?.tab);
-    this.client = await connect({ ...this.proxy.address, patience: PATIENCE, signal: this.page.signal }, this.page);
+    const { address } = this.proxy;
+    const link = programs === undefined ? address : { url: `ws://127.0.0.1:${address.port}/`, WebSocket: webSockets().WebSocket };
+    this.client = await connect({ ...link, server: "store", patience: PATIENCE, signal: this.page.signal }, this.page);
     await this.open();
   }
 
@@ -65,13 +73,17 @@ class Person {
       }
     }
     const { signal } = this.page;
+    this.document.addEventListener("doubt", ({ delta }) => {
+      const mayBe = this.round.kind !== "characters" || signal.aborted; // its numbers are those of other commands, too
+      if (!mayBe) this.round.differ(`${this.name} doubts ${spelled(delta.ops)}`);
+    });
     this.document.addEventListener("trouble", ({ error, delta }) => {
       if (signal.aborted) return; // the page is gone
       troubles[error.name] = (troubles[error.name] ?? 0) + 1;
       const isOurs = ["Parted", "BadOps", "PastEnd", "CutsPair"].includes(error.name);
       if (isOurs) this.round.differ(`${this.name}: ${error.message} of ${spelled(delta.ops)} on ${spelled(this.document.contents.ops)}`);
     });
-    this.quill = new Quill({ tellsAtOnce: draw.below(2) === 0 });
+    this.quill = new Quill({ tellsAtOnce: draw.below(2) === 0, modules: { cursors: programs !== undefined } });
     this.quill.history.options.delay = 300;
     this.quill.on("text-change", (delta, before, source) => (count.edits += source === "user" ? 1 : 0));
     this.unbind = bind(this.quill, this.document);
@@ -192,8 +204,9 @@ class Round {
     this.store = new Store(this, "--docs", "8", "--cell", "4194304", ...this.shape);
     this.address = await this.store.serve();
     this.people = Array.from({ length: PEOPLE }, (_, index) => new Person(`u${index}`, this));
+    const front = programs === undefined ? this.address : await this.#startGateway();
     for (const person of this.people) {
-      person.proxy = await proxied(this, this.address);
+      person.proxy = await proxied(this, front);
       await person.begin();
     }
     const working = [this.#disturb(), ...this.people.map((person) => this.#work(person))];
@@ -204,6 +217,14 @@ class Round {
     for (const person of this.people) person.end();
     for (const ending of this.#endings.reverse()) await ending();
     count.rounds += 1;
+  }
+
+  async #startGateway() {
+    const { GatewayProgram, folderFor } = programs;
+    const settings = { name: "f", stores: [{ name: "s", ...this.address }], data: path.join(folderFor(this), "data"), limits: { userMessages: 1_000_000 } };
+    this.gateway = new GatewayProgram(this, () => settings, "ignore");
+    await this.gateway.start();
+    return { host: "127.0.0.1", port: this.gateway.port };
   }
 
   async #work(person) {
@@ -224,6 +245,10 @@ class Round {
       if (what < 5) {
         count.cuts += 1;
         proxy.cut();
+      } else if (what === 5 && this.gateway !== undefined) {
+        count["kills of the gateway"] += 1;
+        await this.gateway.kill();
+        await this.gateway.start();
       } else if (what < 8) {
         count.kills += 1;
         await this.store.kill();

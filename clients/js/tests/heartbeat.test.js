@@ -2,7 +2,7 @@
 
 import assert from "node:assert/strict";
 import test from "node:test";
-import { startBridge, webSockets } from "../bridge.js";
+import { webSockets } from "../bridge.js";
 import { Heartbeat } from "../heartbeat.js";
 import { Client, connect } from "../richd.js";
 import { scripted, served, until } from "./fake.js";
@@ -143,13 +143,13 @@ test("connect goes on for ever, and its state says how it stands", async (t) => 
   assert.deepEqual(told, ["full", "connected", "closed"]);
 });
 
-test("a bridge says that the server has no place, and that there is none", async (t) => {
-  const full = await scripted((_, session) => session.cut());
+test("a gateway says that it has no place, and one that is gone says nothing", async (t) => {
+  const { WebSocket, WebSocketServer } = webSockets();
+  const full = new WebSocketServer({ host: "127.0.0.1", port: 0 });
   t.after(() => full.close());
-  const { WebSocket } = webSockets();
-  const bridge = await startBridge(full.address);
-  t.after(() => bridge.close());
-  const client = new Client({ url: bridge.webSocketUrl, WebSocket });
+  full.on("connection", (webSocket) => webSocket.close(4503, "full"));
+  await until(() => full.address() !== null);
+  const client = new Client({ url: `ws://127.0.0.1:${full.address().port}/`, WebSocket });
   t.after(() => client.close());
   await until(() => client.state === "full");
   full.close();

@@ -159,19 +159,19 @@ test("an edit that was sent under a lease that is lost is in doubt: it is told, 
     let epoch = 1;
     let isLost = true;
     const isA = (message) => isLost && message.ops?.[0]?.insert === "a";
-    const { load, newest, server } = await prepared(t, { refuse: (message) => (isA(message) && !isTaken ? {} : undefined), spoil: isA });
-    const leaseOf = async () => ({ name: "lent", epoch });
-    const before = await load(undefined, { leaseOf });
+    const lend = (doc, token) => ({ lease: token, epoch: token === "creator" ? 1 : epoch });
+    const { load, newest, server } = await prepared(t, { refuse: (message) => (isA(message) && !isTaken ? {} : undefined), spoil: isA, lend });
+    const before = await load();
     const document = await before.open();
     document.apply([{ insert: "a" }]);
-    await Promise.resolve();
+    await until(() => server.messages.some(isA)); // it was sent
     document.apply([{ retain: 1 }, { insert: "b" }]);
     await until(() => document.isKept);
     before.page.goes();
     isLost = false;
     epoch = 2;
 
-    const after = await load(before.page.tab, { leaseOf });
+    const after = await load(before.page.tab);
     const again = await after.open();
     const shown = { contents: again.contents };
     again.addEventListener("change", ({ delta }) => (shown.contents = shown.contents.compose(delta)));
@@ -390,4 +390,32 @@ test("drawn typing in two tabs, with pages that go and come, cuts and writes tha
   assert.ok(unkept.size < 300);
   for (const { document } of tabs) assert.deepEqual(document.contents.ops, newest());
   await last.client.close();
+});
+
+test("an edit that was sent behind a refused command holds up nobody once its document is closed", async (t) => {
+  let isQuiet = false;
+  const sent = [];
+  const refuse = (message) => (isQuiet && message.do === "delete" ? { code: 16, error: "TooHeavy" } : undefined);
+  const spoil = (message, session) => {
+    if (!isQuiet || session.source === "creator" || message.base > 2 ** 52) return false;
+    sent.push({ message, session });
+    return true;
+  };
+  const { load } = await prepared(t, { refuse, spoil });
+  const { client, open } = await load();
+  const document = await open();
+  document.apply([{ insert: "a" }]);
+  await document.flush();
+  isQuiet = true;
+  const deleted = client.delete("d");
+  document.apply([{ insert: "b" }]);
+  await until(() => sent.length === 2);
+  const [{ session }] = sent;
+  session.reply({ code: 16, error: "TooHeavy" });
+  await assert.rejects(deleted, { name: "TooHeavy" });
+  document.close();
+  isQuiet = false;
+  session.cut();
+  await heard(client, "connected");
+  assert.equal(textOf(await client.fetch("d", undefined, { timeout: 2_000 })), "aHello\n");
 });

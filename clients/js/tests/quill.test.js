@@ -32,8 +32,8 @@ class Editor extends EventEmitter {
 async function prepared(t, ops = [{ insert: "\n" }], faults = {}) {
   const server = await served(faults);
   t.after(() => server.close());
-  const person = async (quill = new Quill(), options = {}) => {
-    const client = await connect(server.address);
+  const person = async (quill = new Quill(), options = {}, source) => {
+    const client = await connect({ ...server.address, source });
     t.after(() => client.close());
     if (server.documents.newest("d") === 0) await client.create("d", ops);
     const document = await client.open("d");
@@ -251,4 +251,58 @@ test("a pasted image is uploaded, and its URL put in its place", async (t) => {
   await until(() => ann.document.contents.ops[0].insert.image === "/blobs/2.png");
   await settled(ann, bob);
   areAlike(ann, bob);
+});
+
+const lending = { lend: (doc, token) => ({ lease: token, epoch: 1 }) };
+const withCursors = () => new Quill({ modules: { cursors: true } });
+const cursorsIn = ({ quill }) => quill.getModule("cursors").cursors().map(({ name, range }) => `${name.replace("user of ", "")} ${range.index}+${range.length}`).sort();
+const shows = (person, ...cursors) => until(() => String(cursorsIn(person)) === String(cursors));
+
+test("editors with quill-cursors show where the others are, as they select, type and go", async (t) => {
+  const { person, settled, areAlike } = await prepared(t, [{ insert: "Hello world\n" }], lending);
+  const ann = await person(withCursors(), {}, "ann");
+  const bob = await person(withCursors(), { colorOf: (user) => `color of ${user}` }, "bob");
+  const cas = await person(new Quill(), {}, "cas"); // who shows nobody, and of whom nobody is told
+  await shows(ann, "bob 0+0");
+  await shows(bob, "ann 0+0");
+  ann.quill.select({ index: 5, length: 0 });
+  bob.quill.select({ index: 6, length: 5 });
+  await shows(ann, "bob 6+5");
+  await shows(bob, "ann 5+0");
+  assert.equal(bob.quill.getModule("cursors").cursors()[0].color, "color of user of ann");
+  ann.quill.press(5, "!");
+  assert.deepEqual(cursorsIn(ann), ["bob 7+5"]);
+  cas.quill.press(0, "Oh. ");
+  await settled(ann, bob, cas);
+  await shows(ann, "bob 11+5");
+  await shows(bob, "ann 10+0");
+  areAlike(ann, bob, cas);
+  ann.quill.select(null);
+  bob.quill.select({ index: 1, length: 0 });
+  await shows(ann, "bob 1+0");
+  assert.deepEqual(cursorsIn(bob), ["ann 10+0"]);
+  ann.unbind();
+  await shows(bob);
+  assert.deepEqual(cursorsIn(ann), []);
+  bob.client.close();
+  await until(() => bob.document.isClosed);
+  assert.deepEqual(cursorsIn(bob), []);
+});
+
+test("while a character is composed a caret stays where it is, and the own one is told as the document has it", async (t) => {
+  const { person, settled, areAlike } = await prepared(t, [{ insert: "Hello world\n" }], lending);
+  const [ann, bob] = [await person(withCursors(), {}, "ann"), await person(withCursors(), {}, "bob")];
+  bob.quill.select({ index: 11, length: 0 });
+  await shows(ann, "bob 11+0");
+  ann.quill.compose(5, "か");
+  bob.quill.press(0, "ABC ");
+  await until(() => ann.document.length === 16);
+  assert.deepEqual(cursorsIn(ann), ["bob 11+0"]);
+  ann.quill.select({ index: 2, length: 0 });
+  await shows(bob, "ann 6+0");
+  ann.quill.endComposition();
+  await settled(ann, bob);
+  areAlike(ann, bob);
+  await shows(ann, "bob 16+0");
+  await shows(bob, "ann 6+0");
 });

@@ -69,6 +69,30 @@ class History {
   }
 }
 
+/** The calls of quill-cursors' module that its page documents, for carets of others. */
+class Cursors {
+  #cursors = new Map();
+
+  createCursor(id, name, color) {
+    if (typeof id !== "string" || typeof name !== "string" || typeof color !== "string") throw new TypeError("no cursor");
+    if (!this.#cursors.has(id)) this.#cursors.set(id, { id, name, color, range: null });
+    return this.#cursors.get(id);
+  }
+
+  moveCursor(id, { index, length }) {
+    const cursor = this.#cursors.get(id);
+    if (cursor !== undefined) cursor.range = { index, length };
+  }
+
+  removeCursor(id) {
+    this.#cursors.delete(id);
+  }
+
+  cursors() {
+    return [...this.#cursors.values()];
+  }
+}
+
 /**
  * `press` is typing that Quill tells at once, and `type` is typing that is in the page and that Quill tells when it next looks. `compose` is
  * what an input method has put into the page: Quill looks at that when the composition ends, or as it changes the page itself. Then it tells
@@ -83,10 +107,30 @@ export class Quill extends EventEmitter {
   /** @type {Delta | null} */
   #composed = null;
 
+  /** @type {{ index: number, length: number } | null} */
+  #selection = null;
+
   constructor({ modules = {}, formats, tellsAtOnce = false } = {}) {
     super();
     Object.assign(this, { formats, tellsAtOnce });
     this.history = new History(this, modules.history);
+    this.modules = { history: this.history, ...(modules.cursors && { cursors: new Cursors() }) };
+  }
+
+  getModule(name) {
+    return this.modules[name];
+  }
+
+  getSelection() {
+    this.update();
+    return this.#selection;
+  }
+
+  /** Its user selects something, or goes elsewhere with null. */
+  select(selection) {
+    const before = this.#selection;
+    this.#selection = selection;
+    this.emit("selection-change", selection, before, "user");
   }
 
   enable(isEnabled = true) {

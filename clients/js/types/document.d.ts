@@ -27,6 +27,8 @@ export class RichDocument extends Emitter<DocumentEvents> {
     get length(): number;
     /** Undo and redo of what was typed here. */
     get history(): History;
+    /** Who else is in the document, and where; and where its own user is. */
+    get presence(): Presence;
     /** Whether it is followed no longer: it was closed, or trouble came that is final. */
     get isClosed(): boolean;
     /** @returns {DocumentState} */
@@ -121,6 +123,7 @@ export type DocumentEvents = {
 import { Emitter } from "./emitter.js";
 import { Delta as OwnDelta } from "./delta.js";
 import { History } from "./history.js";
+import { Presence } from "./presence.js";
 import { ChangeEvent } from "./events.js";
 import { TroubleEvent } from "./events.js";
 import { DoubtEvent } from "./events.js";

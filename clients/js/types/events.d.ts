@@ -20,8 +20,9 @@ export class TroubleEvent extends Event {
     isFinal: boolean;
 }
 /**
- * An edit that was sent before the page was loaded, and of which can't be known whether it was taken. It isn't sent again, and isn't shown:
- * where it was taken it comes as others' changes do. `delta` is the edit, on the document at `revision`.
+ * An edit that was sent, before the page was loaded or under a name that a gateway has lent to another since, so that it can't be known whether
+ * it was taken. It isn't sent again, and isn't shown: where it was taken it comes as others' changes do. `delta` is the edit, on the document at
+ * `revision`.
  */
 export class DoubtEvent extends Event {
     /** @param {Delta} delta @param {number} revision */
@@ -47,6 +48,12 @@ export class StateEvent<State extends string> extends Event {
     /** @param {State} state */
     constructor(state: State);
     state: State;
+}
+/** Others who are in the document came, went or moved: `others` are all that are there now. */
+export class PresenceEvent extends Event {
+    /** @param {import("./presence.js").Other[]} others */
+    constructor(others: import("./presence.js").Other[]);
+    others: import("./presence.js").Other[];
 }
 /** What is shown couldn't be kept, by `error`. It is tried again, and nothing that isn't kept is sent meanwhile. */
 export class UnkeptEvent extends Event {

@@ -6,9 +6,8 @@ export class Keeper {
     /**
      * @param {Store} store
      * @param {Key} key  of the document, and behind it "base" for what the server has of it
-     * @param {() => Promise<Lease>} leaseOf  the lease that is held
      */
-    constructor(store: Store, key: Key, leaseOf: () => Promise<Lease>);
+    constructor(store: Store, key: Key);
     /** @type {Promise<void>} when nothing more will be written */
     ended: Promise<void>;
     /** @returns {Promise<Kept | undefined>} */
@@ -23,12 +22,8 @@ export class Keeper {
     get signal(): AbortSignal;
     /** Whether what is shown is written. */
     get isUpToDate(): boolean;
-    /** Asks which lease is held, for edits that get their number now. */
-    askLease(): Promise<void>;
-    /** Waits until what is there now is written. */
+    /** Waits until what is there now is written, and throws the reason where the keeper ends before. */
     write(): Promise<void>;
-    /** Throws InDoubt where a number was kept under another lease than the one that is held. */
-    confirmLease(): Promise<void>;
     /**
      * Writes what is there a last time.
      * @param {any} reason
@@ -59,13 +54,6 @@ export type Store = {
     keys: () => Promise<Key[]>;
 };
 /**
- * under which name a document's edits are numbered, and for the how manieth time that name is lent
- */
-export type Lease = {
-    name: string;
-    epoch: number;
-};
-/**
  * what a document that types ahead is at a moment
  */
 export type Snapshot = {
@@ -77,6 +65,10 @@ export type Snapshot = {
      * of `sent`, once it may leave
      */
     number?: number | undefined;
+    /**
+     * under which the number counts
+     */
+    lease?: import("./leases.js").Lease | undefined;
     typed: Delta;
 };
 /**
@@ -88,5 +80,6 @@ export type Kept = {
     isStale: boolean;
     sent: Op[] | null;
     number?: number | undefined;
+    lease?: import("./leases.js").Lease | undefined;
     typed: Op[];
 };

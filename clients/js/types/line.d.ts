@@ -1,5 +1,10 @@
 /**
  * @typedef {import("./session.js").Reply} Reply
+ * @typedef {import("./leases.js").Lease} Lease
+ *
+ * @typedef {object} Numbered  what a command is known by
+ * @property {number} number
+ * @property {Lease} lease  under which the number counts
  *
  * @typedef {object} Item  something that was asked
  * @property {import("./session.js").Message} message  without its number
@@ -13,16 +18,20 @@
  *   sent again
  * @property {RichdError} [trouble]  what it was refused by, and is sent again for all the same
  * @property {(error: RichdError) => void} [onRetry]  is told of each
- * @property {(number: number) => Promise<void>} [hold]  is waited for before it is sent under a number
- * @property {number} [holding]  the number that it is held for
- * @property {number} [held]  the number that it was held for
- * @property {number} [kept]  the number under which it was sent before this program began, if it was
- * @property {boolean} [isInDoubt]  its number is neither the next one nor the last one that is used, so it may be another's
+ * @property {(numbered: Numbered) => Promise<void>} [hold]  is waited for before it is sent under a number
+ * @property {Numbered} [holding]  what it is held for
+ * @property {Numbered} [held]  what it was held for
+ * @property {Numbered} [kept]  what it was sent as before this program began, if it was
+ * @property {boolean} [isInDoubt]  its number is of another lease, or neither the next one nor the last one that is used, so it may be another's
+ * @property {boolean} [needsNoLease]  in the session that there is now: it creates a document that is nowhere
  */
 /**
  * At most 16 commands of a document are on their way. What is asked behind a command that waits does so too, so that a read sees what
  * was commanded before it. What isn't answered when the session ends is sent again in the next one, a command with its number, in the
  * order in which it was asked.
+ *
+ * A gateway lends a name for the document, and the numbers count under that lease alone. So it is asked for in each session, before the first
+ * command. Where it is another than before, what was sent and isn't answered ends with "InDoubt", and what wasn't sent gets new numbers.
  */
 export class Line {
     /**
@@ -54,6 +63,17 @@ export class Line {
     #private;
 }
 export type Reply = import("./session.js").Reply;
+export type Lease = import("./leases.js").Lease;
+/**
+ * what a command is known by
+ */
+export type Numbered = {
+    number: number;
+    /**
+     * under which the number counts
+     */
+    lease: Lease;
+};
 /**
  * something that was asked
  */
@@ -93,22 +113,26 @@ export type Item = {
     /**
      * is waited for before it is sent under a number
      */
-    hold?: ((number: number) => Promise<void>) | undefined;
+    hold?: ((numbered: Numbered) => Promise<void>) | undefined;
     /**
-     * the number that it is held for
+     * what it is held for
      */
-    holding?: number | undefined;
+    holding?: Numbered | undefined;
     /**
-     * the number that it was held for
+     * what it was held for
      */
-    held?: number | undefined;
+    held?: Numbered | undefined;
     /**
-     * the number under which it was sent before this program began, if it was
+     * what it was sent as before this program began, if it was
      */
-    kept?: number | undefined;
+    kept?: Numbered | undefined;
     /**
-     * its number is neither the next one nor the last one that is used, so it may be another's
+     * its number is of another lease, or neither the next one nor the last one that is used, so it may be another's
      */
     isInDoubt?: boolean | undefined;
+    /**
+     * in the session that there is now: it creates a document that is nowhere
+     */
+    needsNoLease?: boolean | undefined;
 };
 import { RichdError } from "./errors.js";

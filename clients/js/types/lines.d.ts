@@ -1,5 +1,5 @@
 /**
- * A line of news, a refusal, or what may be another reply; undefined where it is none of them.
+ * A line of news, one of somebody's presence, a refusal, or what may be another reply; undefined where it is none of them.
  * @param {string} text
  * @returns {Reply | undefined}
  */

@@ -39,7 +39,7 @@ export type ProgramAddress = {
     url?: undefined;
 };
 /**
- * a bridge
+ * a gateway
  */
 export type WebSocketAddress = {
     url: string;
@@ -74,7 +74,8 @@ export type WebSocketLike = {
 export type Listener = {
     onBytes: (bytes: Uint8Array) => void;
     /**
-     * once, at its end; the cause is "Full" where the server has no place
+     * once, at its end; the cause is "Full" where the server has no place, and "Replaced" where a gateway
+     * has another client of the same source
      */
     onClose: (cause?: Error) => void;
 };

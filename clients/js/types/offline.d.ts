@@ -7,13 +7,10 @@ export function connect(options: import("./links.js").Address & OfflineOptions, 
 /**
  * @typedef {import("./document.js").OpenOptions} OpenOptions
  * @typedef {import("./document.js").RichDocument} RichDocument
- * @typedef {import("./keeping.js").Lease} Lease
  * @typedef {import("./keeping.js").Store} Store
  *
  * @typedef {object} OfflineOptions
  * @property {string} [server]  a name for the server, under which its documents are kept: the `url` if it isn't given
- * @property {(doc: string, source: string) => Promise<Lease>} [leaseOf]  asks a gateway that lends names which one is held for a document. Without it that
- *     is the source, which is never lent again
  * @property {number} [timeout]  as `connect` of `richd` takes them
  * @property {number} [patience]
  * @property {AbortSignal} [signal]
@@ -49,18 +46,12 @@ export class OfflineClient extends Client<{
 }
 export type OpenOptions = import("./document.js").OpenOptions;
 export type RichDocument = import("./document.js").RichDocument;
-export type Lease = import("./keeping.js").Lease;
 export type Store = import("./keeping.js").Store;
 export type OfflineOptions = {
     /**
      * a name for the server, under which its documents are kept: the `url` if it isn't given
      */
     server?: string | undefined;
-    /**
-     * asks a gateway that lends names which one is held for a document. Without it that
-     * is the source, which is never lent again
-     */
-    leaseOf?: ((doc: string, source: string) => Promise<Lease>) | undefined;
     /**
      * as `connect` of `richd` takes them
      */

@@ -4,6 +4,8 @@
  * @typedef {import("./document.js").DocumentState} DocumentState
  * @typedef {import("./document.js").DocumentEvents} DocumentEvents
  * @typedef {import("./document.js").OpenOptions} OpenOptions
+ * @typedef {import("./presence.js").Other} Other
+ * @typedef {import("./presence.js").Range} Range
  *
  * @typedef {"connected" | "offline" | "full" | "closed"} ClientState  "full" is "offline" where the server has no place
  *
@@ -121,6 +123,22 @@ export class Client<More extends {
      */
     onNews(doc: string, follower: import("./news.js").Follower): () => void;
     /**
+     * Calls a function with each line that a gateway tells of others who are present in a document, while one is present oneself. Returns what
+     * ends that.
+     * @param {string} doc
+     * @param {(line: import("./session.js").Reply) => void} take
+     */
+    onPresence(doc: string, take: (line: import("./session.js").Reply) => void): () => void;
+    /**
+     * Tells a gateway where one is in a document at a revision, or with null that one has left. Says whether there is a gateway: other servers
+     * aren't told.
+     * @param {string} doc
+     * @param {number} rev
+     * @param {[number, number] | null} at
+     * @returns {Promise<boolean>}
+     */
+    tellPresence(doc: string, rev: number, at: [number, number] | null): Promise<boolean>;
+    /**
      * Opens a document that types ahead.
      * @param {string} doc
      * @param {import("./document.js").OpenOptions} [options]
@@ -135,6 +153,8 @@ export type Limits = import("./limits.js").Limits;
 export type DocumentState = import("./document.js").DocumentState;
 export type DocumentEvents = import("./document.js").DocumentEvents;
 export type OpenOptions = import("./document.js").OpenOptions;
+export type Other = import("./presence.js").Other;
+export type Range = import("./presence.js").Range;
 /**
  * "full" is "offline" where the server has no place
  */

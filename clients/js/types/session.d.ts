@@ -5,18 +5,26 @@ export class Session {
      * @param {string} source
      * @param {object} options
      * @param {(line: Reply) => void} options.onNews  is called with each line of news
-     * @param {() => void} options.onEnd  is called when the session ends that was begun
+     * @param {(line: Reply) => void} options.onPresence  is called with each line of somebody's presence
+     * @param {(cause?: Error) => void} options.onEnd  is called when the session ends that was begun
      * @param {number} options.patience  after so many milliseconds in which nothing came the session is cut; after half of them it asks
      * @param {AbortSignal} [options.signal]  cuts the session while it begins
      */
-    static begin(address: import("./links.js").Address, source: string, { onNews, onEnd, patience, signal }: {
+    static begin(address: import("./links.js").Address, source: string, { onNews, onPresence, onEnd, patience, signal }: {
         onNews: (line: Reply) => void;
-        onEnd: () => void;
+        onPresence: (line: Reply) => void;
+        onEnd: (cause?: Error) => void;
         patience: number;
         signal?: AbortSignal | undefined;
     }): Promise<Session>;
+    /** @param {string} source */
+    constructor(source: string);
     /** @type {Promise<void>} when the session has ended */
     ended: Promise<void>;
+    /** The name that it began with. */
+    get source(): string;
+    /** Whether it is one of a gateway, which lends names and tells who is present. */
+    get isGateway(): boolean;
     /** Whether more came than the greeting. */
     get hasServed(): boolean;
     /**
@@ -45,6 +53,7 @@ export type Message = {
     base?: number | undefined;
     rev?: number | undefined;
     ops?: import("./delta.js").Op[] | undefined;
+    at?: [number, number] | null | undefined;
 };
 /**
  * a line that comes, with the members that its kind has
@@ -60,6 +69,12 @@ export type Reply = {
     ended?: number | undefined;
     code?: number | undefined;
     error?: string | undefined;
+    gateway?: number | undefined;
+    lease?: string | undefined;
+    epoch?: number | undefined;
+    presence?: number | undefined;
+    at?: [number, number] | null | undefined;
+    user?: string | undefined;
 };
 /**
  * is called once for each message, in their order, before any later line is read

@@ -1,5 +1,5 @@
 //! Operations of a delta.
-ghost use Rattle.std.specs.Prelude.{◌≡◌, ◌+◌, ◌<◌, ◌^◌, ◌↔◌, ◌⊎◌, ◌++◌, IfOk, OnOk, OnErr, IfErr, IsOkUnless, MatchOption, MatchBool, false};
+ghost use Rattle.std.specs.Prelude.{◌≡◌, ◌+◌, ◌<◌, ◌^◌, ◌↔◌, ◌⊎◌, ◌++◌, length, IfOk, OnOk, OnErr, IfErr, IsOkUnless, MatchOption, MatchBool, false};
 ghost use Rattle.std.specs.String.{string_bytes};
 ghost use Rattle.std.specs.Str.{bytes_eq};
 ghost use Rattle.utf16.specs.Units.{units_of};
@@ -67,6 +67,17 @@ impl Op {
         ensures { result ≡ insert_text (units_of (string_bytes text)) attrs }
     {
         let len = len16(text.as_str());
+        Op {
+            kind: Kind::Text(text, attrs),
+            len,
+        }
+    }
+
+    /// Inserts a text whose number of UTF-16 code units the caller knows: it isn't counted again. Constant time.
+    pub fn text_of_len(text: String, len: u64, attrs: Attrs) -> Self
+        requires { len ≡ length (units_of (string_bytes text)) }
+        ensures { result ≡ insert_text (units_of (string_bytes text)) attrs }
+    {
         Op {
             kind: Kind::Text(text, attrs),
             len,

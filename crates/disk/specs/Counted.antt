@@ -1,7 +1,7 @@
 -- How many calls of a device were made, as far as it tells, and how many of them were syncs. A call that changes anything is told by the
 -- state that it leaves, and one that fails by the count of failed calls, while that is below its top. Not told is a good sync of a device
 -- that is synced, since it leaves all as it was.
-use Rattle.std.specs.Prelude.{ℕ, ◌+◌, List, [], ◌∷◌, length}
+use Rattle.std.specs.Prelude.{ℕ, ◌+◌, ◌≤◌, List, [], ◌∷◌, length}
 use Rattle.disk.specs.Device.{State, History}
 use Rattle.disk.specs.Crash.{history_of}
 use Rattle.disk.specs.declared.device.Disk.{Ghosts}
@@ -28,3 +28,9 @@ module _ {D : Type 0} (disk : Ghosts D) where
   -- The syncs so far, and the calls that failed, whatever they were.
   abbrev pub syncs_of : D → ℕ
   syncs_of d = synced_moments (history_of disk d) + disk.faults d
+
+  -- What calls cost that come to an end with the first one that fails: so many at most that a device tells of, and so many syncs, good or not.
+  pub record Costs (most_calls most_syncs : ℕ) (old new : D) : Type 0 where
+    pub calls : length (disk.past new) ≤ length (disk.past old) + most_calls
+    pub syncs : synced_moments (history_of disk new) ≤ synced_moments (history_of disk old) + most_syncs
+    pub faults : disk.faults new ≤ disk.faults old + 1

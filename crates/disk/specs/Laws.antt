@@ -1,11 +1,10 @@
 -- What follows from the definitions of a device: each law is promised by a function of `laws`.
-use Rattle.std.specs.Prelude.{◌≡◌, ◌↔◌, ℕ, ◌+◌, ◌-◌, ◌≤◌, ◌<◌, List, [], ◌++◌, length, take, drop, get_or}
+use Rattle.std.specs.Prelude.{◌≡◌, ◌↔◌, ℕ, ◌+◌, ◌-◌, ◌≤◌, List, [], ◌++◌, length, take, drop, get_or}
+use Rattle.disk.specs.Apart.{AreApart, IsApart, CoversMoreWithin, AreWrites}
+pub use Rattle.disk.specs.Apart.{IsWithin}
+use Rattle.disk.specs.Counted.{synced_moments}
 use Rattle.disk.specs.Device.{State, History, MayLeave, overwritten, SameOutside, IsWrite, IsSync, IsAtMostOneStep}
 use Rattle.disk.specs.Crash.{LeavesIn, Leaves, LeftSince}
-
--- a place in a range
-abbrev pub IsWithin : ℕ → ℕ → ℕ → Type 0
-IsWithin at count place = (at ≤ place) × (place < at + count)
 
 -- what a read gives is one of the contents that a crash may leave
 abbrev pub SeenMayBeLeft : Type 0
@@ -20,6 +19,53 @@ abbrev pub LeftByWrite : Type 0
 LeftByWrite =
     (at count : ℕ) (old new : State) (content : List ℕ) → at + count ≤ length old.seen → IsWrite at count old new
     → (MayLeave new content ↔ ((before : List ℕ) × MayLeave old before × SameOutside at count before content))
+
+-- After a list of writes to a synced device a crash leaves just what stood before them, with any bytes in each of their ranges, which of them
+-- ever the system wrote, and in whatever order.
+abbrev pub LeftByWrites : Type 0
+LeftByWrites =
+    (ranges : List (ℕ × ℕ)) (old new : State) (content : List ℕ) → old.unsynced ≡ [] → AreWrites ranges old new
+    → (MayLeave new content ↔ MayLeave (record { seen = old.seen; unsynced = ranges }) content)
+
+-- what one crash may leave in a range and another one elsewhere, a third one may leave: no range depends on another
+abbrev pub LeftMixed : Type 0
+LeftMixed =
+    (at count : ℕ) (state : State) (here elsewhere : List ℕ) → at + count ≤ length state.seen → MayLeave state here → MayLeave state elsewhere
+    → MayLeave state (overwritten elsewhere at (take count (drop at here)))
+
+-- in a range apart from the unsynced ones a crash leaves what a read gives
+abbrev pub LeftApart : Type 0
+LeftApart =
+    (at count : ℕ) (state : State) (content : List ℕ) → IsApart at count state.unsynced → MayLeave state content
+    → take count (drop at content) ≡ take count (drop at state.seen)
+
+-- each range is apart from the unsynced ones of a synced device
+abbrev pub ApartSynced : Type 0
+ApartSynced = (at count : ℕ) (ranges : List (ℕ × ℕ)) → ranges ≡ [] → IsApart at count ranges
+
+-- and stays so while more is written in a range apart from it
+abbrev pub ApartStill : Type 0
+ApartStill =
+    (at count other size : ℕ) (old new : List (ℕ × ℕ)) → AreApart at count other size → CoversMoreWithin at count old new
+    → IsApart other size old → IsApart other size new
+
+-- where one range changes, another one apart from it doesn't
+abbrev pub SameElsewhere : Type 0
+SameElsewhere =
+    (at count other size : ℕ) (old new : List ℕ) → AreApart at count other size → SameOutside at count old new
+    → take size (drop other new) ≡ take size (drop other old)
+
+-- a write costs one call that is told of, and no sync
+abbrev pub CostsWrite : Type 0
+CostsWrite =
+    (at count : ℕ) (old new : History) → IsAtMostOneStep (IsWrite at count) old new
+    → (length new.past ≤ length old.past + 1) × (synced_moments new ≤ synced_moments old)
+
+-- a sync costs one, which is a sync
+abbrev pub CostsSync : Type 0
+CostsSync =
+    (old new : History) → IsAtMostOneStep IsSync old new
+    → (length new.past ≤ length old.past + 1) × (synced_moments new ≤ synced_moments old + 1)
 
 -- bytes put over others keep the length
 abbrev pub LengthOverwritten : Type 0

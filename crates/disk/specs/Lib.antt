@@ -2,6 +2,7 @@ pub mod Device
 pub mod Crash
 pub mod Calls
 pub mod Counted
+pub mod Apart
 pub mod Laws
 pub mod Memory
 pub mod Rewound

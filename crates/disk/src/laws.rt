@@ -19,6 +19,27 @@ pub fn crash_after_write()
     ensures { law.LeftByWrite }
 {}
 
+/// After a list of writes to a synced device a crash leaves what stood before them, with any bytes in each of their ranges, and what it leaves
+/// in one range doesn't depend on any other.
+pub fn crash_after_writes()
+    ensures writes { law.LeftByWrites }
+    ensures mixed { law.LeftMixed }
+{}
+
+/// In a range apart from those that aren't synced a crash leaves what a read gives, and writes elsewhere change nothing of that.
+pub fn writes_apart()
+    ensures left { law.LeftApart }
+    ensures synced { law.ApartSynced }
+    ensures still { law.ApartStill }
+    ensures bytes { law.SameElsewhere }
+{}
+
+/// What a write and a sync cost, good or not.
+pub fn costs()
+    ensures write { law.CostsWrite }
+    ensures sync { law.CostsSync }
+{}
+
 /// What stands where after bytes were put over others.
 pub fn bytes_after_write()
     ensures length { law.LengthOverwritten }

@@ -93,16 +93,18 @@ impl<'a> Piece<'a> {
         }
     }
 
-    /// The operation that inserts it. Refused for want of memory alone.
+    /// The operation that inserts it, whose text is copied and not counted. Refused for want of memory alone.
     pub fn inserted(&self, alloc: Global) -> Result<Op, Refusal>
+        requires { IsCounted self.now }
         ensures units { IfOk result (λ op. counted (op ∷ []) ≡ End (piece_units self.now)) }
         ensures out { IfOk result (λ op. op_out op ≡ length (piece_units self.now)) }
         ensures base { IfOk result (λ op. op_base op ≡ 0) }
         ensures only { IsOkUnless result Refusal.NoMemory }
     {
         match self {
-            Piece::Text(text, _, attrs) => {
-                Ok(Op::text(String::from_str(alloc, text)?, attrs.copy(alloc)?))
+            Piece::Text(text, units, attrs) => {
+                let text = String::from_str(alloc, text)?;
+                Ok(Op::text_of_len(text, *units, attrs.copy(alloc)?))
             }
             Piece::Embed(key, value, attrs) => {
                 match Op::embed(alloc, key.as_str(), value.copy(alloc)?, attrs.copy(alloc)?) {

@@ -32,7 +32,7 @@ pub const ROOMY: Shape = Shape {
 /// So many turns are made at most, a millisecond apart.
 pub const TURNS: u64 = 20_000;
 
-// A flusher and a board of a store.
+/// A flusher and a board of a store.
 pub fn started<J: Site>(
     rt: &(impl Abort + AllocGlobal),
     store: Store<MemDisk>,

@@ -38,7 +38,7 @@ impl<J: Site> Gate for Looks<J> {
     }
 }
 
-// Takes the one command that was submitted off the board, and holds it.
+/// Takes the one command that was submitted off the board, and holds it.
 #[tactic(auto, using(crate::proofs::Fitting::fits_slot))]
 pub fn hold_next<J: Site, R: Wait + Abort + AllocGlobal>(
     rt: &R,

@@ -1,48 +1,43 @@
--- What a hub keeps may go to another thread: for a caller whose threads share a hub. The search for it is too long in one piece.
-use denote.Param.Send.{IsSend, sendable}
+-- What a session at a hub has may go to another thread, and a hub may be shared: for a caller whose threads share one. The search for it is
+-- too long in one piece.
+use denote.RattleType.{RattleType}
+use denote.Param.Send.{IsSend, IsSync, sendable}
 use Rattle.std.proofs.Crossing.{crosses}
-use Rattle.std.proofs.MapsCrossing as maps
-use Rattle.delta.specs.contracts.delta.Delta as delta
-use Rattle.document.specs.contracts.document.Document as document
-use Rattle.revision.specs.contracts.name.Name as name
-use Rattle.revision.specs.contracts.sources.Sources as sources
-use Rattle.revision.specs.contracts.source_table.SourceTable as table
-use Rattle.revision.specs.contracts.past.Past as past
-use Rattle.revision.specs.contracts.doc_state.DocState as one
-use Rattle.revision.specs.contracts.taken.Taken as taken
-use Rattle.revision.specs.contracts.state.State as state
+use Rattle.core.specs.declared.ledger.Ledger as ledger
+use Rattle.core.proofs.ledger.Book.TheSendSync as book
+use Rattle.core.proofs.ledger.Share.TheSendSync as share
+use Rattle.ownlog.proofs.CallerLemmas.{owner_send}
+use Rattle.revision.specs.contracts.moved.MovedEdit as moved
 use Rattle.world.specs.contracts.entry.Entry as entry
 use Rattle.world.specs.contracts.board.Board as board
-
-pub name_send : IsSend name.the_row
-name_send = search (sendable, crosses, maps.crosses) depth 60 fits 20000
-
-pub delta_send : IsSend delta.the_row
-delta_send = search (sendable, crosses, maps.crosses) depth 60 fits 20000
-
-pub document_send : IsSend document.the_row
-document_send = search (sendable, crosses, maps.crosses) depth 60 fits 20000
-
-pub sources_send : IsSend sources.the_row
-sources_send = search (name_send, sendable, crosses) depth 60 fits 20000
-
-pub table_send : IsSend table.the_row
-table_send = search (name_send, sources_send, sendable, crosses) depth 60 fits 20000
-
-pub past_send : IsSend past.the_row
-past_send = search (name_send, delta_send, document_send, sources_send, sendable, crosses) depth 60 fits 20000
-
-pub one_send : IsSend one.the_row
-one_send = search (name_send, past_send, document_send, table_send, sendable, crosses) depth 60 fits 20000
-
-pub taken_send : IsSend taken.the_row
-taken_send = search (name_send, delta_send, sendable, crosses, maps.crosses) depth 60 fits 20000
-
-pub state_send : IsSend state.the_row
-state_send = search (one_send, name_send, sendable, crosses, maps.crosses) depth 60 fits 20000
-
-pub entry_send : IsSend entry.the_row
-entry_send = search (taken_send, sendable, crosses, maps.crosses) depth 60 fits 20000
+use Rattle.published.specs.declared.site.Site as site
+use Rattle.published.proofs.Crossing.{delta_send, document_send, entry_send, ordered_send, state_send, told_send}
+use Rattle.hub.specs.contracts.ahead.Ahead as ahead
+use Rattle.hub.specs.contracts.hub.Hub as hub
+use Rattle.hub.specs.contracts.seat.Seat as seat
+use Rattle.hub.specs.contracts.kept.Closer as closer
 
 pub board_send : IsSend board.the_row
 board_send = search (state_send, entry_send, sendable, crosses) depth 30 fits 20000
+
+pub moved_send : IsSend moved.the_row
+moved_send = search (delta_send, sendable, crosses) depth 60 fits 20000
+
+pub ahead_send : (T : RattleType) (s : site.Ghosts T.Denot) (l : ledger.Ghosts T.Denot) → IsSend T → IsSend (ahead.the_row T s l)
+ahead_send T s l a =
+    let order = ordered_send T s l a in
+    search (moved_send, sendable, crosses) depth 60 fits 20000
+
+pub seat_send : (T : RattleType) (s : site.Ghosts T.Denot) (l : ledger.Ghosts T.Denot) → IsSend T → IsSend (seat.the_row T s l)
+seat_send T s l a =
+    let edits = ahead_send T s l a in
+    search (share.the_send, sendable, crosses) depth 60 fits 20000
+
+pub closer_send : (T : RattleType) → IsSend T → IsSend (closer.the_row T)
+closer_send T a = search (sendable, crosses) depth 60 fits 20000
+
+pub hub_sync : (D T : RattleType) (s : site.Ghosts T.Denot) (l : ledger.Ghosts T.Denot) → IsSend T → IsSync T → IsSync (hub.the_row D T s l)
+hub_sync D T s l a b =
+    let told = told_send D T s l a in
+    let order = owner_send entry.the_row entry_send in
+    search (board_send, document_send, book.the_send, share.the_send, sendable, crosses) depth 60 fits 20000

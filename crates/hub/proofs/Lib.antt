@@ -3,5 +3,8 @@ pub mod Fitting
 pub mod Placing
 pub mod Histories
 pub mod Making
+pub mod Submitting
+pub mod Turning
 pub mod Waking
 pub mod Widths
+pub mod MovedAhead

@@ -2,4 +2,5 @@ pub mod Given
 pub mod Legal
 pub mod Placed
 pub mod Runs
+pub mod Submitted
 pub mod Waiting

@@ -12,6 +12,7 @@ ghost use Rattle.hub.specs.Legal.{IsHistory, IsOfRun, IsWithin, counted};
 ghost use Rattle.hub.specs.Placed.{IsPlaced, StandsFirst, WasSubmitted};
 ghost use Rattle.hub.specs.Runs.{AreMadeThere, IsLongest, untaken, MaySettle};
 
+use crate::ahead::moved_in;
 use crate::run::{Run, copied, is_beginning, longest};
 use crate::seat::{PLACES, Seat, Tally, Ticket, count};
 use disk::Disk;
@@ -176,11 +177,16 @@ impl<D, J: Site> Board<D, J> {
         self.left -= 1;
         let place = least(&self.used);
         self.used[place] = self.used[place].saturating_add(1);
-        Ok(Seat { share, place })
+        Ok(Seat {
+            share,
+            place,
+            ahead: None,
+        })
     }
 
     /// Answers a command by the rule of acceptance. One that is taken is put behind the order and counted on the seat, and any other leaves the board and the seat alone. The
-    /// ticket has the reply, and the length of the order that has to be settled before the reply may be given, for a retry too.
+    /// ticket has the reply, and the length of the order that has to be settled before the reply may be given, for a retry too. An edit that
+    /// the seat has moved on (`Seat::move_ahead`) is moved past what was taken since alone.
     /// Refused with `StoreFailed` where the store has failed, else as `State::plan` refuses it; nothing has changed then.
     #[tactic(auto, using(crate::proofs::Histories::counts))]
     pub fn submit(
@@ -210,7 +216,9 @@ impl<D, J: Site> Board<D, J> {
         }
         // its number is in range
         let _ = command.number();
-        match self.board.submit(alloc, command) {
+        let ahead = seat.ahead_for(command);
+        let moved = moved_in(&ahead, &mut self.order);
+        match self.board.submit_moved(alloc, command, moved) {
             Ok(ticket) => {
                 keep_made(alloc, &mut self.made, &self.order, &self.board, &ticket);
                 order_taken(&mut self.order, &self.board, &ticket);
@@ -218,6 +226,7 @@ impl<D, J: Site> Board<D, J> {
                 Ok(Ticket {
                     ticket,
                     place: seat.place,
+                    turn: 0,
                     order: self.order.ordered(),
                 })
             }

@@ -1,50 +1,99 @@
 //! The board behind its lock, and the threads that wait for it.
-ghost use Rattle.std.specs.Prelude.{◌≡◌, ◌⊎◌, ◌≤◌, [], length, IfOk, IfErr, IfSome, OnErr};
+//!
+//! # How who waits is woken
+//!
+//! No contract promises a wake. This is the argument for it; its parts under the lock are clauses of `Kept` (src/kept.rt). It uses that the
+//! calls under one lock have an order, and that all words have one.
+//!
+//! A seat waits at a place for a length of the order, and sleeps at the word of a turn. `submit` notes the length at the place under the
+//! board's lock, and gives the ticket its turn. `take` gives the turn to the run, and what comes behind the order gets the next one,
+//! where nothing is left behind a batch; else it has the turn of what is left. `settle` learns under the lock which places and turns it has
+//! to reach. Then, the lock free, it tells the places, each under its own lock, adds one to the word of the turn, and wakes who sleeps at
+//! it, in this order.
+//!
+//! - **No place is missed.** At a place the least and the greatest length are noted that are awaited, and all between them count as awaited.
+//!   So each settlement that covers a ticket tells its place, and what isn't covered stays noted (`settle`, `nobody`). A place may be told
+//!   for nothing, which harms nobody.
+//! - **No turn is missed.** A ticket that is taken off and not settled has the turn of the batch that is being written, where that is the
+//!   only one, and one that isn't taken off has the next turn (`WaitsRightly`). `take` keeps this (`turns`): what it leaves has the turn of
+//!   its run still. So the settlement that covers a ticket wakes its turn (`wakes`). If another batch was taken off before one was settled,
+//!   which the flusher never does, settlements wake all turns until that is so no more.
+//! - **Nobody sleeps past a wake.** Who waits reads the word, then looks at the place, then parks, which sleeps only while the word is what
+//!   was read, and a wake ends each sleep that began before it. If the look found nothing, it had the place's lock before the flusher told
+//!   the place. So the word was read before the flusher added to it, and the park returns at once, or began before the addition, and then
+//!   the wake comes after it.
+//! - **What is settled when it is submitted**, as a retry may be, needs no batch that comes. So `submit` tells the place itself before it
+//!   gives the ticket. The flusher may tell the same place more meanwhile: what a place was told is never replaced by something older
+//!   (`Place::tell`).
+//! - **A seat with several commands under way** is told once for all that a batch covers, by the token of that batch. Who waits for the
+//!   last one sleeps at the last one's turn.
+//! - **A failure** is noted under the lock, so that no ticket is given from then on; then all places are told, and then all turns are woken.
+//!   A ticket that was settled before gets its token still, since the place was told that before.
+//! - **The flusher** sleeps at its condition only where it found under the lock that no command is left, so the next one finds the board idle
+//!   and notifies. One that finds commands there needn't: whoever put the first of them there notifies, or the flusher left them itself,
+//!   and looks before it sleeps.
+//! - **What wraps.** Batches have eight turns, one after another. If who waits for one is still there when the turn comes round, both share
+//!   the word, and a wake for the one makes the other look once more. A park compares 32 bits of a word: a thread sleeps past its wake if it
+//!   was kept from running between its read and its park for a multiple of 2^32 wakes of its turn, which takes days.
+//!
+//! Who waits relies on others to go on: on the flusher to settle or fail what it took off, and on the thread that has settled, failed or
+//! submitted to get to its wake or notification.
+ghost use Rattle.std.specs.Prelude.{◌≡◌, ◌⊎◌, ◌≤◌, ◌<◌, [], length, map, IfOk, IfErr, IfSome, OnErr};
+ghost use Rattle.std.specs.Vec.{vec_len};
 ghost use Rattle.journal.specs.BatchSpelling.{batch_width};
 ghost use Rattle.recovery.specs.Found.{commands_of};
 ghost use Rattle.hub.specs.Given.{WasGiven};
 ghost use Rattle.hub.specs.Legal.{counted, WasOrdered};
 ghost use Rattle.hub.specs.Placed.{StandsFirst};
+ghost use Rattle.hub.specs.Submitted.{AreOf, counted_all};
 
 use crate::board::Board;
 use crate::kept::{Closer, Kept, Writer};
 use crate::not_submitted::NotSubmitted;
+use crate::place::Place;
 use crate::run::Run;
 use crate::seat::{Seat, Ticket};
 use crate::tokens::{Ended, Failed, Idle, Settled, Stopped, Work};
 use crate::unsettled::Unsettled;
+use crate::waiting::Woken;
 use published::{Site, Told};
 use recovery::Receipt;
 use refusal::Refusal;
 use revision::Command;
 use std::alloc::Global;
+use std::sync::atomic::{AtomicU64, Ordering};
 use std::sync::{Condvar, Mutex, MutexGuard, Wait};
 use std::{array, thread};
 
-// A lock that isn't free is looked at so often, and then so often again after other threads were let run, before a thread sleeps at it. A call
-// holds it for a few microseconds, and to be woken takes many times that.
+// A lock that isn't free is looked at so often, and then so often again after other threads were let run, before a thread sleeps at it. A
+// command holds it for a few microseconds, all commands of a read for as many times that, and an edit that is very late for up to 0.1
+// seconds; to be woken takes many times a few microseconds.
 const LOOKS: u32 = 50;
 
 const YIELDS: u32 = 200;
 
 /// A board that threads share, behind one lock. A session's threads submit and wait; the flusher's thread takes, settles and waits
 /// for work, and says where the store has failed: these calls ask for the hub's `Writer`, which that thread alone has. Who ends the hub
-/// has its `Closer`. Where a ticket's length is settled only the threads at its place are woken, after the lock was let go. All calls by
-/// `&self` may wait. What a call does to the board under the lock is the board's own contract; here stands what the caller is told.
+/// has its `Closer`. A command takes the lock once. Who waits for a ticket looks at its place, which the flusher tells what is settled, and
+/// sleeps until the batch with its command is settled, which wakes all who wait for that batch at once. All calls by `&self` may wait.
+/// What a call does to the board under the lock is the board's own contract; here stands what the caller is told.
 #[derive(Drop)]
 pub struct Hub<D, J: Site> {
     kept: Mutex<Kept<D, J>>,
-    moved: [Condvar; 64],
+    places: [Mutex<Place<D, J>>; 64],
+    turns: [AtomicU64; 8],
     work: Condvar,
 }
 
 impl<D, J: Site> Hub<D, J> {
     /// A hub of a board, the only right to write what it orders, and the only right to end it. It takes no memory.
     pub fn new(board: Board<D, J>) -> (Hub<D, J>, Writer<J>, Closer<J>) {
+        let told = board.told().copy();
         let (kept, writer, closer) = Kept::new(board);
         let hub = Hub {
             kept: Mutex::new(kept),
-            moved: array::from_fn(|_| Condvar::new()),
+            places: array::from_fn(|_| Mutex::new(Place::new(told.copy()))),
+            turns: array::from_fn(|_| AtomicU64::new(0)),
             work: Condvar::new(),
         };
         (hub, writer, closer)
@@ -82,9 +131,55 @@ impl<D, J: Site> Hub<D, J> {
         ensures counts { IfOk result (λ ticket. seat.new ≡ counted seat.old ticket.reply) }
         ensures uncounted { OnErr result (seat.new ≡ seat.old) }
     {
-        let answer = self.held(rt).submit(alloc, seat, command);
-        self.work.notify_one();
+        let place = seat.place();
+        let mut kept = self.held(rt);
+        let was_idle = kept.board().is_idle();
+        let answer = kept.submit(alloc, seat, command);
+        let begins = was_idle && !kept.board().is_idle();
+        let settled = kept.told_of(&answer, None);
+        drop(kept);
+        self.submitted(rt, place, begins, settled);
         answer
+    }
+
+    /// Submits commands one after another, each as `submit` does, under one hold of the board's lock: the answers are in their order, and the
+    /// seat counts each by its answer. Refused with `NoMemory` where there is none for the list, which is made first, and then nothing is
+    /// submitted.
+    pub fn submit_all<R: Wait>(
+        &self,
+        rt: &R,
+        alloc: Global,
+        seat: &mut Seat<J>,
+        commands: &[&Command],
+    ) -> Result<Vec<Result<Ticket<J>, NotSubmitted<J>>>, Refusal>
+        ensures of_these { IfOk result (λ answers. AreOf J.start (map (λ command. command.now) commands.now) answers.items) }
+        ensures as_many { IfOk result (λ answers. vec_len answers ≡ length commands.now) }
+        ensures counts { IfOk result (λ answers. seat.new ≡ counted_all seat.old answers.items) }
+        ensures only { IfErr result (λ e. e ≡ Refusal.NoMemory) }
+        ensures uncounted { OnErr result (seat.new ≡ seat.old) }
+    {
+        let mut answers = Vec::with_capacity(alloc, commands.len())?;
+        let place = seat.place();
+        let mut kept = self.held(rt);
+        let was_idle = kept.board().is_idle();
+        let settled = kept.submit_all(alloc, seat, commands, &mut answers);
+        let begins = was_idle && !kept.board().is_idle();
+        drop(kept);
+        self.submitted(rt, place, begins, settled);
+        Ok(answers)
+    }
+
+    // Once the lock is free again: notifies the flusher where it has something to do that it hadn't, and tells a seat's place of what holds
+    // one of its tickets already.
+    fn submitted<R: Wait>(&self, rt: &R, place: usize, begins: bool, settled: Option<Told<D, J>>)
+        requires { place < 64 }
+    {
+        if begins {
+            self.work.notify_one();
+        }
+        if let Some(told) = settled {
+            self.places[place].lock(rt).tell(&told);
+        }
     }
 
     /// Takes the next run off the board, as `Board::take` does: it fits `cap` bytes as one batch, or is empty. Refused as out of memory alone.
@@ -116,13 +211,30 @@ impl<D, J: Site> Hub<D, J> {
         ensures batch { IfErr result (λ unsettled. unsettled.batch ≡ receipt.now) }
         ensures told { IfErr result (λ unsettled. unsettled.told ≡ told) }
     {
-        let (answer, covered) = self.held(rt).settle(writer, receipt, told);
-        for (condition, wakes) in self.moved.iter().zip(covered.iter()) {
-            if *wakes {
-                condition.notify_all();
+        let shown = told.copy();
+        let answer = self.held(rt).settle(writer, receipt, told);
+        match answer {
+            Ok((settled, woken)) => {
+                self.wake(rt, &woken, &shown);
+                Ok(settled)
+            }
+            Err(unsettled) => Err(unsettled),
+        }
+    }
+
+    // Tells the places that are covered of what is settled, and then wakes the turns.
+    fn wake<R: Wait>(&self, rt: &R, woken: &Woken, told: &Told<D, J>) {
+        for (place, covered) in self.places.iter().zip(woken.places.iter()) {
+            if *covered {
+                place.lock(rt).tell(told);
             }
         }
-        answer
+        for (turn, wakes) in self.turns.iter().zip(woken.turns.iter()) {
+            if *wakes {
+                turn.fetch_add(1, Ordering::SeqCst);
+                turn.wake_all();
+            }
+        }
     }
 
     /// Notes that the store has failed, for this reason, and wakes all who wait.
@@ -130,8 +242,12 @@ impl<D, J: Site> Hub<D, J> {
         ensures { result ≡ why }
     {
         let failed = self.held(rt).fail(writer, why);
-        for condition in self.moved.iter() {
-            condition.notify_all();
+        for place in self.places.iter() {
+            place.lock(rt).stop(Stopped::by_failed(&failed));
+        }
+        for turn in self.turns.iter() {
+            turn.fetch_add(1, Ordering::SeqCst);
+            turn.wake_all();
         }
         self.work.notify_all();
         failed
@@ -152,16 +268,15 @@ impl<D, J: Site> Hub<D, J> {
         ensures holds { IfOk result (λ told. ticket.now.length ≤ length (commands_of told)) }
         ensures stands { IfOk result (λ told. StandsFirst J.start ticket.now (commands_of told)) }
     {
-        let place = ticket.place();
-        let mut kept = self.held(rt);
+        let turn = &self.turns[ticket.turn()];
         for _ in rt.forever() {
-            match kept.ack(ticket) {
+            let seen = turn.load(Ordering::SeqCst);
+            match self.places[ticket.place()].lock(rt).ack(ticket) {
                 Ok(Some(told)) => return Ok(told),
                 Ok(None) => {}
                 Err(stopped) => return Err(stopped),
             }
-            kept.await_at(place, ticket.length());
-            kept = self.moved[place].wait(rt, kept);
+            turn.park(rt, (seen & 0xffff_ffff) as u32);
         }
         unreachable!()
     }
@@ -204,7 +319,8 @@ impl<D, J: Site> Hub<D, J> {
     pub fn into_board(self) -> Board<D, J> {
         let Hub {
             kept,
-            moved: _moved,
+            places: _places,
+            turns: _turns,
             work: _work,
         } = self;
         kept.into_inner().into_board()

@@ -1,21 +1,24 @@
 //! What lies under the hub's lock, and the two rights to change it that a session doesn't have.
-ghost use Rattle.std.specs.Prelude.{◌≡◌, ◌⊎◌, ◌↔◌, ◌<◌, ◌≤◌, ◌+◌, true, false, [], length, min, set, get_or, replicate, IfOk, IfErr, IfSome, IsOk, IsTrue, IsErrOf, OnOk, OnErr};
+ghost use Rattle.std.specs.Prelude.{◌≡◌, ◌⊎◌, ◌↔◌, ◌<◌, ◌≤◌, ◌+◌, ◌++◌, ◌∷◌, true, false, [], Some, None, Ok, length, map, set, get_or, replicate, IfOk, IfErr, IfSome, IsOk, IsTrue, IsErrOf, OnOk, OnErr};
+ghost use Rattle.std.specs.Vec.{vec_len, vec_capacity};
 ghost use Rattle.recovery.specs.Found.{commands_of};
 ghost use Rattle.revision.specs.Acceptance.{answer, Refuses};
-ghost use Rattle.world.specs.Board.{next_run, settled_more, submitted, taken_more};
+ghost use Rattle.world.specs.Board.{can_ack, next_run, settled_more, submitted, taken_more};
 ghost use Rattle.world.specs.World.{entry_of, takens};
 ghost use Rattle.hub.specs.Given.{IsStopped, refusal_of, WasGiven};
 ghost use Rattle.hub.specs.Legal.{counted};
 ghost use Rattle.hub.specs.Placed.{StandsFirst};
 ghost use Rattle.hub.specs.Runs.{IsLongest, untaken, MaySettle};
-ghost use Rattle.hub.specs.Waiting.{AreWoken, nobody};
+ghost use Rattle.hub.specs.Submitted.{AreOf, IsOf, counted_all, counted_by};
+ghost use Rattle.hub.specs.Waiting.{AreWoken, NobodyIsForgotten, StillRightly, WaitsRightly, WakesAll, nobody, and_for};
 
 use crate::board::Board;
 use crate::not_submitted::NotSubmitted;
 use crate::run::Run;
-use crate::seat::{PLACES, Seat, Ticket};
+use crate::seat::{Seat, Ticket};
 use crate::tokens::{Ended, Failed, Settled, Stopped};
 use crate::unsettled::Unsettled;
+use crate::waiting::{Awaited, Turns, Woken, covered};
 use published::{Site, Told};
 use recovery::Receipt;
 use refusal::Refusal;
@@ -37,13 +40,14 @@ pub struct Closer<J: Site> {
     of: PhantomData<J>,
 }
 
-// What lies under the lock: the board; for each place the least length of the order that a thread waits there to be settled, the
-// greatest number where none does; and whether the end was called. Other modules have nothing of it but its calls: these lend the board
-// for reading alone, and ask for the `Writer` or the `Closer` for whatever isn't a session's.
+// What lies under the lock: the board; for each place the lengths of the order that seats wait there to be settled; the turns of batches;
+// and whether the end was called. Other modules have nothing of it but its calls: these lend the board for reading alone, and ask for the
+// `Writer` or the `Closer` for whatever isn't a session's.
 #[derive(Drop)]
 pub(crate) struct Kept<D, J: Site> {
     board: Board<D, J>,
-    awaited: [usize; 64],
+    awaited: [Awaited; 64],
+    turns: Turns,
     ended: bool,
 }
 
@@ -52,17 +56,20 @@ impl<D, J: Site> Model for Kept<D, J> {
 
     ghost Value = { spec.Kept };
 
-    ghost view = { λ k. record { board = k.board; awaited = k.awaited; ended = k.ended } };
+    ghost view = { λ k. record { board = k.board; awaited = k.awaited; turns = k.turns; ended = k.ended } };
 }
 
 impl<D, J: Site> Kept<D, J> {
     // A board at which nobody waits yet, and of which the end wasn't called, with the two rights to it. Nothing else makes them.
     pub(crate) fn new(board: Board<D, J>) -> (Kept<D, J>, Writer<J>, Closer<J>)
-        ensures { result.0 ≡ record { board = board; awaited = replicate 64 nobody; ended = false } }
+        ensures board { result.0.board ≡ board }
+        ensures nobody { result.0.awaited ≡ replicate 64 nobody }
+        ensures ended { result.0.ended ≡ false }
     {
         let kept = Kept {
             board,
-            awaited: [usize::MAX; 64],
+            awaited: [Awaited::nobody(); 64],
+            turns: Turns::new(),
             ended: false,
         };
         (kept, Writer { of: PhantomData }, Closer { of: PhantomData })
@@ -75,6 +82,7 @@ impl<D, J: Site> Kept<D, J> {
         let Kept {
             board,
             awaited: _,
+            turns: _turns,
             ended: _,
         } = self;
         board
@@ -127,6 +135,8 @@ impl<D, J: Site> Kept<D, J> {
 
     // what `Board::ack` gives
     pub(crate) fn ack(&self, ticket: &Ticket<J>) -> Result<Option<Told<D, J>>, Stopped<J>>
+        ensures settled { (can_ack self.now.board.board ticket.now ≡ true) ↔ (result ≡ Ok (Some self.now.board.told)) }
+        ensures waits { (result ≡ Ok None) ↔ ((can_ack self.now.board.board ticket.now ≡ false) × (self.now.board.failed ≡ false)) }
         ensures holds { IfOk result (λ told. IfSome told (λ t. ticket.now.length ≤ length (commands_of t))) }
         ensures stands { IfOk result (λ told. IfSome told (λ t. StandsFirst J.start ticket.now (commands_of t))) }
     {
@@ -136,7 +146,25 @@ impl<D, J: Site> Kept<D, J> {
         }
     }
 
-    // submits a command to the board, unless the end was called
+    // The token of what is settled, where that holds the ticket of a submission already, as a retry's may be; else what was given before.
+    pub(crate) fn told_of(
+        &self,
+        submitted: &Result<Ticket<J>, NotSubmitted<J>>,
+        before: Option<Told<D, J>>,
+    ) -> Option<Told<D, J>>
+        ensures settled { IfOk submitted.now (λ ticket. can_ack self.now.board.board ticket ≡ true → result ≡ Some self.now.board.told) }
+        ensures waits { IfOk submitted.now (λ ticket. can_ack self.now.board.board ticket ≡ false → result ≡ before) }
+        ensures refused { OnErr submitted.now (result ≡ before) }
+    {
+        if let Ok(ticket) = submitted {
+            if ticket.length() <= self.board.settled() {
+                return Some(self.board.told().copy());
+            }
+        }
+        before
+    }
+
+    // submits a command to the board, unless the end was called, and notes that its seat waits
     pub(crate) fn submit(
         &mut self,
         alloc: Global,
@@ -147,6 +175,7 @@ impl<D, J: Site> Kept<D, J> {
             ≡ record self.old {
               board = record
                   self.old.board { board = submitted (entry_of command.now) self.old.board.board command.now };
+              awaited = self.new.awaited;
             }) }
         ensures unchanged { OnErr result (self.new ≡ self.old) }
         ensures given { WasGiven J.start command.now result }
@@ -162,9 +191,83 @@ impl<D, J: Site> Kept<D, J> {
             return Err(NotSubmitted::Stopped(Stopped::by_kept(self)));
         }
         match self.board.submit(alloc, seat, command) {
-            Ok(ticket) => Ok(ticket),
+            Ok(ticket) => Ok(self.awaiting(ticket)),
             Err(refusal) => Err(NotSubmitted::by_board(&self.board, refusal)),
         }
+    }
+
+    // Submits commands one after another, each as `submit` does, and puts what comes of them into a list, which has room for them. It gives
+    // the token of what is settled, where that holds one of the tickets already.
+    pub(crate) fn submit_all(
+        &mut self,
+        alloc: Global,
+        seat: &mut Seat<J>,
+        commands: &[&Command],
+        answers: &mut Vec<Result<Ticket<J>, NotSubmitted<J>>>,
+    ) -> Option<Told<D, J>>
+        requires empty { answers.old.items ≡ [] }
+        requires room { length commands.now ≤ vec_capacity answers.old }
+        ensures of_these { AreOf J.start (map (λ command. command.now) commands.now) answers.new.items }
+        ensures as_many { vec_len answers.new ≡ length commands.now }
+        ensures counts { seat.new ≡ counted_all seat.old answers.new.items }
+        ensures others { self.new
+            ≡ record self.old {
+              board = record self.old.board { board = self.new.board.board };
+              awaited = self.new.awaited;
+            } }
+    {
+        let mut settled = None;
+        for i in 0..commands.len() {
+            let answer = self.submit_one(alloc, seat, commands[i]);
+            settled = self.told_of(&answer, settled);
+            push_in_room(answers, answer);
+        }
+        settled
+    }
+
+    // submits a command, as `submit` does, one of several
+    fn submit_one(
+        &mut self,
+        alloc: Global,
+        seat: &mut Seat<J>,
+        command: &Command,
+    ) -> Result<Ticket<J>, NotSubmitted<J>>
+        ensures of_this { IsOf J.start command.now result }
+        ensures counts { seat.new ≡ counted_by seat.old result }
+        ensures others { self.new
+            ≡ record self.old {
+              board = record self.old.board { board = self.new.board.board };
+              awaited = self.new.awaited;
+            } }
+    {
+        self.submit(alloc, seat, command)
+    }
+
+    // notes that the seat of a ticket waits, and gives the ticket with the turn at which it is woken
+    fn awaiting(&mut self, ticket: Ticket<J>) -> Ticket<J>
+        ensures kept { self.new ≡ record self.old { awaited = self.new.awaited } }
+        ensures same { result ≡ ticket }
+    {
+        self.await_at(ticket.place(), ticket.length());
+        let turn = self.turn_of(ticket.length());
+        ticket.at_turn(turn)
+    }
+
+    // the turn at which a seat waits for so many commands to be settled
+    fn turn_of(&self, length: usize) -> usize
+        ensures rightly { WaitsRightly self.now.turns self.now.board.board.settled self.now.board.board.taken result length }
+        ensures range { result < 8 }
+    {
+        self.turns.of(length, self.board.taken())
+    }
+
+    // notes that a seat waits at a place for so many commands to be settled
+    fn await_at(&mut self, place: usize, length: usize)
+        requires { place < 64 }
+        ensures { self.new
+            ≡ record self.old { awaited = set self.old.awaited place (and_for (get_or self.old.awaited place nobody) length) } }
+    {
+        self.awaited[place] = self.awaited[place].and_for(length);
     }
 
     // takes the next run off the board, as `Board::take` does
@@ -182,67 +285,68 @@ impl<D, J: Site> Kept<D, J> {
             ≡ record self.old {
               board = record
                   self.old.board { board = taken_more self.old.board.board (length run.commands) };
+              turns = self.new.turns;
             }) }
+        ensures turns { OnOk result (StillRightly self.old.turns self.new.turns self.old.board.board.settled
+            self.old.board.board.taken self.new.board.board.taken (length self.old.board.board.order)) }
         ensures only { IfErr result (λ e. e ≡ Refusal.NoMemory) }
         ensures unchanged { OnErr result (self.new ≡ self.old) }
     {
         let _ = writer;
-        self.board.take(alloc, cap)
+        let busy = self.board.settled() < self.board.taken();
+        let run = self.board.take(alloc, cap)?;
+        if run.len() > 0 {
+            let rest = self.board.taken() < self.board.ordered();
+            self.turns.take(busy, rest);
+        }
+        Ok(run)
     }
 
-    // settles a batch, and gives the token of that and the places where somebody waits for what is settled now; or what shows that it
-    // can't be settled
+    // settles a batch, and gives the token of that, with the places where somebody waits for what is settled now, and the turns that are to
+    // be woken; or what shows that it can't be settled
     pub(crate) fn settle(
         &mut self,
         writer: &mut Writer<J>,
         receipt: &Receipt<D>,
         told: Told<D, J>,
-    ) -> (Result<Settled<D, J>, Unsettled<D, J>>, [bool; 64])
-        ensures board { OnOk result.0 (self.new.board
+    ) -> Result<(Settled<D, J>, Woken), Unsettled<D, J>>
+        ensures board { OnOk result (self.new.board
             ≡ record self.old.board { board = settled_more self.old.board.board (length receipt.now); told = told }) }
+        ensures turns { self.new.turns ≡ self.old.turns }
         ensures others { self.new.ended ≡ self.old.ended }
-        ensures settled { IfOk result.0 (λ settled. settled ≡ told) }
-        ensures wakes { OnOk result.0
-            (AreWoken self.new.board.board.settled self.old.awaited self.new.awaited result.1) }
-        ensures stranger { MaySettle self.old.board.board receipt.now (length (commands_of told)) → IsOk result.0 }
-        ensures asked { IfErr result.0 (λ e. e
+        ensures settled { IfOk result (λ both. both.0 ≡ told) }
+        ensures told { IfOk result (λ both. AreWoken self.new.board.board.settled self.old.awaited self.new.awaited both.1.places) }
+        ensures nobody { IfOk result (λ both. NobodyIsForgotten self.new.board.board.settled self.old.awaited self.new.awaited both.1.places) }
+        ensures wakes { IfOk result (λ both. WakesAll self.old.turns both.1.turns) }
+        ensures stranger { MaySettle self.old.board.board receipt.now (length (commands_of told)) → IsOk result }
+        ensures asked { IfErr result (λ e. e
             ≡ record { board = self.old.board.board; batch = receipt.now; told = told }) }
-        ensures unchanged { OnErr result.0 (self.new ≡ self.old) }
+        ensures unchanged { OnErr result (self.new ≡ self.old) }
     {
         let _ = writer;
         let shown = Snapshot::of(&told);
         if self.board.settle(receipt, told).is_err() {
-            return (
-                Err(Unsettled::by_board(&self.board, receipt, shown)),
-                [false; 64],
-            );
+            return Err(Unsettled::by_board(&self.board, receipt, shown));
         }
-        let covered = woken(&mut self.awaited, self.board.settled());
-        (Ok(Settled::by_board(&self.board)), covered)
-    }
-
-    // notes that somebody waits at a place for so many commands to be settled
-    pub(crate) fn await_at(&mut self, place: usize, length: usize)
-        requires { place < 64 }
-        ensures { self.new
-            ≡ record self.old { awaited = set self.old.awaited place (min length (get_or self.old.awaited place 0)) } }
-    {
-        if length < self.awaited[place] {
-            self.awaited[place] = length;
-        }
+        let woken = Woken {
+            places: covered(&mut self.awaited, self.board.settled()),
+            turns: self.turns.woken(),
+        };
+        Ok((Settled::by_board(&self.board), woken))
     }
 }
 
-// The places where no more is awaited than is settled. It notes that nobody waits there any more.
-fn woken(awaited: &mut [usize; 64], settled: usize) -> [bool; 64]
-    ensures { AreWoken settled awaited.old awaited.new result }
+// Puts what comes of a submission behind others, for which there is room.
+fn push_in_room<J: Site>(
+    answers: &mut Vec<Result<Ticket<J>, NotSubmitted<J>>>,
+    submitted: Result<Ticket<J>, NotSubmitted<J>>,
+)
+    requires { vec_len answers.old < vec_capacity answers.old }
+    ensures items { answers.new.items ≡ answers.old.items ++ submitted ∷ [] }
+    ensures len { vec_len answers.new ≡ vec_len answers.old + 1 }
+    ensures room { vec_capacity answers.old ≤ vec_capacity answers.new }
 {
-    let mut covered = [false; 64];
-    for i in 0..PLACES {
-        if awaited[i] <= settled {
-            awaited[i] = usize::MAX;
-            covered[i] = true;
-        }
+    if let Err(_) = answers.push(submitted) {
+        unreachable!()
     }
-    covered
 }

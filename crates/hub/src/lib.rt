@@ -32,8 +32,9 @@
 //! which that batch can't be settled.
 //!
 //! A `Hub` is shared by threads: sessions submit and wait for their acknowledgements, and one flusher takes batches, writes them with
-//! the board unlocked, and settles them. After it has let the lock go, `settle` wakes the seats whose tickets are covered
-//! (specs/Waiting.antt). Once the end was called nothing more is submitted.
+//! the board unlocked, and settles them. After it has let the lock go, `settle` tells the places of the seats whose tickets are covered, and
+//! wakes them with one call (specs/Waiting.antt; the head of src/hub.rt says why nobody sleeps past that). Once the end was called nothing
+//! more is submitted.
 //!
 //! A caller, with its contract, which `hub_tests` proves as it stands:
 //!
@@ -85,15 +86,19 @@
 //! - That a ticket is asked for at the board that gave it. A seat and a token are of one run by their types.
 #![tactic(auto)]
 
+mod ahead;
 mod board;
 mod hub;
 mod kept;
 mod not_submitted;
+mod place;
 mod run;
 mod seat;
 mod tokens;
 mod unsettled;
+mod waiting;
 
+pub use ahead::Ahead;
 pub use board::Board;
 pub use hub::Hub;
 pub use kept::{Closer, Writer};

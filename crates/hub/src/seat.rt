@@ -5,8 +5,9 @@ ghost use Rattle.revision.specs.Planned.{reply_of};
 ghost use Rattle.hub.specs.Legal.{counted};
 ghost use Rattle.hub.specs.Placed.{IsPlaced, StandsFirst};
 
+use crate::ahead::Ahead;
 use published::{Ordered, Site, Told};
-use revision::Reply;
+use revision::{Command, Reply};
 use std::marker::Model;
 use std::sync::ledger::{Book, Share};
 
@@ -19,6 +20,7 @@ pub(crate) const PLACES: usize = 64;
 pub struct Seat<J: Site> {
     pub(crate) share: Share<J>,
     pub(crate) place: usize,
+    pub(crate) ahead: Option<Vec<Ahead<J>>>,
 }
 
 impl<J: Site> Model for Seat<J> {
@@ -29,6 +31,32 @@ impl<J: Site> Model for Seat<J> {
     ghost view = { λ s. s.share.amount };
 
     ghost invariant = { λ s. (s.share.parts ≡ 1) × (s.place < 64) };
+}
+
+impl<J: Site> Seat<J> {
+    /// Gives the seat edits that are moved on already, the last one first, for the commands that it submits next. What it had is let go.
+    pub fn move_ahead(&mut self, ahead: Vec<Ahead<J>>)
+        ensures { self.new ≡ self.old }
+    {
+        self.ahead = Some(ahead);
+    }
+
+    // the next edit that is moved on already, where a command asks for it
+    pub(crate) fn ahead_for(&mut self, command: &Command) -> Option<Ahead<J>>
+        ensures { self.new ≡ self.old }
+    {
+        match &mut self.ahead {
+            Some(ahead) => next_for(ahead, command),
+            None => None,
+        }
+    }
+
+    // where it waits
+    pub(crate) fn place(&self) -> usize
+        ensures { result < 64 }
+    {
+        self.place
+    }
 }
 
 /// What seats have counted that are used no longer. Contracts see it as how many seats these are, and what they have counted together.
@@ -55,12 +83,13 @@ impl<J: Site> Tally<J> {
 }
 
 /// A command's reply, and the length of the order that has to be settled before the reply may be given. Only a board's `submit` makes
-/// one. Contracts see the command too, which takes no memory. It has a token of the order up to that length, in which its command has its
-/// place.
+/// one, and `at_turn` makes the same one with another turn. Contracts see the command too, which takes no memory. It has a token of the
+/// order up to that length, in which its command has its place.
 #[derive(Drop)]
 pub struct Ticket<J: Site> {
     pub(crate) ticket: world::Ticket,
     pub(crate) place: usize,
+    pub(crate) turn: usize,
     pub(crate) order: Ordered<J>,
 }
 
@@ -73,7 +102,7 @@ impl<J: Site> Model for Ticket<J> {
 
     ghost view = { λ t. t.ticket };
 
-    ghost invariant = { λ t. (t.place < 64) × IsPlaced J.start t.order t.ticket };
+    ghost invariant = { λ t. (t.place < 64) × (t.turn < 8) × IsPlaced J.start t.order t.ticket };
 }
 
 impl<J: Site> Ticket<J> {
@@ -113,6 +142,41 @@ impl<J: Site> Ticket<J> {
     {
         self.place
     }
+
+    // at which turn its seat is woken
+    pub(crate) fn turn(&self) -> usize
+        ensures { result < 8 }
+    {
+        self.turn
+    }
+
+    // the same ticket, whose seat is woken at this turn
+    pub(crate) fn at_turn(self, turn: usize) -> Ticket<J>
+        requires { turn < 8 }
+        ensures { result ≡ self }
+    {
+        let Ticket {
+            ticket,
+            place,
+            turn: _,
+            order,
+        } = self;
+        Ticket {
+            ticket,
+            place,
+            turn,
+            order,
+        }
+    }
+}
+
+// takes the last of these edits off, where a command asks for it
+fn next_for<J: Site>(ahead: &mut Vec<Ahead<J>>, command: &Command) -> Option<Ahead<J>> {
+    let is_next = match ahead.last() {
+        Some(next) => next.is_like(command),
+        None => false,
+    };
+    if is_next { ahead.pop() } else { None }
 }
 
 /// Counts a command on a share where it was taken.

@@ -175,6 +175,12 @@ impl<J: Site> Stopped<J> {
         Stopped { of: PhantomData }
     }
 
+    // The hub was told that the store has failed.
+    pub(crate) fn by_failed(failed: &Failed<J>) -> Stopped<J> {
+        let _ = failed;
+        Stopped { of: PhantomData }
+    }
+
     /// Another one of the same.
     pub fn copy(&self) -> Stopped<J> {
         Stopped { of: PhantomData }

@@ -18,7 +18,8 @@ use Rattle.session.specs.declared.reply.Reply.{Reply}
 use Rattle.session.specs.Alone.{answered}
 use Rattle.session.specs.Exchange.{Answered}
 use Rattle.hub_desk.specs.AtHub.{Desk, Submits, PassesAtHub}
-use Rattle.hub_desk.specs.Tickets.{IsOf, AnswersFor, counted_by, noted, with_count}
+use Rattle.hub.specs.Submitted.{IsOf, counted_by}
+use Rattle.hub_desk.specs.Tickets.{AnswersFor, noted, with_count}
 use Rattle.hub_desk.proofs.Batches.{commands_begin}
 
 -- what stands in what is published stands in what longer batches have

@@ -1,5 +1,5 @@
 -- Submissions one after another, and what they count.
-use Rattle.std.proofs.Common.{◌≡◌, ◌<◌, ◌≤◌, ◌+◌, ◌++◌, ℕ, zero, suc, List, [], ◌∷◌, length, take, drop, set, get_or, Result, Err, refl, sym, ap, subst, ◌∙◌, inl, add-one, arith}
+use Rattle.std.proofs.Common.{◌≡◌, ◌<◌, ◌≤◌, ◌+◌, ℕ, zero, suc, List, [], ◌∷◌, length, take, drop, set, get_or, Result, Err, refl, sym, ap, subst, ◌∙◌, inl, add-one, arith}
 use Rattle.std.proofs.Math.Seq.{map-set_same}
 use Rattle.refusal.specs.declared.Refusal.{Refusal}
 use Rattle.refusal.specs.declared.Refusal.TheVariants.{NoMemory}
@@ -14,7 +14,8 @@ use Rattle.session.specs.Ahead.{command_of, commands_of, exchanges_of}
 use Rattle.session.proofs.CallerLemmas.{asked_more}
 use Rattle.hub.specs.declared.not_submitted.NotSubmitted.{NotSubmitted}
 use Rattle.hub_desk.specs.AtHub.{Desk, PassesAtHub}
-use Rattle.hub_desk.specs.Tickets.{AreOf, IsOf, AnswersFor, counted_by, counted_all, with_count, last_by, last_of}
+use Rattle.hub.specs.Submitted.{AreOf, IsOf, counted_by, counted_all}
+use Rattle.hub_desk.specs.Tickets.{AnswersFor, with_count, last_by, last_of}
 
 -- the command at a place
 pub command_at : (sent : List Sent) (i : ℕ) (one : Sent) → one ≡ get_or sent i one → one.command ≡ get_or (commands_of sent) i one.command
@@ -27,12 +28,6 @@ take_whole [] zero so = refl
 take_whole [] (suc i) so = refl
 take_whole (x ∷ xs) zero so = absurd (omega arith)
 take_whole (x ∷ xs) (suc i) so = ap (λ l. x ∷ l) (take_whole xs i (omega arith))
-
--- one more was submitted
-commands_suc : (sent : List Sent) (i : ℕ) (one : Sent) → i < length sent → one ≡ get_or sent i one → commands_of (take (suc i) sent) ≡ commands_of (take i sent) ++ one.command ∷ []
-commands_suc [] i one within is = absurd (omega arith)
-commands_suc (first ∷ others) zero one within is = ap (λ (s : Sent). s.command ∷ []) (sym is)
-commands_suc (first ∷ others) (suc i) one within is = ap (λ (l : List Command). first.command ∷ l) (commands_suc others i one (omega arith) is)
 
 -- The next was refused for want of memory.
 pub refused_more : (refusal : Refusal) (sent : List Sent) (i : ℕ) (item : Sent) → refusal ≡ NoMemory → i < length sent → item ≡ get_or sent i item
@@ -47,18 +42,6 @@ pub commands_same : (sent : List Sent) (i : ℕ) (item : Sent) (answer : Result 
 commands_same sent i item answer is = map-set_same command_of sent i (record { command = item.command; answer = answer }) item (ap command_of is)
 
 module _ {J : Type 0} where
-  -- one submission more
-  pub are_of_more : (start : State) (cs : List Command) (ts : List (Result Ticket (NotSubmitted J))) (c : Command) (t : Result Ticket (NotSubmitted J)) → AreOf start cs ts → IsOf start c t
-      → AreOf start (cs ++ c ∷ []) (ts ++ t ∷ [])
-  are_of_more start [] [] c t of one = (one, tt)
-  are_of_more start [] (first ∷ others) c t of one = absurd of
-  are_of_more start (command ∷ commands) [] c t of one = absurd of
-  are_of_more start (command ∷ commands) (first ∷ others) c t of one = (of.0, are_of_more start commands others c t of.1 one)
-
-  pub counted_more : (count : ℕ) (ts : List (Result Ticket (NotSubmitted J))) (t : Result Ticket (NotSubmitted J)) → counted_all count (ts ++ t ∷ []) ≡ counted_by (counted_all count ts) t
-  counted_more count [] t = refl
-  counted_more count (first ∷ others) t = counted_more (counted_by count first) others t
-
   -- as many as the commands
   pub as_many : (start : State) (cs : List Command) (ts : List (Result Ticket (NotSubmitted J))) → AreOf start cs ts → length cs ≡ length ts
   as_many start [] [] of = refl
@@ -86,20 +69,6 @@ module _ {J : Type 0} where
   pub counted_next : (count : ℕ) (ts : List (Result Ticket (NotSubmitted J))) (i : ℕ) (t : Result Ticket (NotSubmitted J)) → i < length ts → t ≡ get_or ts i t
       → counted_all count (take (i + 1) ts) ≡ counted_by (counted_all count (take i ts)) t
   counted_next count ts i t within is = rw add-one (counted_suc count ts i t within is)
-
-  pub submitted_more : (start : State) (sent : List Sent) (i : ℕ) (one : Sent) (ts ts' : List (Result Ticket (NotSubmitted J))) (t : Result Ticket (NotSubmitted J)) → i < length sent → one ≡ get_or sent i one
-      → AreOf start (commands_of (take i sent)) ts → IsOf start one.command t → ts' ≡ ts ++ t ∷ [] → AreOf start (commands_of (take (i + 1) sent)) ts'
-  submitted_more start sent i one ts ts' t within is of this more =
-      let next : commands_of (take (i + 1) sent) ≡ commands_of (take i sent) ++ one.command ∷ [] = rw add-one (commands_suc sent i one within is) in
-      subst (λ (l : List Command). AreOf start l ts') (sym next)
-      (subst (λ (l : List (Result Ticket (NotSubmitted J))). AreOf start (commands_of (take i sent) ++ one.command ∷ []) l) (sym more)
-      (are_of_more start (commands_of (take i sent)) ts one.command t of this))
-
-  pub counts_more : (old now new : Desk) (ts ts' : List (Result Ticket (NotSubmitted J))) (t : Result Ticket (NotSubmitted J)) → now ≡ with_count old (counted_all old.counted ts)
-      → new ≡ with_count now (counted_by now.counted t) → ts' ≡ ts ++ t ∷ [] → new ≡ with_count old (counted_all old.counted ts')
-  counts_more old now new ts ts' t before counts more =
-      counts ∙ ap (λ (d : Desk). with_count d (counted_by d.counted t)) before
-      ∙ ap (with_count old) (sym (counted_more old.counted ts t) ∙ ap (counted_all old.counted) (sym more))
 
   -- All were submitted, and then answered: what comes of it is what comes of asking each alone.
   pub asked_all : (start : State) (old mid new : Desk) (exchanges : List Exchange) (ts ts' : List (Result Ticket (NotSubmitted J))) → mid ≡ with_count old (counted_all old.counted ts)

@@ -1,27 +1,34 @@
 //! A desk at a hub.
-ghost use Rattle.std.specs.Prelude.{◌≡◌, ◌≤◌, ℕ, IsTrue, ◌<◌, ◌+◌, ◌++◌, [], ◌∷◌, true, false, length, Ok, IfErr, IfOk, OnOk, OnErr};
-ghost use Rattle.std.specs.Vec.{vec_len, vec_capacity};
+ghost use Rattle.std.specs.Prelude.{◌≡◌, ℕ, IsTrue, true, false, length, map, Ok, IfErr, IfOk, IfSome, OnOk, OnErr};
+ghost use Rattle.std.specs.Vec.{vec_len};
 ghost use mathlib.Core.List.{IsPrefix};
 ghost use Rattle.recovery.specs.Found.{commands_of};
+ghost use Rattle.revision.specs.Moved.{IsLateIn};
 ghost use Rattle.revision.specs.State as state;
 ghost use Rattle.hub.specs.Given.{refusal_of};
 ghost use Rattle.hub.specs.Placed.{StandsFirst};
+ghost use Rattle.hub.specs.Submitted.{AreOf, IsOf, counted_by, counted_all};
 ghost use Rattle.session.specs.Alone.{answered};
 ghost use Rattle.session.specs.Ahead as ahead;
 ghost use Rattle.session.specs.Replies.{Asks};
 ghost use Rattle.hub_desk.specs.AtHub as at_hub;
 ghost use Rattle.hub_desk.specs.AtHub.{PassesAtHub};
-ghost use Rattle.hub_desk.specs.Tickets.{AreOf, IsOf, AnswersFor, counted_by, counted_all, last_by, last_of, noted, with_count};
+ghost use Rattle.hub_desk.specs.Tickets.{AnswersFor, last_by, last_of, noted, with_count};
 
-use hub::{Hub, NotSubmitted, Seat, Stopped, Ticket};
+use crate::counters::Counters;
+use hub::{Ahead, Hub, NotSubmitted, Seat, Stopped, Ticket};
 use published::{Site, Told};
 use refusal::Refusal;
-use revision::{Command, State};
+use revision::{Command, LateEdit, State};
 use session::{Desk, Reply, Sent};
-use std::alloc::Global;
+use std::alloc::{AllocError, Global};
 use std::marker::Model;
 use std::sync::Wait;
 use view::Viewer;
+
+/// An edit on a base that lies so many revisions back is moved on before it is submitted. Moving it past fewer takes less time than to look
+/// for them here.
+const LATE: usize = 64;
 
 /// Answers each command once it is settled at the hub, by its ticket and the token of what is published, and shows what is published. It
 /// owns a seat of the hub and a viewer of the same run, for one session after another. Contracts see it as the published batches that it was
@@ -34,6 +41,7 @@ pub struct HubDesk<'a, D, J: Site, R> {
     viewer: Viewer<D, J>,
     shown: Told<D, J>,
     stopped: Option<Stopped<J>>,
+    counters: Option<&'a Counters>,
 }
 
 impl<'a, D, J: Site, R> Model for HubDesk<'a, D, J, R> {
@@ -49,12 +57,14 @@ impl<'a, D, J: Site, R> Model for HubDesk<'a, D, J, R> {
 }
 
 impl<'a, D, J: Site, R> HubDesk<'a, D, J, R> {
-    /// A desk at a hub, by one of its seats and a viewer of the same run. It takes no memory, and waits for nobody.
+    /// A desk at a hub, by one of its seats and a viewer of the same run, whose answers are counted where there are counters. It takes no
+    /// memory, and waits for nobody.
     pub fn new(
         rt: &'a R,
         hub: &'a Hub<D, J>,
         seat: Seat<J>,
         viewer: Viewer<D, J>,
+        counters: Option<&'a Counters>,
     ) -> HubDesk<'a, D, J, R>
         ensures { result ≡ record { told = viewer; shown = viewer; counted = seat; stopped = false } }
     {
@@ -66,6 +76,7 @@ impl<'a, D, J: Site, R> HubDesk<'a, D, J, R> {
             viewer,
             shown,
             stopped: None,
+            counters,
         }
     }
 
@@ -81,8 +92,16 @@ impl<'a, D, J: Site, R> HubDesk<'a, D, J, R> {
             viewer,
             shown: _,
             stopped: _,
+            counters: _,
         } = self;
         (seat, viewer)
+    }
+
+    // Counts an answer, where answers are counted.
+    fn count(&self, answer: &Result<Reply, Refusal>) {
+        if let Some(counters) = self.counters {
+            counters.note(answer);
+        }
     }
 
     // Whether what the viewer was told of holds a ticket's length. Where it does, the ticket's order is a prefix of that.
@@ -136,16 +155,52 @@ impl<D, J: Site, R: Wait> HubDesk<'_, D, J, R> {
         }
     }
 
+    // An edit that is late by many revisions, moved on past what the view shows. None where the command is no such edit, where nothing is
+    // shown, and for want of memory. The deltas are shared inside the view, and the edit is moved outside of it.
+    fn moved_on(&mut self, alloc: Global, command: &Command) -> Option<Ahead<J>>
+        ensures { self.new ≡ self.old }
+    {
+        let looked = self.viewer.peek(
+            |state: &State| -> Option<LateEdit>
+                ensures { IfSome result (λ l. IsLateIn state.now l) }
+            { state.late_edit(alloc, command, LATE) },
+        );
+        let Ok((late, told)) = looked else {
+            return None;
+        };
+        let late = late?;
+        match late.moved(alloc) {
+            Ok(moved) => Some(Ahead::of(&told, moved)),
+            Err(_) => None,
+        }
+    }
+
+    // Moves those edits on that are late by many revisions, before any of these commands is submitted, as far as memory goes.
+    fn move_on(&mut self, alloc: Global, commands: &[&Command])
+        ensures { self.new ≡ self.old }
+    {
+        let mut ahead = Vec::new(alloc);
+        let mut left = commands.len();
+        while left > 0 {
+            left -= 1;
+            if let Some(moved) = self.moved_on(alloc, commands[left]) {
+                let _ = ahead.push(moved);
+            }
+        }
+        self.seat.move_ahead(ahead);
+    }
+
     // Submits a command, and waits for nothing but the board. What it gives, a ticket or a refusal, a board of the run gave.
     fn submit(&mut self, alloc: Global, command: &Command) -> Result<Ticket<J>, NotSubmitted<J>>
         ensures of_command { IsOf J.start command.now result }
         ensures counts { self.new ≡ with_count self.old (counted_by self.old.counted result) }
     {
+        self.move_on(alloc, &[command]);
         self.hub.submit(self.rt, alloc, &mut self.seat, command)
     }
 
     // Submits commands one after another, before any of them is waited for: the seat counts each by its answer. Where memory runs out
-    // for the list, nothing is submitted.
+    // for the lists, nothing is submitted.
     fn submit_all(
         &mut self,
         alloc: Global,
@@ -158,12 +213,10 @@ impl<D, J: Site, R: Wait> HubDesk<'_, D, J, R> {
         ensures only { IfErr result (λ e. e ≡ Refusal.NoMemory) }
         ensures unchanged { OnErr result (self.new ≡ self.old) }
     {
-        let mut tickets = Vec::with_capacity(alloc, sent.len())?;
-        for i in 0..sent.len() {
-            let answer = self.submit(alloc, &sent[i].command);
-            push_in_room(&mut tickets, answer);
-        }
-        Ok(tickets)
+        let commands = commands_of(alloc, sent)?;
+        self.move_on(alloc, &commands);
+        self.hub
+            .submit_all(self.rt, alloc, &mut self.seat, commands.as_slice())
     }
 
     // Waits until a ticket is settled, unless the viewer was told of that: for the last of the tickets that were submitted with it,
@@ -222,6 +275,7 @@ impl<D, J: Site, R: Wait> HubDesk<'_, D, J, R> {
     {
         for i in 0..sent.len() {
             let answer = self.answer_by(&sent[i].command, &tickets[i], tickets);
+            self.count(&answer);
             sent[i].answer = answer;
         }
     }
@@ -239,10 +293,20 @@ impl<D, J: Site, R: Wait> Desk for HubDesk<'_, D, J, R> {
     fn ask(&mut self, alloc: Global, command: &Command) -> Result<Reply, Refusal> {
         let submitted = self.submit(alloc, command);
         let others = Vec::new(alloc);
-        self.answer_by(command, &submitted, &others)
+        let answer = self.answer_by(command, &submitted, &others);
+        self.count(&answer);
+        answer
     }
 
     fn ask_all(&mut self, alloc: Global, sent: &mut Vec<Sent>) {
+        if sent.is_empty() {
+            return;
+        }
+        if sent.len() == 1 {
+            let answer = self.ask(alloc, &sent[0].command);
+            sent[0].answer = answer;
+            return;
+        }
         match self.submit_all(alloc, sent) {
             Ok(tickets) => self.answer_all(sent, &tickets),
             Err(refusal) => refuse_all(sent, refusal),
@@ -293,19 +357,15 @@ fn later_ticket<'t, J: Site>(
     }
 }
 
-// Puts a submission behind others, for which there is room.
-fn push_in_room<J: Site>(
-    tickets: &mut Vec<Result<Ticket<J>, NotSubmitted<J>>>,
-    submitted: Result<Ticket<J>, NotSubmitted<J>>,
-)
-    requires { vec_len tickets.old < vec_capacity tickets.old }
-    ensures items { tickets.new.items ≡ tickets.old.items ++ submitted ∷ [] }
-    ensures len { vec_len tickets.new ≡ vec_len tickets.old + 1 }
-    ensures room { vec_capacity tickets.old ≤ vec_capacity tickets.new }
+// The commands that were sent, lent.
+fn commands_of(alloc: Global, sent: &[Sent]) -> Result<Vec<&Command>, AllocError>
+    ensures { IfOk result (λ commands. map (λ command. command.now) commands.items ≡ ahead.commands_of sent.now) }
 {
-    if let Err(_) = tickets.push(submitted) {
-        unreachable!()
+    let mut commands = Vec::with_capacity(alloc, sent.len())?;
+    for one in sent {
+        commands.push(&one.command)?;
     }
+    Ok(commands)
 }
 
 // Answers each command with `NoMemory`, which leaves a desk unchanged.

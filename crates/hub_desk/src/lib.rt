@@ -3,9 +3,12 @@
 //! A `HubDesk` submits each command to the hub by its seat, waits until the ticket is settled, and tells its viewer of the token that
 //! it is given. The ticket and that token are both of the run's one order: so the ticket's order, in which the command has its place, is a
 //! prefix of what is published, and the desk answers without a look at the state. What it shows is read through the viewer, which waits for
-//! nobody. Commands of lines that were sent ahead are submitted one after another, and then one wait, for the last ticket, serves for all of
-//! them. It answers a command with `StoreFailed` only by a token that the hub alone makes, and keeps that. `specs/AtHub.antt` says what passes between it
-//! and a session, `specs/Standing.antt` when a command stands in a state, and `laws` what that is good for.
+//! nobody. Commands of lines that were sent ahead are submitted one after another, under one hold of the board's lock, and then one wait,
+//! for the last ticket, serves for all of them. It answers a command with `StoreFailed` only by a token that the hub alone makes, and keeps
+//! that. `specs/AtHub.antt` says what passes between it and a session, `specs/Standing.antt` when a command stands in a state, and `laws`
+//! what that is good for.
+//!
+//! `Counters` counts what desks answered, where they are given one.
 //!
 //! It is a crate of its own, so that `session` stands on nothing of stores and threads.
 //!
@@ -37,7 +40,9 @@
 //! ```
 #![tactic(auto)]
 
+mod counters;
 mod desk;
 pub mod laws;
 
+pub use counters::Counters;
 pub use desk::HubDesk;

@@ -17,6 +17,7 @@ pub struct Publishing<J: Site> {
 }
 
 impl<J: Site> Publishing<J> {
+    /// A log that publishes, and the token of all that it has published.
     pub fn new(log: Log<MemDisk, J>, told: Told<MemDisk, J>) -> Publishing<J>
         requires { log ≡ told }
         ensures { result.told ≡ told }

@@ -86,6 +86,7 @@ pub struct Life<J: Site> {
 }
 
 impl<J: Site> Life<J> {
+    /// A board with a seat, the store under it, and what is published of it.
     pub fn new(
         rt: &(impl Abort + AllocGlobal),
         board: Board<MemDisk, J>,
@@ -106,6 +107,7 @@ impl<J: Site> Life<J> {
         }
     }
 
+    /// Gives the store back.
     pub fn into_store(self) -> Store<MemDisk> {
         let Life {
             board: _,

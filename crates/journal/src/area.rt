@@ -95,6 +95,14 @@ impl Area {
         self.next + 6 + len <= self.size
     }
 
+    /// How many bytes the records take that are there.
+    pub fn used(&self) -> u64
+        ensures used { result ≡ self.now.next }
+        ensures bound { result < 2 ^ 32 }
+    {
+        self.next
+    }
+
     /// Appends a record: two writes and two syncs. `NoRoom` comes exactly when it doesn't fit, with the closed gate behind it, and makes
     /// no call of the device; after a `Fault` the record may be there or not. It takes no memory.
     pub fn append<D: Disk>(&mut self, disk: &mut D, added: &Record) -> Result<(), AppendError>

@@ -21,12 +21,12 @@ use Rattle.migration.specs.Migrated.{IsCutTo, AreCut, AreSpelled}
 
 -- ---- what stands in lists
 
-there_is : {A : Type 0} (xs : List A) (i : ℕ) → i < length xs → (x : A) × (slice_get xs i ≡ Some x)
+pub there_is : {A : Type 0} (xs : List A) (i : ℕ) → i < length xs → (x : A) × (slice_get xs i ≡ Some x)
 there_is [] i inside = absurd (omega (arith, inside))
 there_is (x ∷ xs) zero inside = (x, refl)
 there_is (x ∷ xs) (suc i) inside = there_is xs i (omega (arith, inside))
 
-from_map : (start : List Cell) (i : ℕ) (found : DocumentRecord) → slice_get (map record_of_cell start) i ≡ Some found
+pub from_map : (start : List Cell) (i : ℕ) (found : DocumentRecord) → slice_get (map record_of_cell start) i ≡ Some found
     → (cell : Cell) × (slice_get start i ≡ Some cell) × (record_of_cell cell ≡ found)
 from_map [] i found is = absurd (cc)
 from_map (first ∷ others) zero found is = let same : record_of_cell first ≡ found = cc in (first, refl, same)
@@ -60,7 +60,7 @@ kept limits free document cell low none weight sources is to = record {
     at = is.each (newest document.past) (omega arith) (omega arith)
 
 -- as the whole past of a document it keeps the limits
-alone : (limits : Limits) (cell : Cell) → IsLimits limits → CellKeeps limits cell → IsPast limits (record_of_cell cell).past
+pub alone : (limits : Limits) (cell : Cell) → IsLimits limits → CellKeeps limits cell → IsPast limits (record_of_cell cell).past
 alone limits cell are keeps = (adopting_keeps none cell.name cell.content cell.revision cell.sources (empty_is_state limits are) may).each 0 (record_of_cell cell) refl
   where
     none : State

@@ -18,10 +18,10 @@ pub record_at_place : (documents : List PendingDocument) (number : ℕ) (documen
 record_at_place documents number document inside is =
     slice_get-map record_of documents number ∙ ap (λ o. option_map record_of o) (slice_get_read documents (length documents) number document refl inside is)
 
-some_is : {A : Type 0} (x y : A) → Some x ≡ Some y → x ≡ y
+pub some_is : {A : Type 0} (x y : A) → Some x ≡ Some y → x ≡ y
 some_is x y same = cc
 
-get-more : {A : Type 0} (xs : List A) (x : A) (i : ℕ) (y : A) → slice_get (xs ++ x ∷ []) i ≡ Some y → (slice_get xs i ≡ Some y) ⊎ ((i ≡ length xs) × (x ≡ y))
+pub get-more : {A : Type 0} (xs : List A) (x : A) (i : ℕ) (y : A) → slice_get (xs ++ x ∷ []) i ≡ Some y → (slice_get xs i ≡ Some y) ⊎ ((i ≡ length xs) × (x ≡ y))
 get-more [] x zero y is = inr (refl, some_is x y is)
 get-more [] x (suc i) y is = absurd (cc)
 get-more (z ∷ xs) x zero y is = inl is

@@ -1,4 +1,7 @@
 mod Begun
+mod Copies
 pub mod Cut
 mod Light
 mod Moments
+mod Rooms
+pub mod CopiedSoFar

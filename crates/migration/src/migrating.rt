@@ -126,8 +126,8 @@ impl Old {
         self.shape.device_len()
     }
 
-    /// Makes a device a store that begins with the documents.
-    pub fn put_on<B: Disk>(&self, alloc: Global, disk: &mut B) -> Result<(), Refusal>
+    // Makes a device a store that begins with the documents.
+    fn put_on<B: Disk>(&self, alloc: Global, disk: &mut B) -> Result<(), Refusal>
         ensures from_sync { IsUnformatted (B.seen disk.old)
             → LeavesFromSync (IsUnformattedOrBegun self.now.shape self.now.start)
             (history_of ⟦<B as Disk>⟧ disk.old) (history_of ⟦<B as Disk>⟧ disk.new) }

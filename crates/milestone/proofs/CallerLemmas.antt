@@ -4,3 +4,4 @@ pub use Rattle.milestone.proofs.Light.{light_content}
 pub use Rattle.milestone.proofs.OnePair.{one_pair}
 pub use Rattle.milestone.proofs.Holding.{agree_within}
 pub use Rattle.milestone.proofs.Lengths.{pasts_keep_lengths}
+pub use Rattle.milestone.proofs.Stepping.{ready_within}

@@ -9,6 +9,7 @@ pub mod Holding
 pub mod Freeing
 pub mod Putting
 pub mod Replacing
+pub mod Stepping
 pub mod Order
 pub mod Windows
 pub mod Fields

@@ -9,5 +9,6 @@ pub mod LeftOutside
 pub mod Revisions
 pub mod Cells
 pub mod ReadCells
+pub mod Together
 pub mod Law
 pub mod steps

@@ -9,6 +9,7 @@ ghost use Rattle.journal.specs.Area.{open_gate};
 ghost use Rattle.milestone.specs.CellSpelling.{cell_body, IsCell};
 ghost use Rattle.milestone.specs.OneCell.{HoldsCellIn, HoldsPair};
 ghost use Rattle.milestone.specs.LeftOutside.{IsLeftOutside};
+ghost use Rattle.milestone.specs.Together.{WriteWithin};
 
 use crate::format::Format;
 use crate::milestone::Milestone;
@@ -34,6 +35,20 @@ pub(crate) fn close<D: Disk>(disk: &mut D, gate: u64) -> Result<(), Fault>
 {
     disk.write_at(gate, &[CLOSED])?;
     disk.sync()?;
+    Ok(())
+}
+
+/// Writes bytes, and doesn't sync. A crash leaves anything in their range, and outside it what one could have left before.
+pub(crate) fn write_one<D: Disk>(disk: &mut D, at: u64, bytes: &[u8]) -> Result<(), Fault>
+    requires within { at + length bytes.now ≤ length (D.seen disk.old) }
+
+    ensures any_moment { LeavesOnly ⟦<D as Disk>⟧
+        (IsLeftOutside at (length bytes.now) (history_of ⟦<D as Disk>⟧ disk.old).now) disk.old disk.new }
+    ensures written { OnOk result (D.seen disk.new ≡ overwritten (D.seen disk.old) at bytes.now) }
+    ensures one { WriteWithin ⟦<D as Disk>⟧ at (length bytes.now) 1 disk.old disk.new }
+    ensures faults { CountsFaults ⟦<D as Disk>⟧ result disk.old disk.new }
+{
+    disk.write_at(at, bytes)?;
     Ok(())
 }
 

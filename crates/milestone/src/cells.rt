@@ -16,11 +16,11 @@ use std::alloc::Global;
 /// document's number in order of creation, and the revision of each cell that is open.
 #[derive(Debug, Drop)]
 pub struct Cells {
-    place: u64,
-    size: u64,
-    number: u32,
-    first: Option<u64>,
-    second: Option<u64>,
+    pub(crate) place: u64,
+    pub(crate) size: u64,
+    pub(crate) number: u32,
+    pub(crate) first: Option<u64>,
+    pub(crate) second: Option<u64>,
     ghost size_low: { 256 ≤ size },
     ghost size_high: { size ≤ 16777216 },
     ghost end: { place + 2 * size < 2 ^ 62 },

@@ -9,8 +9,8 @@
 //! `Cells` are the two cells of a document as they are known in memory: they are read together, the older one is closed, and a
 //! milestone is put where one is closed. How a cell spells a milestone in a `Format` stands in specs/CellSpelling.antt; the second format is
 //! written, and either one is read, what two cells hold in
-//! specs/OneCell.antt, and what a crash at any moment of a call leaves of them in specs/Cells.antt. The crate stands on `history`,
-//! whose cells it holds, on `revision` and `compose`, and on `journal` and `disk`.
+//! specs/OneCell.antt, and what a crash at any moment of a call leaves of them in specs/Cells.antt. Milestones of many documents are put by three
+//! steps, each of which is made for all of them before one sync (specs/Together.antt). The crate stands on `history`, whose cells it holds, on `revision` and `compose`, and on `journal` and `disk`.
 //!
 //! A caller, with its contract, which `store_tests` proves as it stands:
 //!
@@ -45,6 +45,7 @@ pub mod laws;
 mod milestone;
 mod part;
 mod reading;
+mod together;
 mod writing;
 
 pub use cell::write_open;

@@ -16,6 +16,7 @@ pub struct Draws {
 }
 
 impl Draws {
+    /// The numbers that follow this one.
     pub fn new(seed: u64) -> Draws {
         Draws { state: seed }
     }

@@ -82,6 +82,7 @@ struct Doc {
     sources: Vec<Source>,
 }
 
+/// Documents, and the rule by which they take commands.
 #[derive(Drop)]
 pub struct Rule {
     limits: Limits,
@@ -334,11 +335,12 @@ impl Rule {
         }
     }
 
-    /// How many documents there are, deleted ones too, and the name of one of them.
+    /// How many documents there are, deleted ones too.
     pub fn count(&self) -> usize {
         self.docs.len()
     }
 
+    /// The name of the document at a place, which is empty where there is none.
     pub fn name(&self, place: usize) -> &'static str {
         match self.docs.get(place) {
             Some(found) => found.name,

@@ -22,6 +22,15 @@ pub mod Raising
 pub mod SparedJobs
 pub mod Newest
 pub mod Covering
+pub mod Members
+pub mod Together
+pub mod OneRound
+pub mod Mixed
+pub mod DroppedJobs
+pub mod PutGroups
+pub mod CoveredDocuments
+pub mod Gathered
+pub mod Spelled
 pub mod Rooms
 pub mod PutCells
 pub mod Putting

@@ -15,9 +15,7 @@ use Rattle.recovery.specs.declared.store.Store.{Store}
 use Rattle.recovery.specs.Marks.{marks_of, without_segment}
 use Rattle.recovery.specs.Jobs.{no_job_of, no_job_for}
 use Rattle.recovery.specs.Open.{IsOpen, known_marks}
-use Rattle.recovery.specs.steps.Freeing.{MayReach, KeepsSegments}
-use Rattle.recovery.proofs.Marking.{marked_member}
-use Rattle.recovery.proofs.Reaching.{marks_reached}
+use Rattle.recovery.specs.steps.Freeing.{KeepsSegments}
 
 -- a document can be given a milestone at its revision, where its open cells are no higher
 pub none_against : (found : Option DocumentRecord) (newest high : ℕ) → newest ≡ newest_revision found → high ≤ newest → 1 ≤ newest → no_job_for found high newest ≡ None
@@ -39,12 +37,6 @@ none_there list documents place same past =
 module _ {D : Type 0} {disk : Ghosts D} where
   pub keeps_on : {old mid new : Store D disk} → KeepsSegments old mid → KeepsSegments mid new → KeepsSegments old new
   keeps_on first second = record { state = second.state ∙ first.state; ring = second.ring ∙ first.ring; marks = second.marks ∙ first.marks }
-
-  -- each document has reached what is marked of it in the oldest segment
-  pub may_reach : (store : Store D disk) (is_open : IsOpen store) (slot segment : ℕ) → IsOldest (known_numbers store.ring) slot segment
-      → (place : ℕ) (mark : Mark) → place < length (marks_of store.marks) → get_or (marks_of store.marks) place mark ≡ mark → MayReach segment mark store.state
-  may_reach store is_open slot segment oldest place mark inside is same =
-      omega (arith, marked_member segment (marks_of store.marks) place mark inside is same, marks_reached store is_open slot segment oldest mark.document)
 
   -- the marks of the segment that was retired are gone
   pub marks_gone : {A : Type 0} (old mid new : Store D disk) (result : Result A Refusal) → KeepsSegments old mid

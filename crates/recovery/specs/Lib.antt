@@ -6,6 +6,7 @@ pub mod Marks
 pub mod Marked
 pub mod Jobs
 pub mod Open
+pub mod Filling
 pub mod Knows
 pub mod Faults
 pub mod Unwritten

@@ -1,5 +1,5 @@
 //! Making room in a journal that is full.
-ghost use Rattle.std.specs.Prelude.{◌≡◌, ◌≢◌, ◌⊎◌, ◌<◌, ◌≤◌, ◌+◌, ◌*◌, ◌^◌, ℕ, true, false, length, get_or, OnOk, OnErr, IfOk, IfErr, IsErrOf};
+ghost use Rattle.std.specs.Prelude.{◌≡◌, ◌≢◌, ◌⊎◌, ◌<◌, ◌≤◌, ◌+◌, ◌*◌, ◌^◌, ℕ, true, false, None, max, length, get_or, OnOk, IfOk, IfErr, IfSome, IsErrOf, IsOkUnless};
 ghost use Rattle.revision.specs.Made.{AreMade};
 ghost use Rattle.revision.specs.State.{all_grow};
 ghost use Rattle.segments.specs.Numbers.{IsOldest};
@@ -8,11 +8,10 @@ ghost use Rattle.recovery.specs.Faults.{FailsAtFaults};
 ghost use Rattle.recovery.specs.Found.{FoundAs};
 ghost use Rattle.recovery.specs.Freed.{HasFew, IsFreed, IsUnfreed, IsPlain, IsCommittedFreeing, IsUncommitted, KeepsOthers, CostsAtMost};
 ghost use Rattle.recovery.specs.Goes.{Goes};
-ghost use Rattle.recovery.specs.Jobs.{without_job};
-ghost use Rattle.recovery.specs.Marks.{within_segment};
-ghost use Rattle.recovery.specs.Open.{FitsSlot, IsOpen, IsUnchanged, IsHalfFreed, AreBothNewest, IsWithOrWithout, KeepsJobs, device_of, ring_of, state_of, known_marks, kept_jobs, has_failed, has_room};
-ghost use Rattle.recovery.specs.Run.{IsPutAt};
-ghost use Rattle.recovery.specs.steps.Freeing.{reached_in, MayReach, KeepsSegments, IsMarkElsewhere, IsMarkOf, IsPutOf, IsHalfPut, AreCovered};
+ghost use Rattle.recovery.specs.Jobs.{jobs_for};
+ghost use Rattle.recovery.specs.Marks.{within_segment, greatest_marked};
+ghost use Rattle.recovery.specs.Open.{FitsSlot, IsOpen, IsUnchanged, IsHalfFreed, IsWithOrWithout, KeepsJobs, device_of, ring_of, state_of, known_cells, known_marks, kept_jobs, has_failed, has_room};
+ghost use Rattle.recovery.specs.steps.Freeing.{reached_in, count_marked, AreReached, KeepsSegments, AreCovered, AreCoveredTo, IsHalfCovered};
 
 use crate::marks::Mark;
 use crate::receipt::Receipt;
@@ -123,79 +122,80 @@ impl<D: Disk> Store<D> {
         ensures faults { FailsAtFaults result self.old self.new }
         ensures goes { Goes (λ content. FoundAs content (state_of self.old)) self.old self.new }
     {
-        for place in 0..self.mark_count() {
-            let mark = self.mark_at(place);
-            if let Err(refusal) = self.cover_mark(alloc, segment, mark) {
+        let Some(first) = self.first_marked(segment) else {
+            return Ok(());
+        };
+        match self.marked_revisions(alloc, segment) {
+            Ok(marked) => self.cover_documents(alloc, &marked),
+            Err(refusal) => {
+                self.drop_job(first);
+                Err(refusal)
+            }
+        }
+    }
+
+    // A document that is marked in a segment.
+    fn first_marked(&self, segment: u64) -> Option<u32>
+        ensures some { IfSome result (λ document. 1 ≤ greatest_marked segment document (known_marks self.now)) }
+        ensures none { result ≡ None → (document : ℕ) → greatest_marked segment document (known_marks self.now) ≡ 0 }
+    {
+        first_of(self.marks.all(), segment)
+    }
+
+    // The greatest revision that is marked of each document in a segment, 0 where none is. Refused as out of memory alone.
+    fn marked_revisions(&self, alloc: Global, segment: u64) -> Result<Vec<u64>, Refusal>
+        ensures count { IfOk result (λ marked. length marked.items ≡ length (known_cells self.now)) }
+        ensures small { IfOk result (λ marked. length marked.items < 2 ^ 32) }
+        ensures marked { IfOk result (λ marked. (document : ℕ) → document < length (known_cells self.now)
+            → get_or marked.items document 0 ≡ greatest_marked segment document (known_marks self.now)) }
+        ensures few { IfOk result (λ marked. count_marked marked.items
+            ≤ length (within_segment segment (known_marks self.now))) }
+        ensures only { IsOkUnless result Refusal.NoMemory }
+    {
+        greatest_revisions(alloc, self.marks.all(), segment, self.cells.len())
+    }
+
+    // Puts milestones of all documents that are marked in a table, by groups. `NoMemory` leaves groups that are whole.
+    fn cover_documents(&mut self, alloc: Global, marked: &[u64]) -> Result<(), Refusal>
+        requires working { has_failed self.old ≡ false }
+        requires few { length marked.now < 2 ^ 32 }
+
+        ensures only { IfErr result (λ e. (e ≡ Refusal.StillNeeded) ⊎ ((e ≡ Refusal.NoMemory) ⊎ (e ≡ Refusal.Fault))) }
+        ensures needed { IsErrOf result Refusal.StillNeeded → IsOpen self.old
+            → ¬ AreReached marked.now (state_of self.old) }
+        ensures covered { OnOk result ((is_open : IsOpen self.old)
+            → AreCoveredTo (length marked.now) (λ document. get_or marked.now document 0) self.old is_open
+            self.new) }
+        ensures half { IfErr result (λ e. e ≢ Refusal.Fault → (is_open : IsOpen self.old)
+            → IsHalfCovered (λ document. get_or marked.now document 0) self.old is_open self.new) }
+        ensures calls { length (D.past (device_of self.new)) ≤ length (D.past (device_of self.old))
+            + 12 * count_marked marked.now }
+        ensures keeps { KeepsSegments self.old self.new }
+        ensures jobs { (document : ℕ) → get_or marked.now document 0 ≡ 0
+            → jobs_for document (kept_jobs self.new) ≡ jobs_for document (kept_jobs self.old) }
+        ensures no_more_jobs { length (kept_jobs self.new) ≤ length (kept_jobs self.old) }
+        ensures faults { FailsAtFaults result self.old self.new }
+        ensures goes { Goes (λ content. FoundAs content (state_of self.old)) self.old self.new }
+    {
+        let mut from = 0;
+        while from < marked.len() {
+            let group = match self.gather(alloc, marked, from) {
+                Ok(group) => group,
+                Err(back) => {
+                    self.drop_job(back.document);
+                    return Err(back.refusal);
+                }
+            };
+            from = group.end;
+            if let Err(refusal) = self.put_group(alloc, &group.members) {
                 return Err(refusal);
             }
         }
         Ok(())
     }
 
-    // Puts two milestones of the document of a mark of this segment: both cells then stand at its newest revision, since each takes the
-    // place of the lower one.
-    fn cover_mark(&mut self, alloc: Global, segment: u64, mark: Mark) -> Result<(), Refusal>
-        requires working { has_failed self.old ≡ false }
-
-        ensures only { IfErr result (λ e. (e ≡ Refusal.StillNeeded) ⊎ ((e ≡ Refusal.NoMemory) ⊎ (e ≡ Refusal.Fault))) }
-        ensures needed { IsErrOf result Refusal.StillNeeded → IsOpen self.old
-            → ¬ MayReach segment mark (state_of self.old) }
-        ensures elsewhere { IsMarkElsewhere segment mark → self.new ≡ self.old }
-        ensures of { OnErr result (IsMarkOf segment mark) }
-        ensures covered { OnOk result (IsMarkOf segment mark → (is_open : IsOpen self.old)
-            → IsPutOf mark.document (AreBothNewest (state_of self.old) mark.document) self.old is_open self.new) }
-        ensures half { IfErr result (λ e. e ≢ Refusal.Fault → (is_open : IsOpen self.old)
-            → IsHalfPut mark.document self.old is_open self.new) }
-        ensures dropped { IsMarkOf segment mark → kept_jobs self.new ≡ without_job mark.document (kept_jobs self.old) }
-        ensures calls { length (D.past (device_of self.new)) ≤ length (D.past (device_of self.old)) + 12 }
-        ensures keeps { KeepsSegments self.old self.new }
-        ensures faults { FailsAtFaults result self.old self.new }
-        ensures goes { Goes (λ content. FoundAs content (state_of self.old)) self.old self.new }
-    {
-        if mark.segment != segment {
-            return Ok(());
-        }
-        if mark.revision == 0 {
-            return Ok(());
-        }
-        if let Err(refusal) = self.raise(alloc, mark.document, mark.revision) {
-            return Err(refusal);
-        }
-        self.raise(alloc, mark.document, mark.revision)
-    }
-
-    // Puts a milestone of a document at its newest revision, which is no lower than this one. The document's job is dropped, whatever
-    // comes of it.
-    fn raise(&mut self, alloc: Global, document: u32, revision: u64) -> Result<(), Refusal>
-        requires working { has_failed self.old ≡ false }
-        requires some { 1 ≤ revision }
-
-        ensures only { IfErr result (λ e. (e ≡ Refusal.StillNeeded) ⊎ ((e ≡ Refusal.NoMemory) ⊎ (e ≡ Refusal.Fault))) }
-        ensures needed { IsErrOf result Refusal.StillNeeded → IsOpen self.old
-            → reached_in (state_of self.old) document < revision }
-        ensures put { OnOk result ((is_open : IsOpen self.old)
-            → IsPutAt document (reached_in (state_of self.old) document) self.old is_open self.new) }
-        ensures dropped { kept_jobs self.new ≡ without_job document (kept_jobs self.old) }
-        ensures unwritten { IfErr result (λ e. e ≢ Refusal.Fault → device_of self.new ≡ device_of self.old) }
-        ensures calls { length (D.past (device_of self.new)) ≤ length (D.past (device_of self.old)) + 6 }
-        ensures keeps { KeepsSegments self.old self.new }
-        ensures faults { FailsAtFaults result self.old self.new }
-        ensures goes { Goes (λ content. FoundAs content (state_of self.old)) self.old self.new }
-    {
-        let newest = self.newest_of(document);
-        if newest < revision {
-            self.drop_job(document);
-            return Err(Refusal::StillNeeded);
-        }
-        if let Err(refusal) = self.put_document(alloc, document, newest) {
-            self.drop_job(document);
-            return Err(or_needed(refusal));
-        }
-        Ok(())
-    }
-
     // The newest revision of a document, 0 where there is none of this number.
-    fn newest_of(&self, document: u32) -> u64
+    pub(crate) fn newest_of(&self, document: u32) -> u64
         ensures { result ≡ reached_in (state_of self.now) document }
     {
         match self.state.documents().get(document as usize) {
@@ -203,35 +203,51 @@ impl<D: Disk> Store<D> {
             None => 0,
         }
     }
-
-    // How many marks there are.
-    fn mark_count(&self) -> usize
-        ensures { result ≡ length (known_marks self.now) }
-    {
-        self.marks.all().len()
-    }
-
-    // The mark at a place.
-    fn mark_at(&self, place: usize) -> Mark
-        requires { place < length (known_marks self.now) }
-        ensures { get_or (known_marks self.now) place result ≡ result }
-    {
-        self.marks.all()[place]
-    }
 }
 
-// A refusal as freeing tells it: where a document can't be given a milestone, the oldest segment is needed.
-fn or_needed(refusal: Refusal) -> Refusal
-    ensures same { (refusal ≡ Refusal.NoMemory) ⊎ (refusal ≡ Refusal.Fault) → result ≡ refusal }
-    ensures other { refusal ≢ Refusal.NoMemory → refusal ≢ Refusal.Fault → result ≡ Refusal.StillNeeded }
-    ensures needed { result ≡ Refusal.StillNeeded → refusal ≢ Refusal.NoMemory }
-    ensures fault { result ≡ Refusal.StillNeeded → refusal ≢ Refusal.Fault }
-    ensures only { (refusal ≢ Refusal.Fault) ⊎ (result ≡ Refusal.Fault) }
-    ensures no_fault { refusal ≢ Refusal.Fault → result ≢ Refusal.Fault }
+// The document of the first mark of a segment that is of a revision.
+fn first_of(marks: &[Mark], segment: u64) -> Option<u32>
+    ensures some { IfSome result (λ document. 1 ≤ greatest_marked segment document marks.now) }
+    ensures none { result ≡ None → (document : ℕ) → greatest_marked segment document marks.now ≡ 0 }
 {
-    if refusal == Refusal::NoMemory || refusal == Refusal::Fault {
-        refusal
-    } else {
-        Refusal::StillNeeded
+    for mark in marks {
+        if mark.segment == segment && mark.revision > 0 {
+            return Some(mark.document);
+        }
+    }
+    None
+}
+
+// The table of the greatest revision that is marked of each document in a segment, 0 where none is. Refused as out of memory alone.
+fn greatest_revisions(
+    alloc: Global,
+    marks: &[Mark],
+    segment: u64,
+    count: usize,
+) -> Result<Vec<u64>, Refusal>
+    ensures count { IfOk result (λ marked. length marked.items ≡ count) }
+    ensures marked { IfOk result (λ marked. (document : ℕ) → document < count
+        → get_or marked.items document 0 ≡ greatest_marked segment document marks.now) }
+    ensures few { IfOk result (λ marked. count_marked marked.items ≤ length (within_segment segment marks.now)) }
+    ensures only { IsOkUnless result Refusal.NoMemory }
+{
+    let mut marked = vec![in alloc; 0; count]?;
+    for mark in marks {
+        if mark.segment == segment {
+            raise_at(&mut marked, mark.document as usize, mark.revision);
+        }
+    }
+    Ok(marked)
+}
+
+// Raises the number of a document to a revision where it is lower and the table has a place for it.
+fn raise_at(marked: &mut [u64], document: usize, revision: u64)
+    ensures same { length marked.new ≡ length marked.old }
+    ensures own { document < length marked.old → get_or marked.new document 0 ≡ max (get_or marked.old document 0) revision }
+    ensures others { (other : ℕ) → other ≢ document → get_or marked.new other 0 ≡ get_or marked.old other 0 }
+    ensures few { count_marked marked.new ≤ count_marked marked.old + 1 }
+{
+    if document < marked.len() {
+        marked[document] = marked[document].max(revision);
     }
 }

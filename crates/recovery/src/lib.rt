@@ -40,6 +40,7 @@
 mod due;
 mod formatting;
 mod freeing;
+mod group;
 mod jobs;
 pub mod laws;
 mod marks;
@@ -48,6 +49,7 @@ mod milestones;
 mod reading;
 mod receipt;
 mod retiring;
+mod rounds;
 mod run;
 mod shape;
 mod store;

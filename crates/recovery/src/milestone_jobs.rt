@@ -107,7 +107,7 @@ impl<D: Disk> Store<D> {
     }
 
     // The job, or why there is none.
-    fn job_to(&self, alloc: Global, document: u32, revision: u64) -> Result<Job, Refusal>
+    pub(crate) fn job_to(&self, alloc: Global, document: u32, revision: u64) -> Result<Job, Refusal>
         ensures job { IfOk result (λ job. IsJobTo (state_of self.now).documents document revision job) }
         ensures made { IfOk result (λ job. IsMadeOf (state_of self.now).documents document revision job) }
         ensures keeps { IfOk result (λ job. KeepsLimits (state_of self.now).limits job) }

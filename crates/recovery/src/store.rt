@@ -70,6 +70,8 @@ impl<D: Disk> Store<D> {
     ghost use Rattle.recovery.specs.Found.{Found, FoundAs};
     ghost use Rattle.revision.specs.Agree.{Agree};
     ghost use Rattle.recovery.specs.Knows.{Knows};
+    ghost use Rattle.recovery.specs.Filling.{shape_of, open_slots, newest_segment, journal_bytes};
+    ghost use Rattle.recovery.specs.Open.{ring_of};
     ghost use Rattle.recovery.specs.Open.{FitsSlot, IsOpen, IsUnchanged, IsCommittedNow, IsWithOrWithout, device_of, state_of, has_failed, has_room, kept_jobs, known_cells, known_marks, fits_newest_segment};
 
     /// Opens a formatted device, by the newer or the older cell of each document: syncs it, then reads, and writes nothing.
@@ -166,6 +168,38 @@ impl<D: Disk> Store<D> {
         ensures { result.now ≡ device_of self.now }
     {
         &self.device
+    }
+
+    /// The numbers that the store was made with.
+    pub fn shape(&self) -> Shape
+        ensures shape { result ≡ shape_of self.now }
+        ensures in_range { is_in_range result ≡ true }
+        ensures limits { (state_of self.now).limits ≡ limits_of result }
+    {
+        self.shape
+    }
+
+    /// How many slots of the journal are open.
+    pub fn open_slots(&self) -> u64
+        ensures count { result ≡ open_slots self.now }
+        ensures bound { result ≤ length (known_numbers (ring_of self.now)) }
+    {
+        self.ring.open_count()
+    }
+
+    /// The number of the newest segment of the journal, 0 where no slot is open.
+    pub fn newest_segment(&self) -> u64
+        ensures { result ≡ newest_segment self.now }
+    {
+        self.ring.highest_number()
+    }
+
+    /// How many bytes of the journal are in use: of the newest slot those up to the end of its last record, and each other open slot
+    /// whole.
+    pub fn journal_bytes(&self) -> u64
+        ensures { result ≡ journal_bytes self.now }
+    {
+        self.ring.used()
     }
 
     /// Gives the device back.

@@ -5,8 +5,9 @@ use Rattle.delta.specs.Element.{Element}
 use Rattle.delta.specs.Operation.{Operation}
 use Rattle.compose.specs.Many.{applied}
 use Rattle.revision.specs.declared.kept_document.Kept.{Kept}
-use Rattle.revision.specs.Past.{Parts, AreParts, AreKept, Prepared, StandInTurn, newest, newest_units, seen}
-use Rattle.revision.proofs.Parts.{seen-newest, document_is}
+use Rattle.revision.specs.Past.{Parts, AreParts, AreKept, AreNoted, Prepared, StandInTurn, newest, newest_units, newest_sources, sources_after, changes_by, seen}
+use Rattle.revision.proofs.Parts.{seen-newest, document_is, changes-take}
+use Rattle.revision.proofs.Replaying.{replay_sources}
 use Rattle.revision.proofs.Replays.{stand-take, stand-drop}
 use Rattle.revision.proofs.KeptDocuments.{applied-parts}
 
@@ -50,8 +51,9 @@ module _ (parts : Parts) (is : AreParts parts) (from : ℕ) (base : List Element
         ∙ (sym (drop-take (revision - parts.start) left parts.deltas) ∙ ap (λ n. drop (revision - parts.start) (take n parts.deltas)) all)))
 
 -- the parts with other documents that are kept
-pub with_kept : (parts : Parts) → AreParts parts → (kept : List Kept) → AreKept parts.start parts.count parts.units parts.deltas kept → AreParts (record parts { kept = kept })
-with_kept parts is kept are = record {
+pub with_kept : (parts : Parts) → AreParts parts → (kept : List Kept) → AreKept parts.start parts.count parts.units parts.deltas kept
+    → AreNoted parts.start parts.sources (changes_by parts.takers parts.deltas) kept → AreParts (record parts { kept = kept })
+with_kept parts is kept are noted = record {
   stand = is.stand;
   short = is.short;
   same = is.same;
@@ -63,6 +65,7 @@ with_kept parts is kept are = record {
   held = is.held;
   revision = is.revision;
   kept = are;
+  noted = noted;
 }
 
 -- what stands at the newest revision
@@ -74,3 +77,13 @@ newest_there parts is now same n n_is =
     let place : newest now.past - parts.start ≡ n - parts.start = omega (arith, top, n_is) in
     sym (document_is parts is now same (newest now.past) (omega (arith, top, low, is.floor)) (omega arith) parts.deltas refl)
     ∙ ap (λ m. applied parts.units (take m parts.deltas)) place
+
+pub newest_noted : (parts : Parts) → AreParts parts → (now : Prepared) → seen parts ≡ now → (n : ℕ) → n ≡ parts.start + parts.count
+    → newest_sources now.past ≡ sources_after parts.start parts.sources (take (n - parts.start) (changes_by parts.takers parts.deltas))
+newest_noted parts is now same n n_is =
+    let top : newest now.past ≡ parts.start + parts.count = ap (λ (p : Prepared). newest p.past) (sym same) ∙ seen-newest parts is in
+    let low : now.past.floor ≡ parts.floor = ap (λ (p : Prepared). p.past.floor) (sym same) in
+    let place : newest now.past - parts.start ≡ n - parts.start = omega (arith, top, n_is) in
+    sym (replay_sources parts is now same (newest now.past) (omega (arith, top, low, is.floor)) (omega arith))
+    ∙ ap (sources_after parts.start parts.sources)
+    (changes-take (newest now.past - parts.start) parts.takers parts.deltas ∙ ap (λ m. take m (changes_by parts.takers parts.deltas)) place)

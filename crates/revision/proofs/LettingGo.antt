@@ -6,12 +6,12 @@ use Rattle.delta.specs.Operation.{Operation}
 use Rattle.compose.specs.Many.{applied}
 use Rattle.revision.specs.Sources.{Sources, with_taken}
 use Rattle.revision.specs.declared.taker.Taker.{Taker}
-use Rattle.revision.specs.Past.{Parts, AreParts, Past, Content, Change, LeadInTurn, is_content, taken_content, nexts_by, deltas_of, sources_at, sources_after, changes_by, whole_past, from_floor, seen}
+use Rattle.revision.specs.Past.{Parts, AreParts, AreNoted, Past, Content, Change, LeadInTurn, is_content, taken_content, nexts_by, deltas_of, sources_at, sources_after, changes_by, whole_past, from_floor, seen}
 use Rattle.revision.proofs.Replays.{stand-drop}
 use Rattle.revision.proofs.Kept.{short-drop}
 use Rattle.revision.proofs.Floors.{applied-take, from-from}
 use Rattle.revision.proofs.Turning.{nexts-drop}
-use Rattle.revision.proofs.KeptDocuments.{kept-later, sources-parts}
+use Rattle.revision.proofs.KeptDocuments.{kept-later, noted-later, sources-parts, sources-between}
 use Rattle.revision.proofs.Parts.{changes-take, changes-drop, changes-length, whole-deltas}
 
 -- the change at a place
@@ -66,8 +66,9 @@ module _ (parts : Parts) (is : AreParts parts) (gone : ℕ) (sources : Sources) 
   all : List Change
   all = changes_by parts.takers parts.deltas
 
-  pub later_are : AreParts (later_parts parts gone sources passed)
-  later_are = record {
+  pub later_are : sources ≡ sources_after parts.start parts.sources (changes_by (take gone parts.takers) (take gone parts.deltas))
+      → AreParts (later_parts parts gone sources passed)
+  later_are sources_is = record {
     stand = stand-drop gone parts.units parts.deltas is.stand;
     short = short-drop gone parts.units parts.deltas is.short;
     same = length-drop gone parts.takers ∙ (ap (λ n. n - gone) is.same ∙ sym (length-drop gone parts.deltas));
@@ -81,6 +82,11 @@ module _ (parts : Parts) (is : AreParts parts) (gone : ℕ) (sources : Sources) 
     held = omega (arith, within, is.start, is.floor, is.held);
     revision = omega (arith, within, is.start, is.floor, is.count, length-drop gone parts.deltas, is.revision);
     kept = kept-later parts.start parts.count gone passed parts.units parts.deltas parts.kept (omega (arith, within, is.start, is.floor)) is.kept;
+    noted = subst (λ (l : List Change). AreNoted (parts.start + gone) sources l (drop passed parts.kept)) (sym (changes-drop gone parts.takers parts.deltas))
+        (subst (λ (s : Sources). AreNoted (parts.start + gone) s (drop gone (changes_by parts.takers parts.deltas)) (drop passed parts.kept))
+        (sym (sources_is ∙ ap (sources_after parts.start parts.sources) (changes-take gone parts.takers parts.deltas)))
+        (noted-later parts.start gone passed parts.sources (changes_by parts.takers parts.deltas) parts.kept
+        (omega (arith, within, is.start, is.floor, is.count, changes-length parts.takers parts.deltas is.same)) is.noted));
   }
 
   -- the changes that are left, of those taken
@@ -152,3 +158,19 @@ noted_there parts is gone sources within sources_is =
     let long : below ≤ length changes = omega (arith, changes-length parts.takers parts.deltas is.same, is.count, is.floor) in
     ap (λ (s : Sources). sources_after (parts.start + gone) s (drop gone some)) (sources_is ∙ ap (sources_after parts.start parts.sources) (sym front))
     ∙ sources-parts gone parts.start (parts.start + gone) parts.sources some refl (omega (arith, within, ap length some_is, length-take-le below changes long))
+
+-- the sources after the first changes, by those at a revision among them
+pub noted_since : (start from count : ℕ) (sources base : Sources) (takers : List Taker) (deltas : List (List Operation)) → length takers ≡ length deltas → count ≤ length deltas
+    → start ≤ from → from ≤ start + count → base ≡ sources_after start sources (take (from - start) (changes_by takers deltas))
+    → sources_after from base (changes_by (take (count - (from - start)) (drop (from - start) takers)) (take (count - (from - start)) (drop (from - start) deltas)))
+    ≡ sources_after start sources (changes_by (take count takers) (take count deltas))
+noted_since start from count sources base takers deltas same within above below base_is =
+    let first : ℕ = from - start in
+    let more : ℕ = count - first in
+    let all : List Change = changes_by takers deltas in
+    let left : start + count - from ≡ more = omega (arith, above, below) in
+    let whole : start + count - start ≡ count = omega arith in
+    ap₂ (λ (s : Sources) (l : List Change). sources_after from s l) base_is
+    (changes-take more (drop first takers) (drop first deltas) ∙ (ap (take more) (changes-drop first takers deltas) ∙ ap (λ n. take n (drop first all)) (sym left)))
+    ∙ (sources-between start first from (start + count) sources all (omega (arith, above)) (omega (arith, above, below, within, changes-length takers deltas same)) below
+    ∙ ap (sources_after start sources) (ap (λ n. take n all) whole ∙ sym (changes-take count takers deltas)))

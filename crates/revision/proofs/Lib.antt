@@ -4,6 +4,7 @@ mod DeletingAll
 mod Parts
 mod Halves
 mod Weights
+mod Counted
 mod ChangedAt
 mod Untouched
 mod Indexed
@@ -11,6 +12,7 @@ mod OneMore
 mod Noted
 mod Outcomes
 pub mod MadeDocuments
+pub mod MovedOn
 mod Named
 mod Following
 mod Light

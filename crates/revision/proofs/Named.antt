@@ -49,9 +49,3 @@ named-found source window (first ∷ others) h found =
       | true ↦ λ same _. subst (λ n. is_source_name n ≡ true) (sym (same_name_from source first.0 same)) parts.0
       | false ↦ λ _ rest. named-found source window others parts.1 rest
     ] refl found
-
--- a list that is the entries of the one or the other
-pub named_if : (entries more : List (List ℕ × Window)) (done : Bool) (items : List (List ℕ × Window)) → items ≡ cond done more entries
-    → are_named more ≡ true → are_named entries ≡ true → are_named items ≡ true
-named_if entries more true items is new old = subst (λ l. are_named l ≡ true) (sym is) new
-named_if entries more false items is new old = subst (λ l. are_named l ≡ true) (sym is) old

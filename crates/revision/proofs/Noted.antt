@@ -1,14 +1,17 @@
 -- Sources after one of them was noted or dropped.
 use Rattle.std.proofs.Common.{◌≡◌, ℕ, zero, suc, Bool, true, false, cond, List, [], ◌∷◌, drop, Option, Some, None, Result, Ok, Err, ◌++◌, refl, sym, ap, ◌∙◌}
-use Rattle.std.specs.Prelude.{◌||◌, is_some}
+use Rattle.std.specs.Prelude.{◌||◌, is_some, unwrap_or, get_or}
+use Rattle.std.proofs.Math.Seq.{get_or-append_seam}
+use Rattle.std.specs.FinMap.Entries.{find}
 use Rattle.std.specs.Result.{OnOk, OnErr}
 use Rattle.std.specs.Cmp.{eq_by_cmp_equiv}
 use Rattle.std.specs.Cmp.Lexicographic.{nat_list_cmp_total}
-use Rattle.attributes.specs.Map.{get, insert}
+use Rattle.attributes.specs.Map.{by_bytes, get, insert}
+use Rattle.attributes.specs.Place.{IsHere}
 use Rattle.attributes.specs.Table.{is_name}
 use Rattle.attributes.proofs.CallerLemmas.{same_name_from, same_map, get-insert, get-remove}
-use Rattle.revision.specs.Window.{Window}
-use Rattle.revision.specs.Sources.{Sources, with_entry, is_among, EqualBut}
+use Rattle.revision.specs.Window.{Window, nothing_taken, taken_as}
+use Rattle.revision.specs.Sources.{Sources, window_of, with_entry, is_among, EqualBut}
 
 chosen_twice : (b : Bool) (x y : Option Window) (z : Option Window) → cond b y (cond b x z) ≡ cond b y z
 chosen_twice true x y z = refl
@@ -124,3 +127,24 @@ but-once_noted source window names one other after (Ok _) taken left but = λ na
     ∙ (sym (get-insert other source window name) ∙ ap (λ (m : Sources). get m name) (sym taken)))
 but-once_noted source window names one other after (Err _) taken left but = λ name absent.
     (but name absent).1 ∙ ap (λ (m : Sources). get m name) (sym left)
+
+-- the window at a source's place is the one that is found
+pub window-here : (source : List ℕ) (place : ℕ) (entries : List (List ℕ × Window)) (entry : List ℕ × Window) → IsHere source entries place
+    → entry ≡ get_or entries place entry → find by_bytes source entries ≡ Some entry.1
+window-here source place entries entry here is =
+    let seam : get_or entries place entry ≡ here.entry =
+    ap (λ l. get_or l place entry) here.parts
+    ∙ (ap (λ n. get_or (here.before ++ here.entry ∷ here.after) n entry) here.place_is ∙ get_or-append_seam here.before here.entry here.after entry) in
+    here.found ∙ ap (λ (e : List ℕ × Window). Some e.1) (sym (is ∙ seam))
+
+pub window-there : (source : List ℕ) (place : ℕ) (sources : Sources) (list : List (List ℕ × Window)) (entry : List ℕ × Window) → IsHere source sources.entries place
+    → list ≡ sources.entries → entry ≡ get_or list place entry → get sources source ≡ Some entry.1
+window-there source place sources list entry here same is = window-here source place sources.entries entry here (is ∙ ap (λ l. get_or l place entry) same)
+
+-- what it is once a number more was taken there
+pub taken-here : (source : List ℕ) (place number revision : ℕ) (sources : Sources) (list : List (List ℕ × Window)) (entry : List ℕ × Window)
+    → IsHere source sources.entries place → list ≡ sources.entries → entry ≡ get_or list place entry → (after : Window)
+    → after ≡ taken_as number revision entry.1 → after ≡ taken_as number revision (window_of source sources)
+taken-here source place number revision sources list entry here same is after taken =
+    let found = window-there source place sources list entry here same is in
+    taken ∙ ap (λ o. taken_as number revision (unwrap_or o nothing_taken)) (sym found)

@@ -9,12 +9,12 @@ use Rattle.document.specs.Outcome.{IsAccepted}
 use Rattle.compose.specs.Many.{applied}
 use Rattle.revision.specs.declared.taker.Taker.{Taker}
 use Rattle.revision.specs.Command.{Step, Edits, Deletes, Revives}
-use Rattle.revision.specs.Past.{Past, Content, Change, Next, Prepared, Parts, AreParts, StandInTurn, LeadsTo, LeadInTurn, is_content, suits, units_after, content_after_all, taken_content, next_by, nexts_by, newest, newest_content, deltas_of, deltas_in, content_at, deltas_above, from_floor, with_steps, changes_by, whole_past, seen, prepared_content, prepared_units, prepared_revision, without_last}
+use Rattle.revision.specs.Past.{Past, Content, Change, Next, Prepared, Parts, AreParts, AreNoted, StandInTurn, LeadsTo, LeadInTurn, is_content, suits, units_after, content_after_all, taken_content, next_by, nexts_by, newest, newest_content, deltas_of, deltas_in, content_at, deltas_above, from_floor, with_steps, changes_by, whole_past, seen, prepared_content, prepared_units, prepared_revision, without_last}
 use Rattle.revision.specs.Past.{way_back_late}
 use Rattle.revision.specs.Late.{HasRoom, all_inserted}
 use Rattle.revision.proofs.Room.{room_for_undo}
 use Rattle.revision.proofs.Kept.{stand-more, short-more, short-take, room-since, stand-between, short-between, short-first, short-inserts}
-use Rattle.revision.proofs.KeptDocuments.{kept-prepared, kept-accepted, kept-cut}
+use Rattle.revision.proofs.KeptDocuments.{kept-prepared, kept-accepted, kept-cut, noted-prepared, noted-cut}
 use Rattle.revision.proofs.Replays.{stand-take, stand-drop, drop-here}
 use Rattle.revision.specs.steps.Turning.{steps_up_to_turn, turned_floor, live_after_takers, live_by_last}
 use Rattle.revision.proofs.Floors.{newest-from, content-from, deltas-from}
@@ -235,6 +235,9 @@ module _ (parts : Parts) (is : AreParts parts) where
         held = is.held;
         revision = omega (arith, deltas, bound, prepared-revision);
         kept = kept-prepared parts.start parts.count parts.units parts.deltas (delta ∷ []) parts.kept is.count is.kept;
+        noted = subst (λ (l : List Change). AreNoted parts.start parts.sources l parts.kept) (sym (changes-more parts.takers parts.deltas taker delta is.same))
+            (noted-prepared parts.start parts.count parts.units parts.deltas parts.sources (changes_by parts.takers parts.deltas) (record { source = taker.source; number = taker.number; delta = delta } ∷ []) parts.kept
+            (omega (arith, is.count, changes-length parts.takers parts.deltas is.same)) is.kept is.noted);
       }
 
   -- what is prepared is accepted
@@ -303,6 +306,7 @@ module _ (parts : Parts) (is : AreParts parts) where
         held = omega (arith, floor_is, most);
         revision = is.revision;
         kept = kept-accepted parts.start parts.count (length parts.deltas) parts.units parts.deltas parts.kept is.count is.kept;
+        noted = is.noted;
       }
     where
       turned_within : (turns : ℕ) → turns ≤ length (drop parts.count parts.takers)
@@ -354,6 +358,8 @@ module _ (parts : Parts) (is : AreParts parts) where
         held = is.held;
         revision = omega (arith, deltas, there, is.revision);
         kept = kept-cut parts.start parts.count left parts.units parts.deltas parts.kept within is.kept;
+        noted = subst (λ (l : List Change). AreNoted parts.start parts.sources l parts.kept) (sym (changes-take left parts.takers parts.deltas))
+            (noted-cut parts.start parts.count left parts.units parts.deltas parts.sources (changes_by parts.takers parts.deltas) parts.kept within is.kept is.noted);
       }
 
   -- all of it

@@ -27,6 +27,7 @@ module _ (parts : Parts) (is : AreParts parts) (revision floor : ℕ) (floor_is 
     held = omega (arith, floor_is, is.held);
     revision = is.revision;
     kept = is.kept;
+    noted = is.noted;
   }
 
   pub raise_is : seen (record parts { floor = floor }) ≡ record (seen parts) { past = raised revision (seen parts).past }

@@ -8,14 +8,14 @@ use Rattle.refusal.specs.declared.Refusal.TheVariants.{BadOps, NoMemory}
 use Rattle.attributes.specs.Map.{empty}
 use Rattle.attributes.specs.Attributes.{Changes}
 use Rattle.delta.specs.Element.{Element, letters, lettered, embedded}
-use Rattle.delta.specs.Operation.{Operation, insert_text, insert_embed, retain, delete, base_of, out_of, IsBounded}
+use Rattle.delta.specs.Operation.{Operation, insert_text, insert_embed, retain, delete, base_of, out_of}
 use Rattle.delta.specs.Gaps.{Gaps, End, Gap, Fate, Del, Keep, front, run, counted, apply, units_below, units_kept, units_made}
 use Rattle.delta.specs.Normal.{nf, spelled}
 use Rattle.delta.proofs.CallerLemmas.{units_below-front, units_below-run, units_below-counted, counted-spelled, units_made-counted, base_of-nf, lengths-nf, out_of-spelled, length-apply_counted}
 use Rattle.document.specs.Weight.{weight_of}
 use Rattle.compose.specs.Inverse.{unit_back, inverse}
 use Rattle.xform.specs.After.{beside, left_of, after, second_past}
-use Rattle.xform.specs.Outcome.{CanTransform, IsTransformRefused}
+use Rattle.xform.specs.Outcome.{CanTransform, CanPassAll, IsPassRefused}
 use Rattle.xform.proofs.CallerLemmas.{units_below-beside}
 use Rattle.revision.specs.Past.{way_back}
 use Rattle.revision.specs.Late.{inserted_of, all_inserted, HasRoom, InsertedStay, RoomForCommands, RoomForUndo, LightInserts}
@@ -102,21 +102,23 @@ room-past taken edit others room = record {
   out = omega (arith, room.out, out-past taken edit true);
 }
 
-pub room-first : (taken edit : List Operation) (others : List (List Operation)) → HasRoom edit (taken ∷ others) → HasRoom edit (taken ∷ [])
-room-first taken edit others room = record { base = omega (arith, room.base); out = omega (arith, room.out) }
-
-pub bounded-after : (taken edit : List Operation) (priority : Bool) → HasRoom edit (taken ∷ []) → IsBounded (nf (after (counted taken) (counted edit) priority))
-bounded-after taken edit priority room = record {
-  base = omega (arith, room.base, base-past taken edit priority);
-  out = omega (arith, room.out, out-past taken edit priority);
+bounded-after : (taken edit : List Operation) (others : List (List Operation)) → HasRoom edit (taken ∷ others) → CanTransform taken edit true
+bounded-after taken edit others room = record {
+  base = omega (arith, room.base, base-past taken edit true);
+  out = omega (arith, room.out, out-past taken edit true);
 }
 
--- where two deltas can be transformed, only want of memory is a refusal
-pub only_memory : (first second : List Operation) (priority : Bool) (refusal : Refusal) → CanTransform first second priority
-    → IsTransformRefused first second priority refusal → refusal ≡ NoMemory
-only_memory first second priority BadOps can refused = absurd (refused can)
-only_memory first second priority NoMemory can memory = refl
-only_memory first second priority _ can refused = absurd refused
+can-pass : (edit : List Operation) (since : List (List Operation)) → HasRoom edit since → CanPassAll since edit
+can-pass edit [] room = tt
+can-pass edit (taken ∷ others) room =
+    (bounded-after taken edit others room, can-pass (second_past taken edit true) others (room-past taken edit others room))
+
+-- with room for it, only want of memory is a refusal
+pub only_memory : (edit : List Operation) (since : List (List Operation)) (refusal : Refusal) → HasRoom edit since
+    → IsPassRefused since edit refusal → refusal ≡ NoMemory
+only_memory edit since BadOps room refused = absurd (refused (can-pass edit since room))
+only_memory edit since NoMemory room memory = refl
+only_memory edit since _ room refused = absurd refused
 
 -- the way back stands on no more units than there were and were inserted, and makes no more than there were
 made-deletes : (n : ℕ) (g : Gaps) → units_made (run n Del g) ≡ units_made g

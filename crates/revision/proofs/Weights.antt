@@ -43,7 +43,7 @@ total-put count source window (e ∷ es) h =
       | Greater ↦ λ p. let rest = total-put count source window es parts.1 in omega (arith, rest)
     ] refl
 
-total-insert : (count : Window → ℕ) (source : List ℕ) (window : Window) (sources : Sources)
+pub total-insert : (count : Window → ℕ) (source : List ℕ) (window : Window) (sources : Sources)
     → total_of count (insert sources source window).entries + counted_of count (get sources source) ≡ total_of count sources.entries + count window
 total-insert count source window sources =
     ap (λ (es : List (List ℕ × Window)). total_of count es + counted_of count (get sources source)) (entries-insert sources source window)
@@ -98,7 +98,3 @@ weight-noted limits source number revision sources found most is fits =
   where
     sums : (after old before new more : ℕ) → after + old ≡ before + new → new ≡ old + more → after ≡ before + more
     sums after old before new more is so = omega (arith, is, so)
-
--- the sum as the program makes it, from one place on
-pub total-cons : (count : Window → ℕ) (e : List ℕ × Window) (es : List (List ℕ × Window)) → total_of count (e ∷ es) ≡ count e.1 + total_of count es
-total-cons count e es = refl

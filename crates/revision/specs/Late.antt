@@ -1,16 +1,15 @@
 -- An edit that was made on an older revision, as it is on the newest one (ShareDB speaks so of late edits; that the deltas
 -- taken since are passed one by one, each with priority, is this project's own).
-use Rattle.std.specs.Prelude.{ℕ, ◌+◌, ◌≤◌, ◌<◌, ◌^◌, true, List, [], ◌∷◌, length, All}
+use Rattle.std.specs.Prelude.{ℕ, ◌+◌, ◌≤◌, ◌<◌, ◌^◌, List, [], ◌∷◌, length, All}
 use Rattle.delta.specs.Element.{Element}
 use Rattle.delta.specs.Operation.{Operation, insert_text, insert_embed, retain, delete, base_of, out_of}
 use Rattle.delta.specs.Gaps.{counted, apply}
 use Rattle.document.specs.Weight.{weight_of}
-use Rattle.xform.specs.After.{second_past}
+use Rattle.xform.specs.After.{second_past_all}
 
 -- an edit past each delta that was taken since its base, in turn from the oldest, which was taken first and so has priority
 abbrev pub late : List Operation → List (List Operation) → List Operation
-late edit [] = edit
-late edit (taken ∷ others) = late (second_past taken edit true) others
+late edit since = second_past_all since edit
 
 -- how many units an operation, a delta, and several deltas insert
 abbrev pub op_inserted : Operation → ℕ

@@ -6,6 +6,7 @@ pub mod State
 pub mod Retries
 pub mod Floors
 pub mod Made
+pub mod Moved
 pub mod Agree
 pub mod Acceptance
 pub mod Late

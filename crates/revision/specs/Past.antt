@@ -1,5 +1,5 @@
 -- What is held of a document's past: its units at one revision, the floor, and the deltas of the revisions after it, in order.
-use Rattle.std.specs.Prelude.{◌≡◌, ℕ, ◌+◌, ◌-◌, ◌≤◌, ◌<◌, ◌^◌, ◌||◌, not, Bool, true, false, zero, suc, max, List, [], ◌∷◌, ◌++◌, length, ◌==◌, take, drop, map, refl}
+use Rattle.std.specs.Prelude.{◌≡◌, ℕ, ◌+◌, ◌-◌, ◌≤◌, ◌<◌, ◌^◌, ◌||◌, not, Bool, true, false, zero, suc, max, List, [], ◌∷◌, ◌++◌, length, ◌==◌, take, drop, map, IfSome, refl}
 use Rattle.std.specs.Coded.{Coded, code_by, coded×, coded_list, coded_ℕ, coded_bool}
 use Rattle.attributes.specs.Map.{empty}
 use Rattle.delta.specs.Element.{Element}
@@ -237,8 +237,8 @@ LeadInTurn content (first ∷ others) (delta ∷ deltas) =
     LeadsTo content first.step delta × LeadInTurn (content_after content first.step delta) others deltas
 
 -- What the program keeps of a past: the document and the sources at a revision that isn't above the floor, the start; the deltas after it
--- with their takers, of which so many are taken, and the others are prepared; documents at some of the revisions taken; and the mark at
--- the last of these.
+-- with their takers, of which so many are taken, and the others are prepared; documents at some of the revisions taken, some with their
+-- sources; and the mark at the last of these.
 pub record Parts : Type 0 where
   pub start : ℕ
   pub floor : ℕ
@@ -280,6 +280,14 @@ abbrev pub AreKept : ℕ → ℕ → List Element → List (List Operation) → 
 AreKept start count units deltas [] = Unit {0}
 AreKept start count units deltas (k ∷ ks) = IsKept start count units deltas k × AreKept start count units deltas ks
 
+-- the sources that are kept beside it, where some are, are those of its revision; of those from below the start nothing is said
+abbrev pub IsNoted : ℕ → Sources → List Change → Kept → Type 0
+IsNoted start sources changes k = start ≤ k.revision → IfSome k.sources (λ (s : Sources). s ≡ sources_after start sources (take (k.revision - start) changes))
+
+abbrev pub AreNoted : ℕ → Sources → List Change → List Kept → Type 0
+AreNoted start sources changes [] = Unit {0}
+AreNoted start sources changes (k ∷ ks) = IsNoted start sources changes k × AreNoted start sources changes ks
+
 -- what they keep: all deltas stand in turn on short documents, those prepared lead to what stands after their steps, and at most 65,536 of
 -- those taken are above the floor
 pub record AreParts (parts : Parts) : Type 0 where
@@ -294,6 +302,7 @@ pub record AreParts (parts : Parts) : Type 0 where
   pub held : parts.start + parts.count ≤ parts.floor + 65536
   pub revision : parts.start + length parts.deltas < 2 ^ 53
   pub kept : AreKept parts.start parts.count parts.units parts.deltas parts.kept
+  pub noted : AreNoted parts.start parts.sources (changes_by parts.takers parts.deltas) parts.kept
 
 -- how a past is told from another
 abbrev pub change_code : Coded Change

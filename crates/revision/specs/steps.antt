@@ -7,6 +7,7 @@ pub mod PastView
 pub mod Turning
 pub mod Preparing
 pub mod Weighing
+pub mod Counting
 pub mod Index
 pub mod ChangedAt
 pub mod DocumentsView

@@ -5,6 +5,7 @@ ghost use Rattle.delta.specs.Gaps.{counted, apply};
 ghost use Rattle.revision.specs.Floors.{raised};
 ghost use Rattle.revision.specs.Late.{late as late_edit, HasCommandRoom};
 ghost use Rattle.compose.specs.Many.{applied};
+ghost use Rattle.revision.specs.Moved.{IsMovedPast};
 ghost use Rattle.revision.specs.Past.{empty_past, StandInTurn, newest, content_at, sources_at, deltas_of, deltas_above, undo_of, own_delta, is_content, IsBlankFor, suits as spec_suits, units_after, next_by, with_steps, prepared_content, prepared_units, prepared_revision};
 ghost use Rattle.document.specs.Outcome.{IsAccepted};
 ghost use Rattle.document.specs.Weight.{weight_of};
@@ -19,6 +20,7 @@ ghost use Rattle.revision.specs.State.{revision_of, units_of, sources_of, begins
 ghost use Rattle.revision.specs.Pending.{record_of, with_prepared};
 
 use crate::limits::Limits;
+use crate::moved::MovedEdit;
 use crate::name::Name;
 use crate::past::{Past, Replay};
 use crate::source_table::SourceTable;
@@ -148,7 +150,8 @@ impl DocState {
             Some(next) => note_on(alloc, &mut self.past, &mut self.sources, next, change, near)?,
             None => {
                 let after = after_taken(alloc, &self.document, &change.delta)?;
-                self.past.keep(alloc, &self.document);
+                self.past
+                    .keep(alloc, &self.document, self.sources.accepted());
                 note(alloc, &mut self.past, &mut self.sources, change, near)?;
                 self.next = Some(after);
             }
@@ -179,7 +182,8 @@ impl DocState {
         ensures unchanged { OnErr result (self.new ≡ self.old) }
     {
         let after = made.copy(alloc)?;
-        self.past.keep(alloc, &self.document);
+        self.past
+            .keep_apart(alloc, &self.document, self.sources.accepted());
         note(alloc, &mut self.past, &mut self.sources, change, near)?;
         self.next = Some(after);
         Ok(())
@@ -244,7 +248,8 @@ impl DocState {
     pub(crate) fn let_go(&mut self, alloc: Global)
         ensures { self.new ≡ self.old }
     {
-        self.past.keep(alloc, &self.document);
+        self.past
+            .keep_apart(alloc, &self.document, self.sources.accepted());
         self.past.let_go(alloc);
     }
 
@@ -385,6 +390,32 @@ impl DocState {
         ensures only { IsOkUnless result Refusal.NoMemory }
     {
         self.past.late(alloc, edit, base)
+    }
+
+    // The same, where the edit may have been moved on already. What was moved of another document, of another base or of another edit is
+    // left aside.
+    pub(crate) fn late_by(
+        &self,
+        alloc: Global,
+        number: u32,
+        edit: &Delta,
+        base: u64,
+        moved: Option<&MovedEdit>,
+    ) -> Result<Delta, Refusal>
+        requires held { self.now.past.past.floor ≤ base }
+        requires there { base ≤ newest self.now.past.past }
+        requires base { base_of edit.now ≤ 2 ^ 44 }
+        requires out { out_of edit.now ≤ 2 ^ 44 }
+        requires moved { IfSome moved (λ m. m.now.document ≡ number → IsMovedPast self.now.past.past m.now) }
+        ensures late { IfOk result (λ made. made ≡ late_edit edit.now (deltas_above self.now.past.past base)) }
+        ensures only { IsOkUnless result Refusal.NoMemory }
+    {
+        if let Some(moved) = moved {
+            if moved.is_of(number, base, edit) {
+                return moved.past(alloc, self.since(base));
+            }
+        }
+        self.late(alloc, edit, base)
     }
 
     /// The delta that undoes a revision above the floor, late past what was taken since. Refused for want of memory alone.

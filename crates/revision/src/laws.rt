@@ -4,6 +4,7 @@ ghost use Rattle.std.specs.Str.{is_utf8};
 ghost use Rattle.utf16.specs.Units.{units_of};
 ghost use Rattle.revision.specs.Spellable.{IsText};
 ghost use Rattle.revision.specs.Acceptance.{TakenGrows};
+ghost use Rattle.revision.specs.Moved.{LateIsMoved, MovedStays};
 ghost use Rattle.revision.specs.Made.{MadeMore, MadeBefore, MadeFirst, MadeRest};
 ghost use Rattle.revision.specs.Parting.{PartsTold};
 ghost use Rattle.revision.specs.Replay.{PartsStand};
@@ -107,4 +108,11 @@ pub fn made_documents()
     ensures before { MadeBefore }
     ensures first { MadeFirst }
     ensures rest { MadeRest }
+{}
+
+/// An edit that is late in a state is moved there by the deltas since its base, and what is moved in a state stays so, whatever is taken
+/// then.
+pub fn moved_edits_stay()
+    ensures moved { LateIsMoved }
+    ensures stays { MovedStays }
 {}

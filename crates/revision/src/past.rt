@@ -7,7 +7,8 @@ ghost use Rattle.document.specs.Outcome.{IsAccepted};
 ghost use Rattle.compose.specs.Many.{applied};
 ghost use Rattle.revision.specs.Floors.{raised};
 ghost use Rattle.revision.specs.Late.{late as late_edit, all_inserted, HasCommandRoom};
-ghost use Rattle.revision.specs.Past.{Change, StandInTurn, IsKept, AreKept, newest, newest_units, content_at, deltas_of, deltas_above, undo_of, way_back, way_back_late, Next, is_content, suits, live_after as spec_live_after, units_after, next_by, with_steps, prepared_content, prepared_units, prepared_revision, without_last, sources_after, sources_at, changes_by};
+ghost use Rattle.revision.specs.Past.{Change, StandInTurn, IsKept, AreKept, IsNoted, AreNoted, newest, newest_units, newest_sources, content_at, deltas_of, deltas_above, undo_of, way_back, way_back_late, Next, is_content, suits, live_after as spec_live_after, units_after, next_by, with_steps, prepared_content, prepared_units, prepared_revision, without_last, sources_after, sources_at, changes_by};
+ghost use Rattle.revision.specs.Sources.{Sources as spec_Sources};
 ghost use Rattle.revision.specs.steps.Turning.{steps_up_to_turn, turned_floor as spec_turned_floor, live_after_takers, leaves_live as spec_leaves_live, live_by_last as spec_live_by_last};
 ghost use Rattle.revision.specs.Name.{is_source_name};
 ghost use Rattle.revision.specs.Replay.{IsReplay};
@@ -29,12 +30,14 @@ use std::marker::Model;
 /// So many revisions lie below the floor at most before they are let go of.
 const MOST_BELOW: u64 = 512;
 
-/// So many revisions at least lie between two documents that are kept.
+/// So many revisions at least lie between two documents that `keep_apart` keeps, and between two with the sources beside them, which
+/// cost some 100 bytes for each source.
 const APART: u64 = 256;
 
 /// The lowest revision that is held, the floor, with the document and the sources there, and the changes of the revisions after
 /// it. The first document that is kept may be older: what is seen is computed from it, so that the floor rises without a copy. Further
-/// documents are kept at every 256th revision or so, which share what they have in common, so that the way to a revision is short.
+/// documents are kept at every 256th revision or so, with the sources beside them, and by `keep` at the last revisions too. They share
+/// what they have in common, so that the way to a revision is short.
 ///
 /// A deletion is kept as the delta that deletes all. It raises the floor to its own revision, as a creation again does, so the revisions
 /// that are held are of one mark, live or deleted. What stood there before is let go of by `let_go`, as far as memory goes, and before the
@@ -181,10 +184,17 @@ impl Past {
         let base = self.base_for(revision);
         let count = (revision - self.start) as usize;
         let below = (base - self.start) as usize;
-        let takers = &self.takers.as_slice()[..count];
-        let taken = &self.deltas.as_slice()[..count];
-        let sources = noted_all(alloc, &self.sources, self.start, takers, taken)?;
+        let sources = sources_after_first(
+            alloc,
+            self.start,
+            &self.sources,
+            self.kept.as_slice(),
+            self.takers.as_slice(),
+            self.deltas.as_slice(),
+            count,
+        )?;
         let document = self.document_at(alloc, base)?;
+        let taken = &self.deltas.as_slice()[..count];
         let deltas = copies_of_deltas(alloc, &taken[below..])?;
         Ok(Replay {
             document,
@@ -323,24 +333,67 @@ impl Past {
         self.count = self.deltas.len();
     }
 
+    /// Keeps a copy of the document at the newest revision, where none is kept, as far as memory goes, and lets go of one that lies near
+    /// to others. So the last documents are kept, the denser the newer they are, some eleven besides those of `keep_apart`. Each costs a
+    /// count for each of its chunks, and the chunks that the others don't have. What is seen stays as it is.
+    pub(crate) fn keep(&mut self, alloc: Global, document: &Document, sources: &Sources)
+        requires newest { document.now ≡ newest_units self.old.past }
+        requires sources { sources.now ≡ newest_sources self.old.past }
+        ensures { self.new ≡ self.old }
+    {
+        if self.stale || self.since_kept() > 0 {
+            self.keep_copy(alloc, document, sources);
+            self.thin();
+        }
+    }
+
     /// Keeps a copy of the document at the newest revision, once 256 revisions have come since the last that is kept, or where it was
     /// deleted or created again, as far as memory goes. What is seen stays as it is.
-    pub(crate) fn keep(&mut self, alloc: Global, document: &Document)
+    pub(crate) fn keep_apart(&mut self, alloc: Global, document: &Document, sources: &Sources)
         requires newest { document.now ≡ newest_units self.old.past }
+        requires sources { sources.now ≡ newest_sources self.old.past }
+        ensures { self.new ≡ self.old }
+    {
+        if self.stale || self.since_kept() >= APART {
+            self.keep_copy(alloc, document, sources);
+        }
+    }
+
+    // So many revisions have come since the last document that is kept.
+    fn since_kept(&self) -> u64 {
+        let revision = self.start + self.count as u64;
+        revision.saturating_sub(last_kept(self.kept.as_slice(), self.start))
+    }
+
+    // Lets go of a document that lies near to others, where one does. What is seen stays as it is.
+    fn thin(&mut self)
+        ensures { self.new ≡ self.old }
+    {
+        let newest = self.start + self.count as u64;
+        if let Some(place) = spare_place(self.kept.as_slice(), self.start, newest) {
+            drop(self.kept.remove(place));
+        }
+    }
+
+    // Keeps a copy of the document at the newest revision, and of the sources beside it, once 256 revisions have come since the last
+    // that are kept, or where it was deleted or created again, as far as memory goes. What is seen stays as it is.
+    fn keep_copy(&mut self, alloc: Global, document: &Document, sources: &Sources)
+        requires newest { document.now ≡ newest_units self.old.past }
+        requires sources { sources.now ≡ newest_sources self.old.past }
         ensures { self.new ≡ self.old }
     {
         let revision = self.start + self.count as u64;
-        let last = last_kept(self.kept.as_slice(), self.start);
-        if self.stale || revision.saturating_sub(last) >= APART {
-            push_kept(alloc, &mut self.kept, revision, document);
-        }
+        let noted = last_noted(self.kept.as_slice(), self.start);
+        let due = self.stale || revision.saturating_sub(noted) >= APART;
+        let beside = copy_if_due(alloc, sources, due);
+        push_kept(alloc, &mut self.kept, revision, document, beside);
     }
 
     /// Lets go of the revisions below the floor, once there are 512 of them, up to the last document that is kept from there, as far
     /// as memory goes; and of all of them where the document was deleted or created again. What is seen stays as it is.
     ///
     /// Where it was neither deleted nor created again, with fewer a call costs nothing, and else it applies no delta: the document that is
-    /// kept takes the place of the first one, and the sources of the changes up to it are noted.
+    /// kept takes the place of the first one, and the changes up to it are noted, from the nearest sources that are kept.
     pub fn let_go(&mut self, alloc: Global)
         ensures { self.new ≡ self.old }
     {
@@ -356,15 +409,19 @@ impl Past {
         if gone == 0 {
             return;
         }
-        let later = moved_on(
+        let Ok(document) = base.copy(alloc) else {
+            return;
+        };
+        let noted = sources_after_first(
             alloc,
-            base,
-            &self.sources,
             self.start,
-            &self.takers.as_slice()[..gone],
-            &self.deltas.as_slice()[..gone],
+            &self.sources,
+            self.kept.as_slice(),
+            self.takers.as_slice(),
+            self.deltas.as_slice(),
+            gone,
         );
-        if let Ok((document, sources)) = later {
+        if let Ok(sources) = noted {
             let passed = count_up_to(self.kept.as_slice(), from);
             self.document = document;
             self.sources = sources;
@@ -384,12 +441,14 @@ impl Past {
         let Ok(document) = self.document_at(alloc, self.floor) else {
             return;
         };
-        let noted = noted_all(
+        let noted = sources_after_first(
             alloc,
-            &self.sources,
             self.start,
-            &self.takers.as_slice()[..gone],
-            &self.deltas.as_slice()[..gone],
+            &self.sources,
+            self.kept.as_slice(),
+            self.takers.as_slice(),
+            self.deltas.as_slice(),
+            gone,
         );
         if let Ok(sources) = noted {
             let passed = count_up_to(self.kept.as_slice(), self.floor);
@@ -549,7 +608,7 @@ fn copies_of_kept(alloc: Global, kept: &[Kept]) -> Result<Vec<Kept>, Refusal>
     Ok(copies)
 }
 
-// an equal document at the same revision, or `NoMemory`
+// an equal document at the same revision, with equal sources, or `NoMemory`
 fn copy_of_kept(alloc: Global, one: &Kept) -> Result<Kept, Refusal>
     ensures same { IfOk result (λ copy. copy ≡ one.now) }
     ensures only { IsOkUnless result Refusal.NoMemory }
@@ -557,11 +616,23 @@ fn copy_of_kept(alloc: Global, one: &Kept) -> Result<Kept, Refusal>
     Ok(Kept {
         revision: one.revision,
         document: one.document.copy(alloc)?,
+        sources: copy_of_sources(alloc, &one.sources)?,
     })
 }
 
+// equal sources where there are some, or `NoMemory`
+fn copy_of_sources(alloc: Global, sources: &Option<Sources>) -> Result<Option<Sources>, Refusal>
+    ensures same { IfOk result (λ copy. copy ≡ sources.now) }
+    ensures only { IsOkUnless result Refusal.NoMemory }
+{
+    match sources {
+        Some(sources) => Ok(Some(sources.copy(alloc)?)),
+        None => Ok(None),
+    }
+}
+
 // equal deltas, or `NoMemory`
-fn copies_of_deltas(alloc: Global, deltas: &[Delta]) -> Result<Vec<Delta>, Refusal>
+pub(crate) fn copies_of_deltas(alloc: Global, deltas: &[Delta]) -> Result<Vec<Delta>, Refusal>
     ensures same { IfOk result (λ copies. copies.items ≡ deltas.now) }
     ensures only { IsOkUnless result Refusal.NoMemory }
 {
@@ -713,18 +784,76 @@ fn last_kept(kept: &[Kept], start: u64) -> u64 {
     }
 }
 
-// Keeps a copy of a document at a revision, as far as memory goes.
-fn push_kept(alloc: Global, kept: &mut Vec<Kept>, revision: u64, document: &Document)
-    ensures { (start count : ℕ) (units : List Element) (deltas : List (List Operation))
+// The place of the newest document that is kept and is spare. No sources are kept beside it, and those before and after it lie less
+// than twice as far apart as the one after it lies back from the newest revision.
+fn spare_place(kept: &[Kept], start: u64, newest: u64) -> Option<usize>
+    ensures { IfSome result (λ place. place < length kept.now) }
+{
+    let mut after = newest;
+    let mut left = kept.len();
+    while left > 0 {
+        left -= 1;
+        let before = last_kept(&kept[..left], start);
+        let apart = after.saturating_sub(before);
+        if kept[left].sources.is_none() && apart / 2 < newest.saturating_sub(after) {
+            return Some(left);
+        }
+        after = kept[left].revision;
+    }
+    None
+}
+
+// The last revision at which sources are kept beside the document, or the start.
+fn last_noted(kept: &[Kept], start: u64) -> u64 {
+    let mut left = kept.len();
+    while left > 0 {
+        left -= 1;
+        if kept[left].sources.is_some() {
+            return kept[left].revision;
+        }
+    }
+    start
+}
+
+// A copy of the sources, where one is due and as far as memory goes.
+fn copy_if_due(alloc: Global, sources: &Sources, due: bool) -> Option<Sources>
+    ensures { IfSome result (λ copy. copy ≡ sources.now) }
+{
+    if !due {
+        return None;
+    }
+    match sources.copy(alloc) {
+        Ok(copy) => Some(copy),
+        Err(_) => None,
+    }
+}
+
+// Keeps a copy of a document at a revision, with its sources there where they are given, as far as memory goes.
+fn push_kept(
+    alloc: Global,
+    kept: &mut Vec<Kept>,
+    revision: u64,
+    document: &Document,
+    sources: Option<Sources>,
+)
+    ensures kept { (start count : ℕ) (units : List Element) (deltas : List (List Operation))
         → AreKept start count units deltas kept.old.items
-        → IsKept start count units deltas (record { revision = revision; document = document.now })
+        → IsKept start count units deltas (record { revision = revision; document = document.now; sources = sources })
         → AreKept start count units deltas kept.new.items }
+    ensures noted { (start : ℕ) (first : spec_Sources) (changes : List Change)
+        → AreNoted start first changes kept.old.items
+        → IsNoted start first changes (record { revision = revision; document = document.now; sources = sources })
+        → AreNoted start first changes kept.new.items }
 {
     let Ok(document) = document.copy(alloc) else {
         return;
     };
     // where the list can't grow the copy is dropped
-    let _ = kept.push(Kept { revision, document });
+    let _ = kept.push(Kept {
+        revision,
+        document,
+        sources,
+    });
 }
 
 // How many of the first documents that are kept lie no higher than a revision.
@@ -739,24 +868,60 @@ fn count_up_to(kept: &[Kept], revision: u64) -> usize
     kept.len()
 }
 
-// A copy of a document, and the sources after the changes that lead to it. Refused for want of memory alone.
-fn moved_on(
+// The sources after the first `count` of the changes of a past. Those that are kept nearest to them are copied, and the changes from
+// there on noted. Refused for want of memory alone.
+fn sources_after_first(
     alloc: Global,
-    document: &Document,
-    sources: &Sources,
     start: u64,
+    sources: &Sources,
+    kept: &[Kept],
     takers: &[Taker],
     deltas: &[Delta],
-) -> Result<(Document, Sources), Refusal>
+    count: usize,
+) -> Result<Sources, Refusal>
     requires same { length takers.now ≡ length deltas.now }
     requires revision { start + length deltas.now < 2 ^ 53 }
-    ensures document { IfOk result (λ later. later.0 ≡ document.now) }
-    ensures sources { IfOk result (λ later. later.1 ≡ sources_after start sources.now (changes_by takers.now deltas.now)) }
+    requires count { count ≤ length deltas.now }
+    requires noted { AreNoted start sources.now (changes_by takers.now deltas.now) kept.now }
+    ensures sources { IfOk result (λ noted. noted
+        ≡ sources_after start sources.now (changes_by (take count takers.now) (take count deltas.now))) }
     ensures only { IsOkUnless result Refusal.NoMemory }
 {
-    let document = document.copy(alloc)?;
-    let sources = noted_all(alloc, sources, start, takers, deltas)?;
-    Ok((document, sources))
+    let (from, base) = noted_up_to(start, sources, kept, start + count as u64);
+    let first = (from - start) as usize;
+    noted_all(
+        alloc,
+        base,
+        from,
+        &takers[first..count],
+        &deltas[first..count],
+    )
+}
+
+// Where the noting of a revision's sources begins, with the sources there: at the last that are kept up to it, or at the start.
+fn noted_up_to<'a>(
+    start: u64,
+    sources: &'a Sources,
+    kept: &'a [Kept],
+    revision: u64,
+) -> (u64, &'a Sources)
+    requires { start ≤ revision }
+    ensures above { start ≤ result.0 }
+    ensures below { result.0 ≤ revision }
+    ensures there { (changes : List Change) → AreNoted start sources.now changes kept.now
+        → result.1.now ≡ sources_after start sources.now (take (result.0 - start) changes) }
+{
+    let mut left = kept.len();
+    while left > 0 {
+        left -= 1;
+        let one = &kept[left];
+        if start <= one.revision && one.revision <= revision {
+            if let Some(found) = &one.sources {
+                return (one.revision, found);
+            }
+        }
+    }
+    (start, sources)
 }
 
 // The sources after these changes. Refused for want of memory alone.
@@ -776,7 +941,7 @@ fn noted_all(
     let mut noted = sources.copy(alloc)?;
     for i in 0..takers.len() {
         let taker = &takers[i];
-        noted.note(alloc, &taker.source, taker.number, start + i as u64 + 1, 0)?;
+        noted.take(alloc, &taker.source, taker.number, start + i as u64 + 1, 0)?;
     }
     Ok(noted)
 }

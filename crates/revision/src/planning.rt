@@ -1,9 +1,10 @@
 //! Which commands are taken.
-ghost use Rattle.std.specs.Prelude.{◌≡◌, ◌≢◌, ◌⊎◌, ◌<◌, ◌≤◌, ◌^◌, ◌+◌, ℕ, List, true, length, Some, IfOk, OnOk, IfErr, IsErrOf, IsOkUnless};
+ghost use Rattle.std.specs.Prelude.{◌≡◌, ◌≢◌, ◌⊎◌, ◌<◌, ◌≤◌, ◌^◌, ◌+◌, ℕ, List, true, length, Some, IfOk, IfSome, OnOk, IfErr, IsErrOf, IsOkUnless};
 ghost use Rattle.delta.specs.Element.{Element};
 ghost use Rattle.revision.specs.Acceptance.{answer, by_number, take_on, if_live, take_within, create_existing, create_new, create_next as spec_create_next, revive, edit, undo, delete, delete_next as spec_delete_next, change, Takes, Refuses};
 ghost use Rattle.revision.specs.Command.{Taken as Change, IsShortDelta};
 ghost use Rattle.revision.specs.Invariants.{IsPast};
+ghost use Rattle.revision.specs.Moved.{IsMovedIn, IsMovedPast};
 ghost use Rattle.revision.specs.Pending.{record_of};
 ghost use Rattle.revision.specs.Sources.{window_of};
 ghost use Rattle.revision.specs.State.{revision_of, sources_of, last_of_all, has_place as spec_has_place};
@@ -12,6 +13,7 @@ ghost use Rattle.revision.specs.Planned.{Gives, IsTurn, IsAsked, IsDeletion, IsD
 use crate::command::{Action, Command};
 use crate::doc_state::DocState;
 use crate::limits::Limits;
+use crate::moved::MovedEdit;
 use crate::name::Name;
 use crate::sources::Sources;
 use crate::state::State;
@@ -67,9 +69,26 @@ impl State {
             → may_want_memory command.now.action (answer self.now command.now) ≡ true }
         ensures grows { IfOk result (PlanGrows self.now) }
     {
+        self.plan_moved(alloc, command, None)
+    }
+
+    /// The same answer, by an edit that may have been moved on already (`late_edit`): then only what was taken after those deltas is left
+    /// to move it past. What was moved for another command is left aside.
+    pub fn plan_moved(
+        &self,
+        alloc: Global,
+        command: &Command,
+        moved: Option<&MovedEdit>,
+    ) -> Result<Plan, Refusal>
+        requires moved { IfSome moved (λ m. IsMovedIn self.now m.now) }
+        ensures due { Gives result (answer self.now command.now) }
+        ensures memory { IsErrOf result Refusal.NoMemory
+            → may_want_memory command.now.action (answer self.now command.now) ≡ true }
+        ensures grows { IfOk result (PlanGrows self.now) }
+    {
         // its number is in range
         let _ = command.number();
-        self.answer_to(alloc, command)
+        self.answer_to(alloc, command, moved)
     }
 
     /// Answers a command, and adds what is taken. The reply and the refusals are those of `plan`; refused, the state is as it
@@ -93,7 +112,13 @@ impl State {
     }
 
     // the answer to a command
-    fn answer_to(&self, alloc: Global, command: &Command) -> Result<Plan, Refusal>
+    fn answer_to(
+        &self,
+        alloc: Global,
+        command: &Command,
+        moved: Option<&MovedEdit>,
+    ) -> Result<Plan, Refusal>
+        requires moved { IfSome moved (λ m. IsMovedIn self.now m.now) }
         ensures due { Gives result (answer self.now command.now) }
         ensures memory { IsErrOf result Refusal.NoMemory
             → may_want_memory command.now.action (answer self.now command.now) ≡ true }
@@ -111,7 +136,7 @@ impl State {
             Action::Edit { base, delta } => match found {
                 None => Err(Refusal::NoDocument),
                 Some((number, found)) => {
-                    plan_edit(alloc, self, number, found, command, *base, delta)
+                    plan_edit(alloc, self, number, found, command, *base, delta, moved)
                 }
             },
             Action::Undo => match found {
@@ -247,9 +272,11 @@ fn plan_edit(
     command: &Command,
     base: u64,
     delta: &Delta,
+    moved: Option<&MovedEdit>,
 ) -> Result<Plan, Refusal>
     requires past { IsPast state.now.limits (record_of found.now).past }
     requires short { IsShortDelta delta.now }
+    requires moved { IfSome moved (λ m. m.now.document ≡ number → IsMovedPast (record_of found.now).past m.now) }
     ensures due { Gives result
         (by_number (window_of command.now.source (sources_of (record_of found.now))) command.now.number
         (if_live (record_of found.now) (edit state.now number (record_of found.now) command.now base delta.now))) }
@@ -278,7 +305,7 @@ fn plan_edit(
     if found.revision() == LAST {
         return Err(Refusal::RevisionsSpent);
     }
-    let delta = found.late(alloc, delta, base)?;
+    let delta = found.late_by(alloc, number, delta, base, moved)?;
     plan_change(alloc, state, number, found, command, delta)
 }
 

@@ -1,5 +1,5 @@
 //! The sources of a document, with what is prepared of them.
-ghost use Rattle.std.specs.Prelude.{◌≡◌, ◌↔◌, ℕ, List, [], ◌∷◌, true, false, IsTrue, IfOk, OnOk, OnErr, IsOkUnless};
+ghost use Rattle.std.specs.Prelude.{◌≡◌, ◌↔◌, ℕ, List, [], ◌∷◌, true, false, IsTrue, IfOk, OnOk, OnErr, IsOkUnless, option_copied};
 ghost use Rattle.attributes.specs.Map.{empty};
 ghost use Rattle.delta.specs.Gaps.{counted, apply};
 ghost use Rattle.document.specs.Outcome.{IsAccepted};
@@ -139,8 +139,7 @@ impl SourceTable {
             source,
             near,
         )?;
-        self.ahead.note(alloc, source, number, revision, near)?;
-        Ok(())
+        self.ahead.take(alloc, source, number, revision, near)
     }
 
     /// Prepares a command of a source as `prepare` does, and applies its delta to a document: both, or neither. Refused for want of
@@ -229,8 +228,8 @@ fn mark(
     ensures only { IsOkUnless result Refusal.NoMemory }
 {
     if is_same(
-        accepted.find_near(source, near),
-        ahead.find_near(source, near),
+        accepted.see_near(source, near),
+        ahead.see_near(source, near),
     ) {
         let source = source.copy(alloc)?;
         changed.push(Changed { source, near })?;
@@ -238,8 +237,8 @@ fn mark(
     Ok(())
 }
 
-fn is_same(one: Option<Window>, other: Option<Window>) -> bool
-    ensures { IsTrue result ↔ (one ≡ other) }
+fn is_same(one: Option<&Window>, other: Option<&Window>) -> bool
+    ensures { IsTrue result ↔ (option_copied one.entry ≡ option_copied other.entry) }
 {
     one == other
 }
@@ -306,8 +305,8 @@ fn align(
     ensures only { IsOkUnless result Refusal.NoMemory }
 {
     let source = &changed.source;
-    match accepted.find_near(source, changed.near) {
-        Some(window) => ahead.put_near(alloc, source, window, changed.near)?,
+    match accepted.see_near(source, changed.near) {
+        Some(window) => ahead.put_near(alloc, source, window.copy(), changed.near)?,
         None => ahead.remove(source),
     }
     Ok(())

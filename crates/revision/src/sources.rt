@@ -1,12 +1,12 @@
 //! The sources of a document.
-ghost use Rattle.std.specs.Prelude.{◌≡◌, ◌≤◌, ◌-◌, ◌^◌, ℕ, T, true, false, None, List, min, map, is_some, unwrap_or, slice_get, MatchResult, IfOk, OnOk, OnErr, OnSome, IsOkUnless, length};
+ghost use Rattle.std.specs.Prelude.{◌≡◌, ◌≤◌, ◌-◌, ◌^◌, ℕ, T, true, false, None, List, min, map, is_some, unwrap_or, slice_get, MatchResult, IfOk, OnOk, OnErr, OnSome, IsOkUnless, option_copied, length};
 ghost use Rattle.std.specs.FinMap.Entries.{is_sorted};
 ghost use Rattle.attributes.specs.Map.{by_bytes, empty, get, insert, remove};
 ghost use Rattle.attributes.specs.Place.{IsHere, IsFree};
 ghost use Rattle.revision.specs.Name.{is_source_name};
 ghost use Rattle.revision.specs.Window.{nothing_taken};
-ghost use Rattle.revision.specs.Sources.{are_named, count_of, cut, total_of, window_of, with_taken, with_entry};
-ghost use Rattle.revision.specs.State.{weight_of_sources, window_weight};
+ghost use Rattle.revision.specs.Sources.{are_named, count_of, cut, window_of, with_taken, with_entry};
+ghost use Rattle.revision.specs.State.{weight_of_sources};
 ghost use Rattle.revision.specs.steps.Weighing.{more_weight, Fits};
 ghost use Rattle.revision.specs.steps.NameAt.{has_name};
 ghost use lib.Dec.{T_prop};
@@ -29,17 +29,20 @@ pub(crate) struct Found {
     pub(crate) place: usize,
 }
 
-/// The sources of a document with their windows, in the order of the bytes of their names, which have 1 to 32 characters.
+/// The sources of a document with their windows, in the order of the bytes of their names, which have 1 to 32 characters. How many
+/// numbers their windows have in all is kept, so that what they weigh is known without a walk.
 #[derive(Drop)]
 pub struct Sources {
     list: Vec<(Name, Window)>,
+    // How many numbers the windows have in all. With 16 of each at most, it fits whatever the length of the list.
+    numbers: u128,
     ghost ascending: { T (is_sorted by_bytes list.items) } by { T_prop _ },
 }
 
 impl Model for Sources {
-    ghost use Rattle.std.specs.Prelude.{◌≡◌, true};
     ghost use Rattle.revision.specs.Sources as spec;
-    ghost use Rattle.revision.specs.Sources.{sources_code, are_named};
+    ghost use Rattle.revision.specs.Sources.{sources_code};
+    ghost use Rattle.revision.specs.steps.Counting.{Keeps};
 
     ghost Value = { spec.Sources };
 
@@ -47,7 +50,7 @@ impl Model for Sources {
 
     ghost view = { λ s. record { entries = s.list.items; ascending = s.ascending } };
 
-    ghost invariant = { λ s. are_named s.list.items ≡ true };
+    ghost invariant = { λ s. Keeps s.numbers s.list.items };
 }
 
 impl Sources {
@@ -57,6 +60,7 @@ impl Sources {
     {
         Sources {
             list: Vec::new(alloc),
+            numbers: 0,
         }
     }
 
@@ -149,13 +153,13 @@ impl Sources {
         }
     }
 
-    /// A source's window, as `find` tells. One place is tried first.
-    pub(crate) fn find_near(&self, source: &Name, near: usize) -> Option<Window>
-        ensures window { result ≡ get self.now source.now }
+    /// A source's window where it stands, as `find` tells. One place is tried first.
+    pub(crate) fn see_near(&self, source: &Name, near: usize) -> Option<&Window>
+        ensures window { option_copied result ≡ get self.now source.now }
         ensures named { OnSome result (is_source_name source.now ≡ true) }
     {
         match self.place_near(source.as_str(), near) {
-            Ok(i) => Some(self.list[i].1.copy()),
+            Ok(i) => Some(&self.list[i].1),
             Err(_) => None,
         }
     }
@@ -164,7 +168,9 @@ impl Sources {
     pub(crate) fn weight(&self, limits: Limits) -> u64
         ensures { result ≡ min (weight_of_sources limits self.now) (2 ^ 64 - 1) }
     {
-        weight_of_all(limits, self.entries())
+        let each = u128::from(limits.retry());
+        let weight = (64 - each) * self.list.len() as u128 + each * self.numbers;
+        weight.min(u128::from(u64::MAX)) as u64
     }
 
     /// What they weigh once a command of this source was taken; 2^64 - 1 where it is more.
@@ -194,14 +200,48 @@ impl Sources {
     {
         match self.place(source.as_str()) {
             Ok(i) => {
-                self.list[i].1 = window;
+                self.set_at(i, window);
                 Ok(())
             }
-            Err(i) => {
-                self.list.insert(i, (source, window))?;
-                Ok(())
-            }
+            Err(i) => self.add_at(i, source, window),
         }
+    }
+
+    // Gives the source at a place another window. It takes no memory.
+    fn set_at(&mut self, place: usize, window: Window)
+        requires { (source : List ℕ) × IsHere source self.old.entries place }
+        ensures { (source : List ℕ) → IsHere source self.old.entries place → self.new ≡ insert self.old source window }
+    {
+        let before = &mut self.list[place].1;
+        self.numbers = self.numbers - before.count() as u128 + window.count() as u128;
+        *before = window;
+    }
+
+    // Takes a number of the source at a place as a revision, in its window where it stands. It takes no memory.
+    fn take_at(&mut self, place: usize, number: u64, revision: u64)
+        requires { (source : List ℕ) × IsHere source self.old.entries place }
+        ensures { (source : List ℕ) → IsHere source self.old.entries place
+            → self.new ≡ with_taken source number revision self.old }
+    {
+        let window = &mut self.list[place].1;
+        let before = window.count();
+        window.take(number, revision);
+        self.numbers = self.numbers - before as u128 + window.count() as u128;
+    }
+
+    // Adds a source, whose name has 1 to 32 characters, at the place where it would stand. Refused for want of memory alone, and then
+    // unchanged.
+    fn add_at(&mut self, place: usize, source: Name, window: Window) -> Result<(), Refusal>
+        requires named { is_source_name source ≡ true }
+        requires free { IsFree source self.old.entries place }
+        ensures ok { OnOk result (self.new ≡ insert self.old source window) }
+        ensures unchanged { OnErr result (self.new ≡ self.old) }
+        ensures only { IsOkUnless result Refusal.NoMemory }
+    {
+        let count = window.count() as u128;
+        self.list.insert(place, (source, window))?;
+        self.numbers += count;
+        Ok(())
     }
 
     /// Gives a source that is there another window, and tells whether it is there. One place is tried first. It takes no memory.
@@ -213,7 +253,7 @@ impl Sources {
     {
         match self.place_near(source.as_str(), near) {
             Ok(i) => {
-                self.list[i].1 = window;
+                self.set_at(i, window);
                 true
             }
             Err(_) => false,
@@ -233,10 +273,13 @@ impl Sources {
         ensures unchanged { OnErr result (self.new ≡ self.old) }
         ensures only { IsOkUnless result Refusal.NoMemory }
     {
-        if self.renew(source, window.copy(), near) {
-            return Ok(());
+        match self.place_near(source.as_str(), near) {
+            Ok(i) => {
+                self.set_at(i, window);
+                Ok(())
+            }
+            Err(i) => self.add_at(i, source.copy(alloc)?, window),
         }
-        self.put(source.copy(alloc)?, window)
     }
 
     /// Notes a command of a source, whose name has 1 to 32 characters, and gives back the window that it had, where it was there. One
@@ -255,11 +298,40 @@ impl Sources {
         ensures unchanged { OnErr result (self.new ≡ self.old) }
         ensures only { IsOkUnless result Refusal.NoMemory }
     {
-        let before = self.find_near(source, near);
-        let mut window = window_in(&before);
-        window.take(number, revision);
-        self.put_near(alloc, source, window, near)?;
-        Ok(before)
+        match self.place_near(source.as_str(), near) {
+            Ok(i) => {
+                let before = self.list[i].1.copy();
+                self.take_at(i, number, revision);
+                Ok(Some(before))
+            }
+            Err(i) => {
+                self.add_at(i, source.copy(alloc)?, Window::of_one(number, revision))?;
+                Ok(None)
+            }
+        }
+    }
+
+    /// Notes a command of a source as `note` does, and leaves the window that it had.
+    pub(crate) fn take(
+        &mut self,
+        alloc: Global,
+        source: &Name,
+        number: u64,
+        revision: u64,
+        near: usize,
+    ) -> Result<(), Refusal>
+        requires { is_source_name source.now ≡ true }
+        ensures ok { OnOk result (self.new ≡ with_taken source.now number revision self.old) }
+        ensures unchanged { OnErr result (self.new ≡ self.old) }
+        ensures only { IsOkUnless result Refusal.NoMemory }
+    {
+        match self.place_near(source.as_str(), near) {
+            Ok(i) => {
+                self.take_at(i, number, revision);
+                Ok(())
+            }
+            Err(i) => self.add_at(i, source.copy(alloc)?, Window::of_one(number, revision)),
+        }
     }
 
     /// Gives a source that is there the window that it had before, and drops it where it had none. One place is tried first. It takes no
@@ -282,7 +354,8 @@ impl Sources {
         ensures { self.new ≡ remove self.old source.now }
     {
         if let Ok(i) = self.place(source.as_str()) {
-            drop(self.list.remove(i));
+            let (_, window) = self.list.remove(i);
+            self.numbers -= window.count() as u128;
         }
     }
 
@@ -293,6 +366,7 @@ impl Sources {
     {
         Ok(Sources {
             list: copy_of(alloc, self.entries())?,
+            numbers: self.numbers,
         })
     }
 
@@ -303,6 +377,7 @@ impl Sources {
     {
         Ok(Sources {
             list: last_numbers_of(alloc, self.entries())?,
+            numbers: self.list.len() as u128,
         })
     }
 }
@@ -356,17 +431,6 @@ pub(crate) fn window_in(found: &Option<Window>) -> Window
         Some(window) => window.copy(),
         None => Window::new(),
     }
-}
-
-// What sources weigh; 2^64 - 1 where it is more.
-fn weight_of_all(limits: Limits, entries: &[(Name, Window)]) -> u64
-    ensures { result ≡ min (total_of (window_weight limits) entries.now) (2 ^ 64 - 1) }
-{
-    let mut weight = 0u64;
-    for (_, window) in entries {
-        weight = weight.saturating_add(window.weight(limits));
-    }
-    weight
 }
 
 // What a number more of a source that has this adds to the weight: a source that is new, a number by which its window is longer, or

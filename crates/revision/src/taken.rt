@@ -360,7 +360,7 @@ fn is_same_name(one: &Name, other: &Name) -> bool
     one == other
 }
 
-fn is_same_delta(one: &Delta, other: &Delta) -> bool
+pub(crate) fn is_same_delta(one: &Delta, other: &Delta) -> bool
     ensures { IsTrue result ↔ (one.now ≡ other.now) }
 {
     one == other

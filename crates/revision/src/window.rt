@@ -1,10 +1,7 @@
 //! A source's window.
 ghost use Rattle.std.specs.Prelude.{◌≡◌, ◌≤◌, ◌<◌, [], ◌∷◌, ◌++◌, length, nat_lt};
-ghost use Rattle.revision.specs.State.{window_weight};
 ghost use Rattle.revision.specs.Window.{longest, nothing_taken, taken_as, revision_in, last_revision};
 
-use crate::limits::Limits;
-use arrayvec::ArrayVec;
 use std::marker::Model;
 
 /// How many numbers a window has at most.
@@ -15,7 +12,8 @@ pub const LONGEST: usize = 16;
 #[derive(Drop)]
 pub struct Window {
     number: u64,
-    revisions: ArrayVec<u64, LONGEST>,
+    revisions: [u64; LONGEST],
+    count: usize,
 }
 
 impl Model for Window {
@@ -25,7 +23,11 @@ impl Model for Window {
 
     ghost coded = { spec.window_code };
 
-    ghost view = { λ w. record { number = w.number; revisions = w.revisions.items } };
+    ghost use Rattle.std.specs.Prelude.{◌≤◌, take};
+
+    ghost view = { λ w. record { number = w.number; revisions = take w.count w.revisions } };
+
+    ghost invariant = { λ w. w.count ≤ spec.longest };
 }
 
 impl Window {
@@ -33,19 +35,16 @@ impl Window {
     pub fn new() -> Window
         ensures { result ≡ nothing_taken }
     {
-        Window {
-            number: 0,
-            revisions: ArrayVec::new(),
-        }
+        Window::begun(0)
     }
 
     /// That of a source with one number.
     pub fn of_one(number: u64, revision: u64) -> Window
         ensures { result ≡ record { number = number; revisions = revision ∷ [] } }
     {
-        let mut revisions = ArrayVec::new();
-        revisions.push(revision);
-        Window { number, revisions }
+        let mut window = Window::begun(number);
+        window.add(revision);
+        window
     }
 
     /// That of a source with this last number, before the revisions of its numbers are added.
@@ -54,7 +53,8 @@ impl Window {
     {
         Window {
             number,
-            revisions: ArrayVec::new(),
+            revisions: [0; LONGEST],
+            count: 0,
         }
     }
 
@@ -63,7 +63,8 @@ impl Window {
         requires { length self.old.revisions < longest }
         ensures { self.new ≡ record { number = self.old.number; revisions = self.old.revisions ++ revision ∷ [] } }
     {
-        self.revisions.push(revision);
+        self.revisions[self.count] = revision;
+        self.count += 1;
     }
 
     /// The last number, 0 where nothing was taken.
@@ -78,7 +79,7 @@ impl Window {
         ensures revisions { result.now ≡ self.now.revisions }
         ensures longest { length self.now.revisions ≤ longest }
     {
-        self.revisions.as_slice()
+        &self.revisions[..self.count]
     }
 
     /// The revision that a number of the window made.
@@ -89,14 +90,11 @@ impl Window {
             return None;
         }
         let back = self.number - number;
-        let count = self.revisions.len() as u64;
+        let count = self.count as u64;
         if back >= count {
             return None;
         }
-        self.revisions
-            .as_slice()
-            .get((count - 1 - back) as usize)
-            .copied()
+        self.revisions().get((count - 1 - back) as usize).copied()
     }
 
     /// The revision of the last number, 0 where nothing was taken.
@@ -110,10 +108,11 @@ impl Window {
     pub(crate) fn take(&mut self, number: u64, revision: u64)
         ensures { self.new ≡ taken_as number revision self.old }
     {
-        if self.revisions.len() == LONGEST {
-            self.revisions.remove(0);
+        if self.count == LONGEST {
+            self.revisions.copy_within(1.., 0);
+            self.count -= 1;
         }
-        self.revisions.push(revision);
+        self.add(revision);
         self.number = number;
     }
 
@@ -121,20 +120,19 @@ impl Window {
     pub fn copy(&self) -> Window
         ensures { result ≡ self.now }
     {
-        let mut revisions = ArrayVec::new();
-        let _ = revisions.try_extend_from_slice(self.revisions());
         Window {
             number: self.number,
-            revisions,
+            revisions: self.revisions,
+            count: self.count,
         }
     }
 
-    /// What a source with this window weighs.
-    pub(crate) fn weight(&self, limits: Limits) -> u64
-        ensures { result ≡ window_weight limits self.now }
+    /// How many numbers it has, 16 at most.
+    pub(crate) fn count(&self) -> usize
+        ensures count { result ≡ length self.now.revisions }
+        ensures longest { result ≤ longest }
     {
-        let each = u64::from(limits.retry());
-        64 - each + each * self.revisions().len() as u64
+        self.count
     }
 
     /// Whether a number more makes it longer.
@@ -142,7 +140,7 @@ impl Window {
         ensures short { result ≡ nat_lt (length self.now.revisions) longest }
         ensures fits { length self.now.revisions ≤ longest }
     {
-        self.revisions().len() < LONGEST
+        self.count < LONGEST
     }
 }
 

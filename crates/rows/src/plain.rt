@@ -16,6 +16,7 @@ pub enum Step {
 }
 
 impl Step {
+    /// Whether it inserts something.
     pub fn is_insert(&self) -> bool {
         match self {
             Step::Code(_, _) | Step::Embed(_, _, _) => true,

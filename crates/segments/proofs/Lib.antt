@@ -14,3 +14,4 @@ pub mod SlotsRead
 pub mod TablesRead
 pub mod Gathering
 pub mod RingsRead
+pub mod Counting

@@ -4,7 +4,7 @@ use Rattle.disk.specs.Device.{SameOutside}
 use Rattle.journal.specs.Area.{Place, open_records}
 use Rattle.segments.specs.declared.ring.Ring.{Ring}
 use Rattle.segments.specs.Slot.{Segment}
-use Rattle.segments.specs.Numbers.{IsNewest, IsNext}
+use Rattle.segments.specs.Numbers.{IsNewest, IsNext, open_count}
 use Rattle.segments.specs.Table.{slot_place, slot_at, numbers_of, HoldsTable, IsOpened, IsAppended, IsRetired}
 
 -- where the first slot lies, how many bytes each has, and the number of each that is open
@@ -33,6 +33,14 @@ fits_into (Some place) len = nat_le (place.next + 6 + len) place.size
 -- a body of so many bytes fits into the newest segment; there may be none
 abbrev pub fits_newest : Ring → ℕ → Bool
 fits_newest ring len = fits_into ring.newest len
+
+-- how many bytes of the slots are in use: of the newest segment those up to the end of its records, and each other open slot whole
+abbrev pub used_with : Ring → Option Place → ℕ
+used_with ring None = 0
+used_with ring (Some place) = (open_count (known_numbers ring) - 1) * size_of ring + 9 + place.next
+
+abbrev pub used_bytes : Ring → ℕ
+used_bytes ring = used_with ring ring.newest
 
 -- This area is that of the newest segment of a table, and its next record goes behind the segment's bodies.
 pub record IsNewestArea (at size : ℕ) (table : List (Option Segment)) (place : Place) : Type 0 where

@@ -57,6 +57,21 @@ fn open_count(numbers: &[Option<u64>]) -> usize
     count
 }
 
+/// How many slots are open. A slot more than there are is never counted.
+pub fn count_open(numbers: &[Option<u64>]) -> u64
+    ensures count { result ≡ open_count numbers.now }
+    ensures bound { result ≤ length numbers.now }
+{
+    open_count(numbers) as u64
+}
+
+/// The highest number of a slot, 0 where none is open.
+pub fn highest(numbers: &[Option<u64>]) -> u64
+    ensures { result ≡ newest_number numbers.now }
+{
+    newest_number(numbers)
+}
+
 /// The open slot of the lowest number.
 fn oldest(numbers: &[Option<u64>]) -> Option<usize>
     ensures oldest { IfSome result (λ slot. (number : ℕ) × IsOldest numbers.now slot number) }

@@ -46,8 +46,9 @@ impl Ring {
     ghost use Rattle.journal.specs.Area.{Place};
     ghost use Rattle.segments.specs.Slot.{Segment};
     ghost use Rattle.segments.specs.Numbers.{IsFull, IsNext, IsNewest, IsOldest, number_at, open_count};
+    ghost use Rattle.segments.specs.Numbers.{newest_number};
     ghost use Rattle.segments.specs.Table.{slot_place, HoldsTable, IsOpened, IsAppended, IsRetired};
-    ghost use Rattle.segments.specs.Ring.{at_of, size_of, known_numbers, end_of, fits_newest, Fits, FitsNow, SamePlaces, IsSameOrOpened, IsReady, IsLeftByOpening, IsLeftReady, IsLeftByAppend, IsLeftByRetiring};
+    ghost use Rattle.segments.specs.Ring.{at_of, size_of, known_numbers, end_of, fits_newest, used_bytes, Fits, FitsNow, SamePlaces, IsSameOrOpened, IsReady, IsLeftByOpening, IsLeftReady, IsLeftByAppend, IsLeftByRetiring};
     ghost use Rattle.segments.specs.Recovered.{IsReadAs};
     ghost use Rattle.segments.specs.Room.{has_room_for};
 
@@ -240,6 +241,35 @@ impl Ring {
         ensures none { result ≡ None → (slot : ℕ) → number_at (known_numbers self.now) slot ≡ None }
     {
         self.numbers[newest(&self.numbers)?]
+    }
+
+    /// How many slots are open.
+    pub fn open_count(&self) -> u64
+        ensures count { result ≡ open_count (known_numbers self.now) }
+        ensures bound { result ≤ length (known_numbers self.now) }
+    {
+        crate::numbers::count_open(&self.numbers)
+    }
+
+    /// The highest number of a segment, 0 where no slot is open.
+    pub fn highest_number(&self) -> u64
+        ensures { result ≡ newest_number (known_numbers self.now) }
+    {
+        crate::numbers::highest(&self.numbers)
+    }
+
+    /// How many bytes of the slots are in use: of the newest segment those up to the end of its last record, and each other open slot
+    /// whole, since nothing is added to it.
+    pub fn used(&self) -> u64
+        ensures { result ≡ used_bytes self.now }
+    {
+        match self.newest {
+            Some(area) => {
+                let others = self.open_count().saturating_sub(1);
+                others * self.size + HEAD_LEN + area.used()
+            }
+            None => 0,
+        }
     }
 
     /// The number of the segment that `retire_oldest` retires, None where fewer than two slots are open.

@@ -1,4 +1,3 @@
-mod Crossing
 mod Fronts
 mod Dumps
 mod Worked

@@ -1,2 +1,4 @@
 pub mod Dump
 pub mod Deltas
+pub mod Checked
+pub mod Calls

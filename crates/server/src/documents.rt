@@ -2,16 +2,50 @@
 ghost use Rattle.std.specs.Prelude.{◌≡◌, ◌⊎◌, true, OnOk, OnErr, IfOk, IfErr, IsErrOf};
 ghost use Rattle.std.specs.String.{string_bytes};
 ghost use Rattle.std.specs.Io.KnownBytes.{Appends};
+ghost use Rattle.disk.specs.Crash.{history_of};
+ghost use Rattle.disk.specs.Device.{IsSync, IsAtMostOneStep};
+ghost use Rattle.recovery.specs.Found.{Found};
 ghost use Rattle.revision.specs.Pending.{record_of};
+ghost use Rattle.revision.specs.State.{State as StateValue};
 ghost use Rattle.session.specs.Output.{AppendsFront};
 ghost use Rattle.server.specs.Dump as spec;
 
+use crate::inspected::Printed;
 use algebra::write_delta;
+use disk::Disk;
+use recovery::{OpenFault, Pick, Store};
 use refusal::Refusal;
 use revision::{DocState, State};
 use serving::Failure;
 use session::Output;
 use std::alloc::{AllocError, Global};
+
+/// Opens the store on a device, and writes its documents as `dump` does. Refused as `Store::open` refuses it. The device comes back on every
+/// path; it is synced, and nothing is written to it.
+pub fn dump_store<D: Disk, O: Output>(
+    alloc: Global,
+    disk: D,
+    pick: Pick,
+    output: &mut O,
+) -> Printed<D>
+    ensures dumped { OnOk result.done (D.honest result.disk → (state : StateValue) → Found (D.seen disk) pick state
+        → Appends (O.contents output.old) (O.contents output.new) (spec.dump_of state.documents)) }
+    ensures time { IsAtMostOneStep IsSync (history_of ⟦<D as Disk>⟧ disk) (history_of ⟦<D as Disk>⟧ result.disk) }
+    ensures seen { D.seen result.disk ≡ D.seen disk }
+{
+    let store = match Store::open(alloc, disk, pick) {
+        Ok(store) => store,
+        Err(OpenFault { disk, refusal }) => {
+            let done = Err(Failure::Refused(refusal));
+            return Printed { disk, done };
+        }
+    };
+    let done = dump(alloc, store.state(), output);
+    Printed {
+        disk: store.close(),
+        done,
+    }
+}
 
 /// Writes one line for each document, in order of creation: name, revision, floor and operations, or `deleted`. Ends where a write
 /// fails (`Stream`), or with `NoMemory`, and then a beginning of the lines is written.

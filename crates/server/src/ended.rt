@@ -1,9 +1,10 @@
-//! Why the program ends with status 1.
+//! Why the program ends with status 1 or 2.
 use disk::FileDisk;
 use refusal::Refusal;
 use serving::Failure;
 use std::fmt::{self, Display, Formatter};
 use std::io::{self, Write};
+use words::LinesFault;
 
 /// What is tried with an address.
 pub(crate) const LISTENING: &str = "listening on";
@@ -23,17 +24,19 @@ impl Display for Cause<'_> {
             what,
             reason,
         } = self;
-        write!(f, "richd: {tried} {what}: {reason}")
+        write!(f, "{tried} {what}: {reason}")
     }
 }
 
-/// Why the program ends with status 1.
+/// Why the program ends with status 1, or with 2.
 #[derive(Drop)]
 pub(crate) enum Ended<'a> {
     /// It was refused, which is told on standard error, with the cause where the refusal has one.
     Refused(Refusal, Option<Cause<'a>>),
     /// A standard stream failed, which is not told.
     Stream,
+    /// The words can't be used, which is told.
+    Usage(clap::Error),
 }
 
 impl<'a> Ended<'a> {
@@ -49,9 +52,30 @@ impl<'a> Ended<'a> {
         )
     }
 
+    /// The refusal, where it is one.
+    pub(crate) fn refusal(&self) -> Option<Refusal> {
+        match self {
+            Ended::Refused(refusal, _) => Some(*refusal),
+            Ended::Stream | Ended::Usage(_) => None,
+        }
+    }
+
     /// It was refused while a store was read from a file or written to it.
     pub(crate) fn over(path: &'a str, disk: &FileDisk, refusal: Refusal) -> Ended<'a> {
         Ended::Refused(refusal, cause_of(path, disk, refusal))
+    }
+
+    /// It was refused while one file was read and another one written.
+    pub(crate) fn over_two(
+        old: (&'a str, &FileDisk),
+        new: (&'a str, &FileDisk),
+        refusal: Refusal,
+    ) -> Ended<'a> {
+        let cause = match cause_of(old.0, old.1, refusal) {
+            Some(cause) => Some(cause),
+            None => cause_of(new.0, new.1, refusal),
+        };
+        Ended::Refused(refusal, cause)
     }
 }
 
@@ -60,6 +84,15 @@ impl From<Failure> for Ended<'_> {
         match failure {
             Failure::Refused(refusal) => Ended::Refused(refusal, None),
             Failure::Stream => Ended::Stream,
+        }
+    }
+}
+
+impl From<LinesFault> for Ended<'_> {
+    fn from(fault: LinesFault) -> Self {
+        match fault {
+            LinesFault::Usage(error) => Ended::Usage(error),
+            LinesFault::Stream => Ended::Stream,
         }
     }
 }
@@ -81,7 +114,7 @@ pub(crate) fn cause_of<'a>(path: &'a str, disk: &FileDisk, refusal: Refusal) -> 
 pub(crate) fn tell<E: Write>(refusal: Refusal, cause: Option<Cause<'_>>, errors: &mut E) {
     let _ = writeln!(errors, "{refusal}");
     if let Some(cause) = cause {
-        let _ = writeln!(errors, "{cause}");
+        let _ = writeln!(errors, "richd: {cause}");
     }
     let _ = errors.flush();
 }

@@ -1,59 +1,137 @@
 //! The files of stores: one is opened, or made, or the program ends with what kept it from that.
+ghost use Rattle.std.specs.Prelude.{◌≡◌, ◌⊎◌, [], ◌∷◌, true, false, Ok, OnOk, OnErr, IfOk, IfSome, IfNone};
+ghost use Rattle.server.specs.Calls.{Found, Missed, Unseen, Opened, FailedOpening, Made, FailedMaking, Removed, IsOpened, IsMade, IsHad, IsKept};
+
+use crate::calls::Calls;
 use crate::ended::Ended;
-use disk::{FileDisk, Tried};
+use crate::reserving::write_zeros;
+use disk::{Disk, Fault, FileDisk, FileFault, Tried};
 use recovery::{OpenFault, Pick, Shape, Store};
 use refusal::Refusal;
-use std::fs::{self, File};
+use std::alloc::Global;
 use std::io;
-use std::rt::Files;
 
-/// A device for a store of this shape. A file that is there is used as it is, a missing one is made.
-pub(crate) fn disk_for<'a, R: Files<File = File>>(
-    rt: &R,
+/// A device for a store of this shape. A file that is there is used as it is, a missing one is made, and written whole where room is to be
+/// reserved.
+pub(crate) fn disk_for<'a, C: Calls>(
+    calls: &mut C,
     path: &'a str,
     shape: Shape,
-) -> Result<FileDisk, Ended<'a>> {
-    if is_there(rt, path)? {
-        return open_file(rt, path);
+    reserve: bool,
+) -> Result<FileDisk, Ended<'a>>
+    ensures had { IsHad path.now (C.made calls.old) (C.made calls.new) }
+    ensures kept { OnOk result (IsKept path.now (C.made calls.old) (C.made calls.new)) }
+    // A store that is there isn't written to here.
+    ensures untouched { IfOk result (λ disk. C.made calls.new ≡ Opened path.now ∷ Found path.now ∷ C.made calls.old
+        → ⟦<FileDisk as Disk>⟧.past disk ≡ []) }
+{
+    match file_there(calls, path)? {
+        Some(disk) => Ok(disk),
+        None => make_for(calls, path, shape, reserve),
     }
+}
+
+/// A device over a file, where that is there.
+pub(crate) fn file_there<'a, C: Calls>(
+    calls: &mut C,
+    path: &'a str,
+) -> Result<Option<FileDisk>, Ended<'a>>
+    ensures there { IfOk result (λ found. IfSome found (λ _. C.made calls.new ≡ Opened path.now ∷ Found path.now ∷ C.made calls.old)) }
+    ensures missing { IfOk result (λ found. IfNone found (C.made calls.new ≡ Missed path.now ∷ C.made calls.old)) }
+    ensures untouched { IfOk result (λ found. IfSome found (λ disk. ⟦<FileDisk as Disk>⟧.past disk ≡ [])) }
+    ensures failed { OnErr result ((C.made calls.new ≡ Unseen path.now ∷ C.made calls.old)
+        ⊎ (C.made calls.new ≡ FailedOpening path.now ∷ Found path.now ∷ C.made calls.old)) }
+{
+    if is_there(calls, path)? {
+        Ok(Some(open_file(calls, path)?))
+    } else {
+        Ok(None)
+    }
+}
+
+/// A device of zeros over a new file, as long as the layout of a store of this shape. Where room is to be reserved for it, the file is written
+/// whole.
+pub(crate) fn make_for<'a, C: Calls>(
+    calls: &mut C,
+    path: &'a str,
+    shape: Shape,
+    reserve: bool,
+) -> Result<FileDisk, Ended<'a>>
+    ensures made { IsMade path.now (C.made calls.old) (C.made calls.new) }
+    ensures kept { OnOk result (C.made calls.new ≡ Made path.now ∷ C.made calls.old) }
+{
     if !shape.is_in_range() {
         return Err(Ended::Refused(Refusal::BadShape, None));
     }
-    make_file(rt, path, shape.device_len())
+    let disk = make_file(calls, path, shape.device_len())?;
+    if reserve {
+        reserved(calls, path, disk)
+    } else {
+        Ok(disk)
+    }
 }
 
-/// Whether a file is there.
-pub(crate) fn is_there<'a, R: Files<File = File>>(
-    rt: &R,
+// A device over a new file, once the disk has room for all of it. Where that fails no file is left.
+fn reserved<'a, C: Calls>(
+    calls: &mut C,
     path: &'a str,
-) -> Result<bool, Ended<'a>> {
-    match fs::exists(rt, path) {
+    disk: FileDisk,
+) -> Result<FileDisk, Ended<'a>>
+    ensures good { OnOk result (C.made calls.new ≡ C.made calls.old) }
+    ensures failed { OnErr result (C.made calls.new ≡ Removed path.now ∷ C.made calls.old) }
+{
+    let mut disk = disk;
+    match write_zeros(&mut disk) {
+        Ok(()) => Ok(disk),
+        Err(Fault) => {
+            calls.remove(path);
+            Err(Ended::over(path, &disk, Refusal::Fault))
+        }
+    }
+}
+
+// Whether a file is there.
+fn is_there<'a, C: Calls>(calls: &mut C, path: &'a str) -> Result<bool, Ended<'a>>
+    ensures there { result ≡ Ok true → C.made calls.new ≡ Found path.now ∷ C.made calls.old }
+    ensures missing { result ≡ Ok false → C.made calls.new ≡ Missed path.now ∷ C.made calls.old }
+    ensures failed { OnErr result (C.made calls.new ≡ Unseen path.now ∷ C.made calls.old) }
+{
+    match calls.is_there(path) {
         Ok(is_there) => Ok(is_there),
         Err(reason) => Err(without(Tried::Opening, path, reason)),
     }
 }
 
 /// A device over a file that is there.
-pub(crate) fn open_file<'a, R: Files<File = File>>(
-    rt: &R,
-    path: &'a str,
-) -> Result<FileDisk, Ended<'a>> {
-    match FileDisk::open(rt, path) {
+pub(crate) fn open_file<'a, C: Calls>(calls: &mut C, path: &'a str) -> Result<FileDisk, Ended<'a>>
+    ensures good { OnOk result (C.made calls.new ≡ Opened path.now ∷ C.made calls.old) }
+    ensures untouched { IfOk result (λ disk. ⟦<FileDisk as Disk>⟧.past disk ≡ []) }
+    ensures failed { OnErr result (C.made calls.new ≡ FailedOpening path.now ∷ C.made calls.old) }
+{
+    match calls.open(path) {
         Ok(disk) => Ok(disk),
-        Err(fault) => Err(without(fault.tried, path, fault.reason)),
+        Err(fault) => Err(failed(path, fault)),
     }
 }
 
 /// A device of so many zeros over a new file.
-pub(crate) fn make_file<'a, R: Files<File = File>>(
-    rt: &R,
+pub(crate) fn make_file<'a, C: Calls>(
+    calls: &mut C,
     path: &'a str,
     len: u64,
-) -> Result<FileDisk, Ended<'a>> {
-    match FileDisk::create(rt, path, len) {
+) -> Result<FileDisk, Ended<'a>>
+    ensures good { OnOk result (C.made calls.new ≡ Made path.now ∷ C.made calls.old) }
+    ensures failed { OnErr result (C.made calls.new ≡ FailedMaking path.now ∷ C.made calls.old) }
+{
+    match calls.make(path, len) {
         Ok(disk) => Ok(disk),
-        Err(fault) => Err(without(fault.tried, path, fault.reason)),
+        Err(fault) => Err(failed(path, fault)),
     }
+}
+
+// A file can't be had, for this fault.
+fn failed(path: &str, fault: FileFault) -> Ended<'_> {
+    without(fault.tried, path, fault.reason)
 }
 
 /// A file can't be had.
@@ -62,13 +140,17 @@ pub(crate) fn without(tried: Tried, path: &str, reason: io::Error) -> Ended<'_> 
 }
 
 /// The store in a file.
-pub(crate) fn open_store<'a, R: Files<File = File> + AllocGlobal>(
-    rt: &R,
+pub(crate) fn open_store<'a, C: Calls>(
+    alloc: Global,
+    calls: &mut C,
     path: &'a str,
     pick: Pick,
-) -> Result<Store<FileDisk>, Ended<'a>> {
-    let disk = open_file(rt, path)?;
-    match Store::open(rt.alloc(), disk, pick) {
+) -> Result<Store<FileDisk>, Ended<'a>>
+    ensures opened { IsOpened path.now (C.made calls.old) (C.made calls.new) }
+    ensures good { OnOk result (C.made calls.new ≡ Opened path.now ∷ C.made calls.old) }
+{
+    let disk = open_file(calls, path)?;
+    match Store::open(alloc, disk, pick) {
         Ok(store) => Ok(store),
         Err(OpenFault { disk, refusal }) => Err(Ended::over(path, &disk, refusal)),
     }

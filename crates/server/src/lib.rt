@@ -4,8 +4,15 @@
 //! line for each document of a state (`specs/Dump.antt`), and `print_answer` the line of what a task on deltas comes to
 //! (`specs/Deltas.antt`). Sessions are served by `serve_streams` and `serve_on` of `server_threads`.
 //!
+//! `info`, `documents` and `check` of `inspection` tell how full a store is, and whether both its readings match; `specs/Checked.antt` has the
+//! line of a store that is sound. While a store is served to those who connect, lines for an operator go to standard error where they are asked
+//! for (`events.rt`); no clause speaks of them. `Patient` is a stream that is written where it has room, so that nobody waits for them.
+//!
+//! Files and addresses are asked for by the calls of `calls.rt` alone, which are noted: `specs/Calls.antt` says which ones a command makes.
+//! `dump_store` gives the device back as it was.
+//!
 //! It stands on `words` for what the words ask for, on `server_threads` for the sessions, on `algebra` for the tasks on deltas and for how a
-//! delta is printed, and on `recovery` and `disk` for the store in a file.
+//! delta is printed, on `recovery` and `disk` for the store in a file, and on `mio` for whether a stream has room.
 //!
 //! A caller, with its contract, which `server_tests` proves as it stands:
 //!
@@ -41,16 +48,24 @@
 //! ```
 #![tactic(auto)]
 
+mod calls;
 mod deltas;
 mod documents;
 mod ended;
+mod events;
 mod files;
+mod inspected;
 pub mod laws;
+mod notes;
+mod patient;
 mod program;
+mod reserving;
 mod standard;
 mod watching;
 
 pub use deltas::print_answer;
-pub use documents::dump;
+pub use documents::{dump, dump_store};
+pub use inspected::Printed;
+pub use patient::Patient;
 pub use program::{run, run_given};
 pub use server_threads::serve_on;

@@ -1,29 +1,34 @@
 //! The program over its words and its standard streams.
-ghost use Rattle.std.specs.Prelude.{◌≤◌};
+ghost use Rattle.std.specs.Prelude.{◌≤◌, OnOk};
+ghost use Rattle.server.specs.Calls.{Asks, Keeps, AreHad, AreKept, IsHad, IsKept, IsOpened, IsServed, ServesBy};
 
+use crate::calls::{Calls, HostCalls};
 use crate::deltas::print_answer;
-use crate::documents::dump;
+use crate::documents::dump_store;
 use crate::ended::{Ended, LISTENING, tell};
-use crate::files::{disk_for, is_there, make_file, open_file, open_store, without};
+use crate::events::{Opened, milliseconds};
+use crate::files::{disk_for, file_there, make_file, make_for, open_file, open_store, without};
+use crate::inspected::{Printed, check_file, tell_of_store};
 use crate::standard::{NULL_DEVICE, Standard};
 use crate::watching::{Alone, Front};
 use clap::error::ErrorKind;
 use disk::{FileDisk, Tried};
-use migration::Old;
+use migration::{Copied, Numbered, Old, has_room_for, shape_of};
 use recovery::{Pick, Shape, Store};
 use refusal::Refusal;
 use server_threads::{serve_on, serve_streams};
 use session::Stream;
+use std::alloc::Global;
 use std::convert::AsStr;
 use std::env::Env;
 use std::fs::File;
-use std::io::{self, Read, Write};
-use std::net::{Net, SocketAddr, TcpListener, TcpStream};
+use std::io::{Read, Write};
+use std::net::{Net, TcpListener, TcpStream};
 use std::rt::Files;
 use std::sync::Wait;
 use std::thread::Threads;
 use std::time::Clock;
-use words::{Invocation, ShapeOptions, given};
+use words::{DeltaCommand, Invocation, Lines, Listening, Making, ShapeOptions, given};
 
 /// Runs the program, and answers its status: 0 for success, 1 for a refusal or a standard stream that failed, 2 for
 /// words that it can't use. The first word is the program's path.
@@ -53,12 +58,14 @@ pub fn run<
     let standard = match Standard::complete(rt) {
         Ok(standard) => standard,
         Err(reason) => {
-            return tell_end(without(Tried::Opening, NULL_DEVICE, reason), errors);
+            let ended = without(Tried::Opening, NULL_DEVICE, reason);
+            return tell_end(ended, output, errors);
         }
     };
-    let status = match invoke(rt, invocation, input, output, errors) {
+    let mut calls = HostCalls::new(rt);
+    let status = match invoke(rt, &mut calls, invocation, input, output, errors) {
         Ok(()) => 0,
-        Err(ended) => tell_end(ended, errors),
+        Err(ended) => tell_end(ended, output, errors),
     };
     drop(standard);
     status
@@ -86,109 +93,231 @@ pub fn run_given<
     }
 }
 
+// Does what the words ask for. It asks the system for those files and that address alone which they name, in this order.
 fn invoke<
     'a,
-    R: Files<File = File>
-        + AllocGlobal
-        + Net<Listener = TcpListener, Stream = TcpStream>
-        + Threads
-        + Wait
-        + Clock
-        + Sync,
+    R: AllocGlobal + Threads + Wait + Clock + Sync,
+    C: Calls,
     I: Read,
     O: Write + Send,
     E: Write + Send,
 >(
     rt: &R,
+    calls: &mut C,
     invocation: Invocation<'a>,
     input: &mut I,
     output: &mut O,
     errors: &mut E,
-) -> Result<(), Ended<'a>> {
+) -> Result<(), Ended<'a>>
+    ensures asks { Asks invocation.entry (C.made calls.old) (C.made calls.new) }
+    ensures keeps { OnOk result (Keeps invocation.entry (C.made calls.old) (C.made calls.new)) }
+{
+    let alloc = rt.alloc();
     match invocation {
-        Invocation::Format { path, shape } => format_file(rt, path, shape_of(shape)),
+        Invocation::Format {
+            path,
+            shape,
+            reserve,
+        } => format_file(
+            alloc,
+            calls,
+            path,
+            with_numbers(shape, Shape::DEFAULT),
+            reserve,
+        ),
         Invocation::Serve {
             path,
-            listen: Some(address),
+            listening,
             every,
+            older,
         } => {
-            let store = open_store(rt, path, Pick::Newer)?;
-            listen(rt, store, path, address, every, output, errors)
+            let pick = pick_of(older);
+            serve(
+                rt, calls, path, listening, every, pick, input, output, errors,
+            )
         }
-        Invocation::Serve {
-            path,
-            listen: None,
-            every,
-        } => {
-            let store = open_store(rt, path, Pick::Newer)?;
-            serve_alone(rt, store, path, every, input, output, errors)
-        }
-        Invocation::Dump { path, older } => {
-            let store = open_store(rt, path, pick_of(older))?;
-            let mut stream = Stream::new(output);
-            Ok(dump(rt.alloc(), store.state(), &mut stream)?)
-        }
-        Invocation::Migrate { old, new } => migrate(rt, old, new),
-        Invocation::Delta(task) => {
-            let mut stream = Stream::new(output);
-            Ok(print_answer(rt.alloc(), task, &mut stream)?)
-        }
+        Invocation::Dump { path, older } => dump_file(alloc, calls, path, older, output),
+        Invocation::Info { path, documents } => tell_of_store(
+            alloc, calls, path, documents, output,
+        ),
+        Invocation::Check { path } => check_file(alloc, calls, path, output),
+        Invocation::Migrate { old, new } => migrate(alloc, calls, old, new),
+        Invocation::Copy { old, new, shape } => copy(alloc, calls, old, new, shape),
+        Invocation::Delta(command) => make_by(alloc, command, input, output),
     }
 }
 
-// Makes a store of this shape in a file.
-fn format_file<'a, R: Files<File = File> + AllocGlobal>(
-    rt: &R,
+// Prints what comes of two deltas, which are words of the command or lines of the input.
+fn make_by<'a, I: Read, O: Write>(
+    alloc: Global,
+    command: DeltaCommand<'a>,
+    input: &mut I,
+    output: &mut O,
+) -> Result<(), Ended<'a>> {
+    let DeltaCommand { making, deltas } = command;
+    match deltas {
+        Some((first, second)) => make(alloc, making, first, second, output),
+        None => make_of_lines(alloc, making, input, output),
+    }
+}
+
+// Prints what comes of the two deltas on the lines of the input.
+fn make_of_lines<'a, I: Read, O: Write>(
+    alloc: Global,
+    making: Making,
+    input: &mut I,
+    output: &mut O,
+) -> Result<(), Ended<'a>> {
+    let lines = Lines::read(alloc, input)?;
+    let (first, second) = lines.both();
+    make(alloc, making, first, second, output)
+}
+
+// Prints what comes of two deltas.
+fn make<'a, O: Write>(
+    alloc: Global,
+    making: Making,
+    first: &str,
+    second: &str,
+    output: &mut O,
+) -> Result<(), Ended<'a>> {
+    let mut stream = Stream::new(output);
+    Ok(print_answer(alloc, making.task(first, second), &mut stream)?)
+}
+
+// Prints the documents of the store in a file.
+fn dump_file<'a, C: Calls, O: Write>(
+    alloc: Global,
+    calls: &mut C,
+    path: &'a str,
+    older: bool,
+    output: &mut O,
+) -> Result<(), Ended<'a>>
+    ensures { IsOpened path.now (C.made calls.old) (C.made calls.new) }
+{
+    let disk = open_file(calls, path)?;
+    let mut stream = Stream::new(output);
+    dump_store(alloc, disk, pick_of(older), &mut stream).ended(path)
+}
+
+// Makes a store of this shape in a file. Where that is made and room is to be reserved, it is written whole before.
+fn format_file<'a, C: Calls>(
+    alloc: Global,
+    calls: &mut C,
     path: &'a str,
     shape: Shape,
-) -> Result<(), Ended<'a>> {
-    let mut disk = disk_for(rt, path, shape)?;
-    match recovery::format_device(rt.alloc(), &mut disk, shape) {
+    reserve: bool,
+) -> Result<(), Ended<'a>>
+    ensures had { IsHad path.now (C.made calls.old) (C.made calls.new) }
+    ensures kept { OnOk result (IsKept path.now (C.made calls.old) (C.made calls.new)) }
+{
+    let mut disk = disk_for(calls, path, shape, reserve)?;
+    match recovery::format_device(alloc, &mut disk, shape) {
         Ok(()) => Ok(()),
         Err(refusal) => Err(Ended::over(path, &disk, refusal)),
     }
 }
 
 // Brings a store over. The new file is made where it is missing, once the old store is read.
-fn migrate<'a, R: Files<File = File> + AllocGlobal>(
-    rt: &R,
+fn migrate<'a, C: Calls>(
+    alloc: Global,
+    calls: &mut C,
     old: &'a str,
     new: &'a str,
-) -> Result<(), Ended<'a>> {
-    let mut from = open_file(rt, old)?;
-    let mut there = None;
-    if is_there(rt, new)? {
-        there = Some(open_file(rt, new)?);
-    }
-    let read = match Old::read(rt.alloc(), &mut from) {
-        Ok(read) => read,
-        Err(refusal) => return Err(Ended::over(old, &from, refusal)),
-    };
-    let mut to = match there {
+) -> Result<(), Ended<'a>>
+    ensures had { AreHad old.now new.now (C.made calls.old) (C.made calls.new) }
+    ensures kept { OnOk result (AreKept old.now new.now (C.made calls.old) (C.made calls.new)) }
+{
+    let mut from = open_file(calls, old)?;
+    let mut to = match file_there(calls, new)? {
         Some(disk) => disk,
-        None => make_file(rt, new, read.device_len())?,
+        None => match Old::read(alloc, &mut from) {
+            Ok(read) => make_file(calls, new, read.device_len())?,
+            Err(refusal) => return Err(Ended::over(old, &from, refusal)),
+        },
     };
-    match read.put_on(rt.alloc(), &mut to) {
+    match migration::migrate(alloc, &mut from, &mut to) {
         Ok(()) => Ok(()),
-        Err(refusal) => Err(Ended::over(new, &to, refusal)),
+        Err(refusal) => Err(Ended::over_two((old, &from), (new, &to), refusal)),
     }
 }
 
-// The numbers that the words leave out have their defaults.
-fn shape_of(given: ShapeOptions) -> Shape {
+// Copies a store. The new file is made where it is missing, once the old store is read.
+fn copy<'a, C: Calls>(
+    alloc: Global,
+    calls: &mut C,
+    old: &'a str,
+    new: &'a str,
+    given: ShapeOptions,
+) -> Result<(), Ended<'a>>
+    ensures had { AreHad old.now new.now (C.made calls.old) (C.made calls.new) }
+    ensures kept { OnOk result (AreKept old.now new.now (C.made calls.old) (C.made calls.new)) }
+{
+    let from = open_file(calls, old)?;
+    let there = file_there(calls, new)?;
+    let Numbered { device, shape } = shape_of(alloc, from);
+    let numbers = match shape {
+        Ok(numbers) => numbers,
+        Err(refusal) => return Err(Ended::over(old, &device, refusal)),
+    };
+    let shape = with_numbers(given, numbers);
+    let mut to = match there {
+        Some(disk) => disk,
+        None if has_room_for(&numbers, &shape) => make_for(calls, new, shape, false)?,
+        None => return Err(Ended::Refused(Refusal::BadShape, None)),
+    };
+    let Copied { old: from, made } = migration::copy(alloc, device, &mut to, shape);
+    match made {
+        Ok(()) => Ok(()),
+        Err(refusal) => Err(Ended::over_two((old, &from), (new, &to), refusal)),
+    }
+}
+
+// The numbers that the words leave out are the other ones.
+fn with_numbers(given: ShapeOptions, others: Shape) -> Shape {
     Shape {
-        slots: given.slots.unwrap_or(Shape::DEFAULT.slots),
-        slot: given.slot.unwrap_or(Shape::DEFAULT.slot),
-        docs: given.docs.unwrap_or(Shape::DEFAULT.docs),
-        cell: given.cell.unwrap_or(Shape::DEFAULT.cell),
-        sources: given.sources.unwrap_or(Shape::DEFAULT.sources),
-        keep: given.keep.unwrap_or(Shape::DEFAULT.keep),
+        slots: given.slots.unwrap_or(others.slots),
+        slot: given.slot.unwrap_or(others.slot),
+        docs: given.docs.unwrap_or(others.docs),
+        cell: given.cell.unwrap_or(others.cell),
+        sources: given.sources.unwrap_or(others.sources),
+        keep: given.keep.unwrap_or(others.keep),
     }
 }
 
 // Which milestone of a document its reading begins with.
 fn pick_of(older: bool) -> Pick {
     if older { Pick::Older } else { Pick::Newer }
+}
+
+// Serves a store: to those who connect to an address where one is given, else to one session over the streams.
+fn serve<
+    'a,
+    R: AllocGlobal + Threads + Wait + Clock + Sync,
+    C: Calls,
+    I: Read,
+    O: Write + Send,
+    E: Write + Send,
+>(
+    rt: &R,
+    calls: &mut C,
+    path: &'a str,
+    listening: Option<Listening<'a>>,
+    every: u32,
+    pick: Pick,
+    input: &mut I,
+    output: &mut O,
+    errors: &mut E,
+) -> Result<(), Ended<'a>>
+    ensures { ServesBy path.now listening.entry (C.made calls.old) (C.made calls.new) }
+{
+    match listening {
+        Some(how) => listen(rt, calls, path, how, every, pick, output, errors),
+        None => {
+            let store = open_store(rt.alloc(), calls, path, pick)?;
+            serve_alone(rt, store, path, every, input, output, errors)
+        }
+    }
 }
 
 // Serves one session over the streams, beside a thread that writes.
@@ -207,52 +336,50 @@ fn serve_alone<'a, R: AllocGlobal + Threads + Wait + Sync, I: Read, O: Write, E:
     Ok(streamed.served?)
 }
 
-// Serves the store to those who connect to the address, and tells where it listens once somebody can be served. It ends where the listener
-// can't work any more. An address that can't be had is a fault.
+// Serves a store to those who connect to an address, and tells where it listens once somebody can be served. It ends where the listener
+// can't work any more, and where that is asked for once the store has failed. An address that can't be had is a fault.
 fn listen<
     'a,
-    R: AllocGlobal
-        + Net<Listener = TcpListener, Stream = TcpStream>
-        + Threads
-        + Wait
-        + Clock
-        + Sync,
+    R: AllocGlobal + Threads + Wait + Clock + Sync,
+    C: Calls,
     O: Write + Send,
     E: Write + Send,
 >(
     rt: &R,
-    store: Store<FileDisk>,
+    calls: &mut C,
     path: &'a str,
-    address: &'a str,
+    how: Listening<'a>,
     every: u32,
+    pick: Pick,
     output: &mut O,
     errors: &mut E,
-) -> Result<(), Ended<'a>> {
-    let (listener, bound) = match bind(rt, address) {
+) -> Result<(), Ended<'a>>
+    ensures { IsServed path.now how.entry.address.now (C.made calls.old) (C.made calls.new) }
+{
+    let before = milliseconds(rt.monotonic());
+    let store = open_store(rt.alloc(), calls, path, pick)?;
+    let took = milliseconds(rt.monotonic()).saturating_sub(before);
+    let (listener, bound) = match calls.listen(how.address) {
         Ok(found) => found,
-        Err(reason) => return Err(Ended::fault(LISTENING, address, reason)),
+        Err(reason) => return Err(Ended::fault(LISTENING, how.address, reason)),
     };
-    let watch = Front::new(rt, path, bound, output, errors);
-    let (_store, served) = serve_on(rt, rt.alloc(), store, &listener, every, &watch);
-    Err(watch.ended(address, served))
+    let opened = Opened::of(&store, took);
+    let watch = Front::new(rt, path, bound, how, opened, output, errors);
+    let (_store, served) = serve_on(rt, rt.alloc(), store, &listener, every, how.idle, &watch);
+    Err(watch.ended(how, served))
 }
 
-fn bind<R: Net<Listener = TcpListener, Stream = TcpStream>>(
-    rt: &R,
-    address: &str,
-) -> io::Result<(TcpListener, SocketAddr)> {
-    let listener = TcpListener::bind(rt, address)?;
-    let bound = listener.local_addr()?;
-    Ok((listener, bound))
-}
-
-fn tell_end<E: Write>(ended: Ended<'_>, errors: &mut E) -> u8
+fn tell_end<O: Write, E: Write>(ended: Ended<'_>, output: &mut O, errors: &mut E) -> u8
     ensures { result ≤ 2 }
 {
-    if let Ended::Refused(refusal, cause) = ended {
-        tell(refusal, cause, errors);
+    match ended {
+        Ended::Refused(refusal, cause) => {
+            tell(refusal, cause, errors);
+            1
+        }
+        Ended::Stream => 1,
+        Ended::Usage(fault) => show_usage(&fault, output, errors),
     }
-    1
 }
 
 fn show_usage<O: Write, E: Write>(fault: &clap::Error, output: &mut O, errors: &mut E) -> u8

@@ -28,9 +28,10 @@ pub fn line_of(alloc: Global, text: &str) -> Result<String, Refusal>
 /// The file that the words name. A command on deltas has none.
 pub fn file_in<'a>(alloc: Global, words: &'a [&'a str]) -> Result<Option<&'a str>, clap::Error> {
     Ok(match Invocation::parse(alloc, words)? {
-        Invocation::Format { path, shape: _ } => Some(path),
+        Invocation::Format { path, .. } => Some(path),
         Invocation::Serve { path, .. } | Invocation::Dump { path, older: _ } => Some(path),
-        Invocation::Migrate { old, new: _ } => Some(old),
+        Invocation::Info { path, documents: _ } | Invocation::Check { path } => Some(path),
+        Invocation::Migrate { old, .. } | Invocation::Copy { old, .. } => Some(old),
         Invocation::Delta(_) => None,
     })
 }

@@ -1,8 +1,10 @@
+mod copying;
 mod deltas;
 mod drawn;
 mod edits;
 mod files;
 mod going_on;
+mod inspecting;
 mod lines;
 mod migrating;
 mod news;

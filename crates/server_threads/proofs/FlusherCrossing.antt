@@ -27,12 +27,13 @@ use Rattle.view.specs.contracts.shown.News as news
 use Rattle.view.specs.contracts.publisher.Stage as stage
 use Rattle.view.specs.contracts.publisher.Publisher as publisher
 use Rattle.view.specs.contracts.publisher.Publisher.TheInside as inside
-use Rattle.view.proofs.CallerLemmas.{name_send, delta_send, document_send, sources_send, state_send, commands_send, shown_send, shown_sync}
+use Rattle.published.proofs.Crossing.{name_send, delta_send, document_send, sources_send, state_send, batch_send, mark_send, ordered_send, told_send}
+use Rattle.view.proofs.CallerLemmas.{commands_send, shown_send, shown_sync}
+use Rattle.hub.proofs.CallerLemmas.{hub_sync}
 use Rattle.flusher.specs.contracts.flusher.Flusher as flusher
 use Rattle.server_threads.specs.contracts.writing.Shared as shared
 use Rattle.server_threads.specs.contracts.writing.Writing as writing
 use Rattle.server_threads.specs.contracts.written.Written as written
-use Rattle.server_threads.proofs.Crossing.{batch_send, mark_send, ordered_send, told_send, hub_sync}
 
 pub cells_send : IsSend cells.the_row
 cells_send = search (sendable, crosses) depth 60 fits 20000

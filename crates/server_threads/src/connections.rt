@@ -35,13 +35,15 @@ const SEATS: u32 = 64;
 /// The parts of the ledger that counts what each seat took: one for each seat, and one that is left.
 const PARTS: u64 = 65;
 
-/// Serves a store to those who connect, 64 at once, until the listener can't work any more; where there are fewer places for readers than
-/// 64, or threads for sessions, as many at once as have one. Then each session ends within its next read, what was ordered is written, and
-/// the store is given back, with the refusal that kept it from serving or that ended the writing: `NoMemory`, also where the system gives no
-/// thread to write in or none for a session, or what failed the board. Milestones of a document are made at multiples of `every` revisions,
-/// as composers come to it; 0 makes none.
+/// Serves a store to those who connect, 64 at once, until the listener can't work any more or the watch doesn't go on; where there are fewer
+/// places for readers than 64, or threads for sessions, as many at once as have one. Then each session ends within 100 milliseconds, what was
+/// ordered is written, and the store is given back, with the refusal that kept it from serving or that ended the writing: `NoMemory`, also
+/// where the system gives no thread to write in or none for a session, or what failed the board. Milestones of a document are made at
+/// multiples of `every` revisions, as composers come to it; 0 makes none. A peer that says no `hello`, or sends no line and follows no
+/// document, for `idle` seconds, is closed, and its place is free; 0 lets each be.
 ///
-/// The watch is told when somebody can be served, why the listener ended, and of a store that fails, when it does.
+/// The watch is told when somebody can be served, what becomes of the connections, why the listener ended, and of a store that fails, when
+/// it does.
 pub fn serve_on<
     R: Threads + Wait + Clock + Sync,
     N: OpenListener<Stream = TcpStream>,
@@ -53,6 +55,7 @@ pub fn serve_on<
     store: Store<D>,
     listener: &N,
     every: u32,
+    idle: u32,
     watch: &W,
 ) -> (Store<D>, Result<(), Refusal>)
     // There is one order, of which the store holds what is written, and all of it after an `Ok`. What the desks answered is kept. No clause
@@ -65,7 +68,9 @@ pub fn serve_on<
         return (store, Err(Refusal::NoMemory));
     };
     let blank = Blank::new(PARTS);
-    serve_run::<Brand, R, N, D, W>(rt, alloc, store, opened, blank, listener, every, watch)
+    serve_run::<Brand, R, N, D, W>(
+        rt, alloc, store, opened, blank, listener, every, idle, watch,
+    )
 }
 
 // Serves the run that its ledger, its logs and its store's state name.
@@ -83,6 +88,7 @@ fn serve_run<
     blank: Blank,
     listener: &N,
     every: u32,
+    idle: u32,
     watch: &W,
 ) -> (Store<D>, Result<(), Refusal>)
     requires book { opened ≡ J.book }
@@ -94,7 +100,7 @@ fn serve_run<
     ensures fails { has_failed store ≡ false → (has_failed result.0 ≡ true ↔ IsErrOf result.1 Refusal.Fault) }
 {
     match begin::<J, R, D>(rt, alloc, store, opened, blank, SEATS) {
-        Ok((hub, server)) => serve_from(rt, alloc, hub, server, listener, every, watch),
+        Ok((hub, server)) => serve_from(rt, alloc, hub, server, listener, every, idle, watch),
         Err((store, refusal)) => (store, Err(refusal)),
     }
 }
@@ -113,6 +119,7 @@ fn serve_from<
     server: Server<D, J>,
     listener: &N,
     every: u32,
+    idle: u32,
     watch: &W,
 ) -> (Store<D>, Result<(), Refusal>)
     requires store { server.held.value ≡ store_of server.flusher }
@@ -123,7 +130,7 @@ fn serve_from<
     ensures served { WasServed (EachHasServed J.start) (is_ok result.1) (store_of server.flusher) result.0 }
     ensures fails { has_failed (store_of server.flusher) ≡ false → (has_failed result.0 ≡ true ↔ IsErrOf result.1 Refusal.Fault) }
 {
-    match hold_at(rt, alloc, &hub, server, listener, every, watch) {
+    match hold_at(rt, alloc, &hub, server, listener, every, idle, watch) {
         Ok((past, served)) => {
             let (store, written) = end(rt, hub, past);
             (store, first_failure(written, served))
@@ -147,6 +154,7 @@ fn hold_at<
     server: Server<D, J>,
     listener: &N,
     every: u32,
+    idle: u32,
     watch: &W,
 ) -> Result<(Past<D, J>, Result<(), Refusal>), Flusher<D, J>>
     requires store { server.held.value ≡ store_of server.flusher }
@@ -168,7 +176,15 @@ fn hold_at<
         tally,
     } = server;
     let mut tally = tally;
-    let Ok(desks) = desks_at(rt, alloc, &flusher, hub, seats, &mut tally) else {
+    let Ok(desks) = desks_at(
+        rt,
+        alloc,
+        &flusher,
+        hub,
+        watch.counters(),
+        seats,
+        &mut tally,
+    ) else {
         return Err(flusher);
     };
     let shared = Shared {
@@ -192,7 +208,7 @@ fn hold_at<
             ensures served { EachHasServed J.start result.1.items }
             ensures only { IsOkUnless result.0 Refusal.NoMemory }
             ensures as_many { length result.1.items ≡ length desks.entry.items }
-        { serve_all(rt, alloc, desks, listener, watch) },
+        { serve_all(rt, alloc, desks, listener, idle, watch) },
     ) {
         Ok(
             Both {
@@ -231,6 +247,7 @@ fn serve_all<
     alloc: Global,
     desks: Vec<HubDesk<'a, D, J, R>>,
     listener: &N,
+    idle: u32,
     watch: &W,
 ) -> (Result<(), Refusal>, Vec<HubDesk<'a, D, J, R>>)
     requires first { All (λ desk. desk ≡ first_desk) desks.items }
@@ -239,7 +256,7 @@ fn serve_all<
     ensures as_many { length result.1.items ≡ length desks.entry.items }
 {
     let seated: Seated<'_, D, W> = Seated::new(watch, SEATS as usize);
-    match serve_desks(rt, alloc, desks, listener, &seated) {
+    match serve_desks(rt, alloc, desks, listener, idle, &seated) {
         Ok(desks) => (seated.served(), desks),
         Err(failed) => (Err(Refusal::NoMemory), failed.value),
     }

@@ -7,7 +7,7 @@ ghost use Rattle.server_threads.specs.Answers.{first_desk};
 use disk::Disk;
 use flusher::Flusher;
 use hub::{Board, Hub, Seat, Tally};
-use hub_desk::HubDesk;
+use hub_desk::{Counters, HubDesk};
 use published::Site;
 use refusal::Refusal;
 use std::alloc::Global;
@@ -34,12 +34,13 @@ pub(crate) fn seats_of<J: Site, D>(
     Ok(seats)
 }
 
-/// A desk for each seat for which there is a viewer, and the others tallied. Refused where there is no memory, or no viewer at all.
+/// A desk for each seat for which there is a viewer, with these counters, and the others tallied. Refused where there is no memory, or no viewer at all.
 pub(crate) fn desks_at<'a, J: Site, R: Wait, D: Disk + Drop>(
     rt: &'a R,
     alloc: Global,
     flusher: &Flusher<D, J>,
     hub: &'a Hub<D, J>,
+    counters: Option<&'a Counters>,
     seats: Vec<Seat<J>>,
     tally: &mut Tally<J>,
 ) -> Result<Vec<HubDesk<'a, D, J, R>>, Refusal>
@@ -54,7 +55,7 @@ pub(crate) fn desks_at<'a, J: Site, R: Wait, D: Disk + Drop>(
     let mut desks = Vec::new(alloc);
     for seat in seats {
         match flusher.viewer() {
-            Some(viewer) => desks.push(HubDesk::new(rt, hub, seat, viewer))?,
+            Some(viewer) => desks.push(HubDesk::new(rt, hub, seat, viewer, counters))?,
             None => tally.add(seat),
         }
     }

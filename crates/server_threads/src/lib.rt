@@ -16,7 +16,8 @@
 //! nobody is, and the store comes back unchanged.
 //!
 //! `serve_on` holds sessions over the connections of a listener, by `serve_desks` of `sockets`, and `serve_streams` one over a pair of streams,
-//! by `serve_session` of `serving`. A `Watch` is told when somebody can be served, and of a store that fails, when it does. Of streams
+//! by `serve_session` of `serving`. A `Watch` is told when somebody can be served, what becomes of connections, and of a store that fails,
+//! when it does; it may end the serving. Of streams
 //! `specs/Streams.antt` says what was written. Of sockets nothing can be said: so the desks of `serve_on` are some desks; that they are those
 //! of its sessions is in `serve_all` and `hold_at`, and no clause says it, nor which bytes went through which of them.
 //!
@@ -51,7 +52,7 @@
 //! >(rt: &R, alloc: Global, store: Store<D>, listener: &N, watch: &W) -> Result<Store<D>, Refusal>
 //!     ensures { IfOk result (λ after. WasServed (EachHasServed (state_of store)) true store after) }
 //! {
-//!     let (after, served) = serve_on(rt, alloc, store, listener, 256, watch);
+//!     let (after, served) = serve_on(rt, alloc, store, listener, 256, 0, watch);
 //!     served?;
 //!     Ok(after)
 //! }
@@ -84,6 +85,7 @@ mod beside;
 mod connections;
 mod desks;
 mod life;
+mod moments;
 mod seated;
 mod streams;
 mod watch;
@@ -91,5 +93,8 @@ mod writing;
 mod written;
 
 pub use connections::serve_on;
+pub use flusher::Moment;
+pub use hub_desk::Counters;
+pub use sockets::Peers;
 pub use streams::{Streamed, serve_streams};
 pub use watch::Watch;

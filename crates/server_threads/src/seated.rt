@@ -3,7 +3,7 @@ ghost use Rattle.std.specs.Prelude.{IsOkUnless};
 
 use crate::watch::Watch;
 use refusal::Refusal;
-use sockets::ListenerWatch;
+use sockets::{ListenerWatch, Peers};
 use std::io;
 use std::marker::PhantomData;
 use std::sync::atomic::{AtomicBool, Ordering};
@@ -46,6 +46,10 @@ impl<D, W: Watch<D>> ListenerWatch for Seated<'_, D, W> {
             return false;
         }
         self.watch.begun(desks, self.seats)
+    }
+
+    fn goes_on(&self, peers: Peers) -> bool {
+        self.watch.goes_on(peers)
     }
 
     fn failed(&self, reason: io::Error) {

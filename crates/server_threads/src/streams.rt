@@ -213,7 +213,15 @@ fn hold_at<
         return Err((flusher, streams));
     };
     let mut tally = tally;
-    let Ok(desks) = desks_at(rt, alloc, &flusher, hub, seats, &mut tally) else {
+    let Ok(desks) = desks_at(
+        rt,
+        alloc,
+        &flusher,
+        hub,
+        watch.counters(),
+        seats,
+        &mut tally,
+    ) else {
         return Err((flusher, streams));
     };
     let shared = Shared {

@@ -5,10 +5,11 @@ ghost use Rattle.flusher.specs.Holding.{store_of, committed_of, waiting_of};
 ghost use Rattle.turns.specs.Writing.{Writes};
 ghost use Rattle.server_threads.specs.Written.{HasWritten};
 
+use crate::moments::Moments;
 use crate::watch::Watch;
 use crate::written::Written;
 use disk::Disk;
-use flusher::{Flusher, OpenGate};
+use flusher::Flusher;
 use hub::{Hub, Writer};
 use published::Site;
 use refusal::Refusal;
@@ -139,6 +140,7 @@ fn write_all<J: Site, R: Wait, D: Disk, W: Watch<D>>(
     ensures fails { has_failed (store_of flusher.old) ≡ false
         → (has_failed (store_of flusher.new) ≡ true ↔ IsErrOf result Refusal.Fault) }
 {
+    let mut moments: Moments<'_, D, W> = Moments::new(shared.watch);
     match flush_all(
         shared.rt,
         shared.alloc,
@@ -147,7 +149,7 @@ fn write_all<J: Site, R: Wait, D: Disk, W: Watch<D>>(
         writer,
         shared.every,
         composers,
-        &mut OpenGate,
+        &mut moments,
     ) {
         Ok(_idle) => Ok(()),
         Err(failed) => {

@@ -46,7 +46,7 @@ pub fn serve_in_turn<
 {
     let mut desks = Vec::new(alloc);
     desks.push(desk)?;
-    Ok(serve_desks(rt, alloc, desks, listener, watch)?)
+    Ok(serve_desks(rt, alloc, desks, listener, 0, watch)?)
 }
 
 /// Serves a store until the listener fails, with milestones at about every 256 revisions, and gives it back where all that was
@@ -59,7 +59,7 @@ pub fn serve_store<
 >(rt: &R, alloc: Global, store: Store<D>, listener: &N, watch: &W) -> Result<Store<D>, Refusal>
     ensures { IfOk result (λ after. WasServed (EachHasServed (state_of store)) true store after) }
 {
-    let (after, served) = serve_on(rt, alloc, store, listener, 256, watch);
+    let (after, served) = serve_on(rt, alloc, store, listener, 256, 0, watch);
     served?;
     Ok(after)
 }

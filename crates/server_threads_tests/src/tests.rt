@@ -1,6 +1,9 @@
 mod apart;
 mod edits;
+mod ending;
 mod faults;
+mod idle;
+mod kept;
 mod listening;
 mod many;
 mod places;
@@ -8,11 +11,13 @@ mod streams;
 mod watched;
 
 use disk::{Disk, MemDisk};
+use kept::Kept;
 use recovery::{Pick, Shape, Store, format_device};
 use refusal::Refusal;
 use server_threads::serve_on;
 use std::io::{self, ErrorKind, Read, Write};
 use std::net::{Net, OpenListener, SocketAddr, TcpListener, TcpStream};
+use std::os::fd::OwnedFd;
 use std::process::Abort;
 use std::sync::Wait;
 use std::sync::atomic::{AtomicBool, AtomicUsize, Ordering};
@@ -157,11 +162,51 @@ fn served_behind<
             clients(address);
             over.store(true, Ordering::SeqCst);
         },
-        || serve_on(rt, rt.alloc(), store, &until, every, &seen),
+        || serve_on(rt, rt.alloc(), store, &until, every, 0, &seen),
     );
     assert_eq!(rt; seen.begins(), 1);
     assert_eq!(rt; seen.ended_by(), last);
     assert_eq!(rt; seen.failures(), if ended.1.is_err() { 1 } else { 0 });
+    ended
+}
+
+/// A listener whose waiting is limited to 100 milliseconds, as a stream's would be.
+fn limited_listener<R: Abort + Net<Listener = TcpListener, Stream = TcpStream>>(
+    rt: &R,
+) -> TcpListener {
+    let listener = TcpListener::bind(rt, "127.0.0.1:0").expect(rt, "a listener");
+    let stream = TcpStream::from(OwnedFd::from(listener));
+    stream
+        .set_read_timeout(Some(Duration::from_millis(100)))
+        .expect(rt, "a limit");
+    TcpListener::from(OwnedFd::from(stream))
+}
+
+/// Serves a store while `clients` runs with the address, to peers that may be idle for so many seconds, until the watch doesn't go on: once
+/// `clients` is back at the latest.
+fn served_kept<
+    R: Threads
+        + Wait
+        + Abort
+        + Clock
+        + AllocGlobal
+        + Net<Listener = TcpListener, Stream = TcpStream>
+        + Sync,
+    D: Disk + Send + Drop,
+    F: FnOnce(SocketAddr) + Send,
+>(rt: &R, store: Store<D>, idle: u32, kept: &Kept, clients: F) -> (Store<D>, Result<(), Refusal>)
+    requires { F.IsAlwaysCallable clients }
+{
+    let listener = limited_listener(rt);
+    let address = listener.local_addr().expect(rt, "an address");
+    let (_, ended) = thread::join(
+        rt,
+        || {
+            clients(address);
+            kept.end();
+        },
+        || serve_on(rt, rt.alloc(), store, &listener, EVERY, idle, kept),
+    );
     ended
 }
 
@@ -210,6 +255,13 @@ fn send(rt: &impl Abort, stream: &TcpStream, line: &str) {
     let mut output = stream;
     output.write_all(line.as_bytes()).expect(rt, "a write");
     output.write_all(b"\n").expect(rt, "a write");
+}
+
+/// The stream ends, without a byte before.
+fn is_closed(rt: &impl Abort, stream: &TcpStream) {
+    let mut byte = [0];
+    let mut input = stream;
+    assert_eq!(rt; input.read(&mut byte).expect(rt, "a read"), 0);
 }
 
 /// Sends a line, and this one comes.

@@ -1,6 +1,6 @@
 -- Lines that were sent ahead.
-use Rattle.std.proofs.Common.{◌≡◌, ◌++◌, List, ℕ, [], ◌∷◌, Option, Some, None, Result, Ok, IfSome, true, refl, sym, ap, subst, ◌∙◌, inl, append_assoc, append-nil, take, drop, set, get_or, length, ◌<◌, ◌+◌, zero, suc, arith}
-use Rattle.std.proofs.lemmas.List.{map-append, take_more, take_more_set, take-append-drop}
+use Rattle.std.proofs.Common.{◌≡◌, ◌++◌, List, ℕ, [], ◌∷◌, Option, Some, None, Result, Ok, IfSome, true, refl, sym, ap, subst, ◌∙◌, inl, append_assoc, append-nil, take, set, get_or, length, ◌<◌, ◌+◌, zero, suc, arith}
+use Rattle.std.proofs.lemmas.List.{map-append, take_more_set}
 use Rattle.std.proofs.Math.Seq.{map-set_same}
 use Rattle.std.specs.Io.KnownBytes.{Appends}
 use Rattle.refusal.specs.declared.Refusal.{Refusal}
@@ -19,7 +19,7 @@ use Rattle.session.specs.Replies.{answer_line, IsLine, Asked, TakesByte, LineEnd
 use Rattle.session.specs.Ahead.{command_of, commands_of, exchange_of, exchanges_of, AreReplies, IsSentAhead, Settles, Ahead}
 use Rattle.session.proofs.Feeding.{replies-joined, asks-joined, feeds-joined, feeds-nothing}
 use Rattle.session.proofs.Replying.{due_ok, some_line, pair, one_byte, goes_on_through}
-use Rattle.session.proofs.Writes.{appends-both, front-behind, front-longer}
+use Rattle.session.proofs.Writes.{front-longer}
 
 -- nothing was sent ahead
 none_sent : (s : Session) → IsSentAhead s [] [] s
@@ -94,54 +94,12 @@ all_answered : (sent : List Sent) → AreAnswered (exchanges_of sent)
 all_answered [] = tt
 all_answered (one ∷ others) = all_answered others
 
--- as commands that are replied
-pub due_replies : (sent : List Sent) → (text : List ℕ) × AreReplies sent text
-due_replies [] = ([], refl)
-due_replies (one ∷ others) =
-    let r = due_replies others in
-    (answer_line one.command one.answer ++ r.0, (answer_line one.command one.answer, r.0, inl refl, r.1, refl))
-
 -- one more is replied
 pub replies_more : (front : List Sent) (last : Sent) (text line : List ℕ) → AreReplies front text → IsLine (answer_line last.command last.answer) line
     → AreReplies (front ++ last ∷ []) (text ++ line)
 replies_more [] last text line none is = (line, [], is, refl, ap (λ (l : List ℕ). l ++ line) none ∙ sym (append-nil line))
 replies_more (one ∷ others) last text line (first, back, is, rest, whole) reply =
     (first, back ++ line, is, replies_more others last back line rest reply, ap (λ (l : List ℕ). l ++ line) whole ∙ append_assoc first back line)
-
--- and all behind it
-pub replies_behind : (front back : List Sent) (t u : List ℕ) → AreReplies front t → AreReplies back u → AreReplies (front ++ back) (t ++ u)
-replies_behind [] back t u none second = subst (λ (l : List ℕ). AreReplies back (l ++ u)) (sym none) second
-replies_behind (one ∷ others) back t u (first, rest, is, more, whole) second =
-    (first, rest ++ u, is, replies_behind others back rest u more second, ap (λ (l : List ℕ). l ++ u) whole ∙ append_assoc first rest u)
-
--- one more is replied, and of the text some more is written
-pub replied_more : (sent : List Sent) (i : ℕ) (one : Sent) (lines done text bytes text' moved : List ℕ) (a b c : Option (List ℕ)) → i < length sent → one ≡ get_or sent i one
-    → AreReplies (take i sent) lines → lines ≡ done ++ text → Appends a b done → IsLine (answer_line one.command one.answer) bytes
-    → text ++ bytes ≡ moved ++ text' → Appends b c moved
-    → (lines' : List ℕ) × (done' : List ℕ) × AreReplies (take (i + 1) sent) lines' × (lines' ≡ done' ++ text') × Appends a c done'
-replied_more sent i one lines done text bytes text' moved a b c within at tell whole written line rest more = (
-  lines ++ bytes,
-  done ++ moved,
-  subst (λ (l : List Sent). AreReplies l (lines ++ bytes)) (sym (take_more sent i one within ∙ ap (λ (s : Sent). take i sent ++ s ∷ []) (sym at)))
-      (replies_more (take i sent) one lines bytes tell line),
-  ap (λ (l : List ℕ). l ++ bytes) whole ∙ append_assoc done text bytes ∙ ap (λ (l : List ℕ). done ++ l) rest ∙ sym (append_assoc done moved text'),
-  appends-both a b c done moved written more,
-)
-
--- or a write fails: what is due of the others was not written
-pub replied_front : (sent : List Sent) (i : ℕ) (one : Sent) (lines done text bytes : List ℕ) (a b c : Option (List ℕ)) → i < length sent → one ≡ get_or sent i one
-    → AreReplies (take i sent) lines → lines ≡ done ++ text → Appends a b done → IsLine (answer_line one.command one.answer) bytes
-    → AppendsFront b c (text ++ bytes) → (due : List ℕ) × AreReplies sent due × AppendsFront a c due
-replied_front sent i one lines done text bytes a b c within at tell whole written line front =
-    let others = due_replies (drop (i + 1) sent) in
-    let all : (take i sent ++ one ∷ []) ++ drop (i + 1) sent ≡ sent =
-    ap (λ (l : List Sent). l ++ drop (i + 1) sent) (ap (λ (s : Sent). take i sent ++ s ∷ []) at ∙ sym (take_more sent i one within)) ∙ take-append-drop (i + 1) sent in
-    let text_is : done ++ (text ++ bytes) ≡ lines ++ bytes = sym (append_assoc done text bytes) ∙ ap (λ (l : List ℕ). l ++ bytes) (sym whole) in (
-      (lines ++ bytes) ++ others.0,
-      subst (λ (l : List Sent). AreReplies l ((lines ++ bytes) ++ others.0)) all
-          (replies_behind (take i sent ++ one ∷ []) (drop (i + 1) sent) (lines ++ bytes) others.0 (replies_more (take i sent) one lines bytes tell line) others.1),
-      front-longer a c (lines ++ bytes) others.0 (subst (AppendsFront a c) text_is (front-behind a b c done (text ++ bytes) written front)),
-    )
 
 -- what stands at a place, whatever stands for it beyond the end
 same_item : (sent : List Sent) (i : ℕ) (x y : Sent) → i < length sent → get_or sent i x ≡ get_or sent i y

@@ -5,6 +5,7 @@ pub mod Reply
 pub mod Reads
 pub mod Exchange
 pub mod Output
+pub mod Page
 pub mod OutputView
 pub mod Subscriptions
 pub mod News

@@ -1,2 +1,6 @@
 -- What stands in memory as what it stands for: for a reader of a body, beside the definitions of the subject.
+pub mod Changes
+pub mod DueText
 pub mod MessageView
+pub mod Printing
+pub mod Tokened

@@ -10,8 +10,14 @@
 //! news in `specs/Calls.antt`, and both over a state alone, as functions of the input, in `specs/Alone.antt`. What a line's text
 //! and its end are, that pieces don't matter, and that each revision is told at most once, is in `laws`.
 //!
+//! A reply and news are printed while they are written, on a page of fixed size (`PAGE`, `specs/Page.antt`) and after the desk has shown
+//! its state: until then they are held as what they print, deltas and documents that are shared with the state (`due`). Memory is taken
+//! for the list of these alone, so `NoMemory` is the whole reply or nothing of it.
+//!
 //! It writes to an `Output`, which takes nothing more once a write has failed (`Stream` makes one of a writer). A write that
 //! fails ends the session, and nothing else does; what was written then is a prefix of what was due.
+//!
+//! An edit is read from the tokens of its line where they are plain (`tokened`), and any other line from its value.
 //!
 //! It stands on `optext` for the operations of a message, and on `revision` for commands and states. The desk that the
 //! program has is one at a hub (`hub_desk`).
@@ -46,24 +52,31 @@
 #![tactic(auto)]
 
 mod desk;
+mod due;
 pub mod laws;
 mod line;
 mod message;
 mod news;
 mod output;
+mod page;
+mod printing;
 mod question;
+mod quoting;
 mod reads;
 mod reply;
 mod request;
 mod sent;
 mod session;
 mod shelf;
+mod spelling;
 mod state_desk;
 mod subscriptions;
+mod tokened;
 
 pub use desk::Desk;
 pub use line::text_length;
 pub use output::{Output, Stream, WriteFailed};
+pub use page::PAGE;
 pub use reply::Reply;
 pub use sent::Sent;
 pub use session::{Session, SessionEnded};

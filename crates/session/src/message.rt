@@ -10,7 +10,7 @@ use optext::member_count;
 use serde_json::Value;
 
 /// The last number of a command, and the last revision: 2^53 - 1.
-const MAX_NUMBER: u64 = (1 << 53) - 1;
+pub(crate) const MAX_NUMBER: u64 = (1 << 53) - 1;
 
 /// A message, with its parts as they stand in the line.
 #[derive(Clone, Copy)]

@@ -1,33 +1,34 @@
 //! What is told of the documents that a session follows.
-ghost use Rattle.std.specs.Prelude.{◌≡◌, ◌+◌, ◌<◌, ◌^◌, ◌++◌, Some, None, Ok, true, length, IfOk, IfSome, OnOk, OnErr};
-ghost use Rattle.std.specs.String.{string_bytes};
+ghost use Rattle.std.specs.Prelude.{◌≡◌, ◌++◌, flat_map, Some, None, Ok, true, IfOk, IfSome, OnOk, OnErr};
 ghost use Rattle.revision.specs.Pending.{record_of};
 ghost use Rattle.revision.specs.State.{find};
 ghost use Rattle.session.specs.News as spec;
+ghost use Rattle.session.specs.steps.DueText.{due_text};
 
-use crate::reply::{ended_line, news_line};
+use crate::due::Due;
+use crate::reply::{ended_line, news_lines};
 use crate::subscriptions::Subscriptions;
-use delta::Delta;
 use revision::{DocState, Name, State};
 use std::alloc::{AllocError, Global};
 
-/// The lines that are told, and for each subscription in order the revision that is told last then, none where it ends.
+/// The lines that are told of each document in turn, and for each subscription in order the revision that is told last then, none
+/// where it ends.
 #[derive(Drop)]
 pub struct News {
-    pub text: String,
+    pub lines: Vec<Due>,
     pub last: Vec<Option<u64>>,
 }
 
 impl News {
-    /// The news of a state, if there are any: where there are none it takes no memory. Each revision that is told is printed from
-    /// its delta as it is held; no document is looked at.
+    /// The news of a state, if there are any: where there are none it takes no memory. The deltas of the revisions that are told are
+    /// held, and printed when they are written; no document is looked at.
     pub fn of(
         alloc: Global,
         subscriptions: &Subscriptions,
         state: &State,
     ) -> Result<Option<News>, AllocError>
         ensures found { IfOk result (λ found. IfSome found (λ news.
-            spec.AreNews subscriptions.now (Some state.now) (string_bytes news.text) news.last.items)) }
+            spec.AreNews subscriptions.now (Some state.now) (flat_map due_text news.lines.items) news.last.items)) }
         ensures none { result ≡ Ok None → spec.AreNone subscriptions.now (Some state.now) }
         ensures wanted { OnErr result (spec.has_news subscriptions.now state.now ≡ true) }
     {
@@ -44,16 +45,16 @@ impl News {
         state: &State,
     ) -> Result<News, AllocError>
         ensures { IfOk result (λ news.
-            spec.AreNews subscriptions.now (Some state.now) (string_bytes news.text) news.last.items) }
+            spec.AreNews subscriptions.now (Some state.now) (flat_map due_text news.lines.items) news.last.items) }
     {
         let entries = subscriptions.entries();
-        let mut text = String::new(alloc);
+        let mut lines = Vec::new(alloc);
         let mut last = Vec::with_capacity(alloc, entries.len())?;
         for entry in entries {
-            let next = tell(alloc, state, &entry.0, entry.1, &mut text)?;
+            let next = tell(alloc, state, &entry.0, entry.1, &mut lines)?;
             last.push(next)?;
         }
-        Ok(News { text, last })
+        Ok(News { lines, last })
     }
 }
 
@@ -84,14 +85,14 @@ fn tell(
     state: &State,
     name: &Name,
     last: u64,
-    text: &mut String,
+    lines: &mut Vec<Due>,
 ) -> Result<Option<u64>, AllocError>
-    ensures text { OnOk result (string_bytes text.new ≡ string_bytes text.old
+    ensures lines { OnOk result (flat_map due_text lines.new.items ≡ flat_map due_text lines.old.items
         ++ spec.lines_in state.now name.now last) }
     ensures last { IfOk result (λ told. told ≡ spec.last_in state.now name.now last) }
 {
     match state.find(name) {
-        Some((_, found)) => tell_of(alloc, name, found, last, text),
+        Some((_, found)) => tell_of(alloc, name, found, last, lines),
         None => Ok(Some(last)),
     }
 }
@@ -101,40 +102,27 @@ fn tell_of(
     name: &Name,
     found: &DocState,
     last: u64,
-    text: &mut String,
+    lines: &mut Vec<Due>,
 ) -> Result<Option<u64>, AllocError>
-    ensures text { OnOk result (string_bytes text.new ≡ string_bytes text.old
+    ensures lines { OnOk result (flat_map due_text lines.new.items ≡ flat_map due_text lines.old.items
         ++ spec.lines_after name.now last (record_of found.now).past) }
     ensures last { IfOk result (λ told. told ≡ spec.last_after last (record_of found.now).past) }
 {
     if last < found.floor() {
-        let line = ended_line(alloc, name)?;
-        text.push_str(line.as_str())?;
+        push_due(lines, ended_line(alloc, name)?)?;
         return Ok(None);
     }
     let newest = found.revision();
     if last >= newest {
         return Ok(Some(last));
     }
-    tell_deltas(alloc, name, last, found.since(last), text)?;
+    push_due(lines, news_lines(alloc, name, last, found.since(last))?)?;
     Ok(Some(newest))
 }
 
-fn tell_deltas(
-    alloc: Global,
-    name: &Name,
-    last: u64,
-    deltas: &[Delta],
-    text: &mut String,
-) -> Result<(), AllocError>
-    requires { last + length deltas.now < 2 ^ 53 }
-    ensures { OnOk result (string_bytes text.new ≡ string_bytes text.old ++ spec.lines_of name.now last deltas.now) }
+fn push_due(lines: &mut Vec<Due>, due: Due) -> Result<(), AllocError>
+    ensures { OnOk result (flat_map due_text lines.new.items ≡ flat_map due_text lines.old.items ++ due_text due) }
 {
-    let mut revision = last;
-    for delta in deltas {
-        revision += 1;
-        let line = news_line(alloc, name, revision, delta)?;
-        text.push_str(line.as_str())?;
-    }
+    lines.push(due)?;
     Ok(())
 }

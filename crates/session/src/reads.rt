@@ -2,13 +2,14 @@
 ghost use Rattle.std.specs.Prelude.{◌≡◌, ◌≢◌, Some, IfOk};
 ghost use Rattle.revision.specs.Readings.{at_revision};
 ghost use Rattle.session.specs.Subscriptions.{may_follow};
-ghost use Rattle.std.specs.String.{string_bytes};
 ghost use Rattle.revision.specs.Pending.{record_of};
 ghost use Rattle.session.specs.declared.question.Question.TheVariants.{Newest, At, Since};
 ghost use Rattle.session.specs.Reads.{told, line_told, read_line};
 ghost use Rattle.session.specs.Reply.{refusal_line};
 ghost use Rattle.session.specs.Shelf.{Fits, IsGivenLook};
+ghost use Rattle.session.specs.steps.DueText.{due_text};
 
+use crate::due::Due;
 use crate::question::Question;
 use crate::reply::{document_reply, refusal_reply, since_reply};
 use crate::shelf::{Look, Shelf};
@@ -19,14 +20,14 @@ use std::alloc::{AllocError, Global};
 /// The reply to a question of a document, and the look at the shelf that is to be noted, if there was one.
 #[derive(Drop)]
 pub struct Told {
-    pub reply: Result<String, AllocError>,
+    pub reply: Result<Due, AllocError>,
     pub look: Option<Look>,
 }
 
-/// What is told to a question of a document. Of the newest revision no copy is made, and of deltas none either.
+/// What is told to a question of a document, before it is printed. No text of a document or of a shared delta is copied.
 pub fn read(alloc: Global, state: &State, shelf: &Shelf, name: &Name, question: Question) -> Told
     ensures reply { Fits state.now shelf.now
-        → IfOk result.reply (λ text. string_bytes text ≡ read_line name.now question state.now) }
+        → IfOk result.reply (λ due. due_text due ≡ read_line name.now question state.now) }
     ensures look { IsGivenLook state.now result.look }
 {
     match question {
@@ -42,8 +43,8 @@ pub fn read(alloc: Global, state: &State, shelf: &Shelf, name: &Name, question: 
     }
 }
 
-fn read_newest(alloc: Global, state: &State, name: &Name) -> Result<String, AllocError>
-    ensures { IfOk result (λ text. string_bytes text ≡ read_line name.now Newest state.now) }
+fn read_newest(alloc: Global, state: &State, name: &Name) -> Result<Due, AllocError>
+    ensures { IfOk result (λ due. due_text due ≡ read_line name.now Newest state.now) }
 {
     match state.find(name) {
         Some((_, found)) => newest_of(alloc, name, found),
@@ -51,8 +52,8 @@ fn read_newest(alloc: Global, state: &State, name: &Name) -> Result<String, Allo
     }
 }
 
-fn newest_of(alloc: Global, name: &Name, found: &DocState) -> Result<String, AllocError>
-    ensures { IfOk result (λ text. string_bytes text
+fn newest_of(alloc: Global, name: &Name, found: &DocState) -> Result<Due, AllocError>
+    ensures { IfOk result (λ due. due_text due
         ≡ line_told (told name.now Newest (Some (0, record_of found.now)))) }
 {
     if found.is_live() {
@@ -63,7 +64,7 @@ fn newest_of(alloc: Global, name: &Name, found: &DocState) -> Result<String, All
 
 fn read_at(alloc: Global, state: &State, shelf: &Shelf, name: &Name, rev: u64) -> Told
     ensures reply { Fits state.now shelf.now
-        → IfOk result.reply (λ text. string_bytes text ≡ read_line name.now (At rev) state.now) }
+        → IfOk result.reply (λ due. due_text due ≡ read_line name.now (At rev) state.now) }
     ensures look { IsGivenLook state.now result.look }
 {
     match shelf.show(
@@ -82,8 +83,8 @@ fn read_at(alloc: Global, state: &State, shelf: &Shelf, name: &Name, rev: u64) -
 }
 
 // The reply where a document isn't shown: none where memory ran out, else the refusal.
-fn reply_of_unshown(alloc: Global, refusal: Refusal) -> Result<String, AllocError>
-    ensures { IfOk result (λ text. (refusal ≢ Refusal.NoMemory) × (string_bytes text ≡ refusal_line refusal)) }
+fn reply_of_unshown(alloc: Global, refusal: Refusal) -> Result<Due, AllocError>
+    ensures { IfOk result (λ due. (refusal ≢ Refusal.NoMemory) × (due_text due ≡ refusal_line refusal)) }
 {
     if refusal == Refusal::NoMemory {
         return Err(AllocError);
@@ -91,8 +92,8 @@ fn reply_of_unshown(alloc: Global, refusal: Refusal) -> Result<String, AllocErro
     refusal_reply(alloc, refusal)
 }
 
-fn read_since(alloc: Global, state: &State, name: &Name, rev: u64) -> Result<String, AllocError>
-    ensures { IfOk result (λ text. string_bytes text ≡ read_line name.now (Since rev) state.now) }
+fn read_since(alloc: Global, state: &State, name: &Name, rev: u64) -> Result<Due, AllocError>
+    ensures { IfOk result (λ due. due_text due ≡ read_line name.now (Since rev) state.now) }
 {
     match state.find(name) {
         Some((_, found)) => since_of(alloc, name, found, rev),
@@ -100,8 +101,8 @@ fn read_since(alloc: Global, state: &State, name: &Name, rev: u64) -> Result<Str
     }
 }
 
-fn since_of(alloc: Global, name: &Name, found: &DocState, rev: u64) -> Result<String, AllocError>
-    ensures { IfOk result (λ text. string_bytes text
+fn since_of(alloc: Global, name: &Name, found: &DocState, rev: u64) -> Result<Due, AllocError>
+    ensures { IfOk result (λ due. due_text due
         ≡ line_told (told name.now (Since rev) (Some (0, record_of found.now)))) }
 {
     if !found.is_live() {

@@ -1,5 +1,5 @@
 //! What a session does upon a line.
-ghost use Rattle.std.specs.Prelude.{◌≡◌, ◌≤◌, ◌<◌, ◌^◌, IfOk, Some, true, option_copied};
+ghost use Rattle.std.specs.Prelude.{◌≡◌, ◌≤◌, ◌<◌, ◌^◌, IfOk, IfSome, Some, Ok, true, option_copied};
 ghost use Rattle.std.specs.Option.{ForSome};
 ghost use Rattle.serde_json.specs.View.{items_view};
 ghost use Rattle.revision.specs.Name.{is_source_name};
@@ -10,6 +10,8 @@ ghost use Rattle.session.specs.Request as spec;
 
 use crate::message::Message;
 use crate::question::Question;
+use crate::tokened::edit_of;
+use json::Scratch;
 use optext::{read_json, read_ops};
 use refusal::Refusal;
 use revision::{Command, Name};
@@ -33,8 +35,40 @@ pub enum Request {
 
 impl Request {
     /// The request that a line is, in the session of a source that has presented itself, or of none. The first
-    /// refusal that holds decides; `NoMemory` may come instead of any other answer.
-    pub fn read(alloc: Global, source: Option<&Name>, line: &[u8]) -> Result<Request, Refusal>
+    /// refusal that holds decides; `NoMemory` may come instead of any other answer. The scratch is for the reading alone.
+    pub fn read(
+        alloc: Global,
+        source: Option<&Name>,
+        line: &[u8],
+        scratch: &mut Scratch,
+    ) -> Result<Request, Refusal>
+        requires { ForSome (option_copied source) (λ name. is_source_name name ≡ true) }
+        ensures due { IsAnswer (spec.request_of (option_copied source.entry) line.now) result }
+        ensures greets { IfOk result spec.GreetsSource }
+    {
+        match Request::read_edit(alloc, source, line, scratch) {
+            Some(edit) => Ok(edit),
+            None => Request::read_any(alloc, source, line),
+        }
+    }
+
+    // An edit whose tokens are read one after another.
+    fn read_edit(
+        alloc: Global,
+        source: Option<&Name>,
+        line: &[u8],
+        scratch: &mut Scratch,
+    ) -> Option<Request>
+        requires { ForSome (option_copied source) (λ name. is_source_name name ≡ true) }
+        ensures due { IfSome result (λ edit. spec.request_of (option_copied source.entry) line.now ≡ Ok edit) }
+        ensures greets { IfSome result spec.GreetsSource }
+    {
+        let command = edit_of(alloc, source?, line, scratch)?;
+        Some(Request::Ask(command))
+    }
+
+    // Any request, from the value of its line.
+    fn read_any(alloc: Global, source: Option<&Name>, line: &[u8]) -> Result<Request, Refusal>
         requires { ForSome (option_copied source) (λ name. is_source_name name ≡ true) }
         ensures due { IsAnswer (spec.request_of (option_copied source.entry) line.now) result }
         ensures greets { IfOk result spec.GreetsSource }

@@ -1,6 +1,5 @@
 //! A session: lines of messages to lines of replies.
-ghost use Rattle.std.specs.Prelude.{◌≡◌, ◌++◌, ℕ, length, Option, Some, None, List, [], ◌∷◌, true, false, Result, Ok, IfOk, IfErr, IfSome, IsErr, OnOk, OnErr};
-ghost use Rattle.std.specs.String.{string_bytes};
+ghost use Rattle.std.specs.Prelude.{◌≡◌, ◌==◌, ◌++◌, ℕ, length, not, is_some, Option, Some, None, List, [], ◌∷◌, true, false, Result, Ok, flat_map, IfOk, IfErr, IfSome, IsErr, OnOk, OnErr};
 ghost use Rattle.std.specs.Io.KnownBytes.{Appends};
 ghost use Rattle.refusal.specs.declared.Refusal as refusal;
 ghost use Rattle.session.specs.declared.reply.Reply as reply;
@@ -14,6 +13,8 @@ ghost use Rattle.session.specs.Reads.{read_line, shown_line};
 ghost use Rattle.session.specs.Shelf.{Fits, IsLater, IsGivenLook};
 ghost use Rattle.session.specs.Exchange.{Exchange, Answered, Shown, IsReadOf};
 ghost use Rattle.session.specs.Output.{AppendsFront};
+ghost use Rattle.session.specs.Page.{Spells};
+ghost use Rattle.session.specs.steps.DueText.{due_text};
 ghost use Rattle.session.specs.Subscriptions.{may_follow_shown, subscribed, without_subscription};
 ghost use Rattle.session.specs.News.{AreNews, AreNone, MayBeMissed, going_on};
 ghost use Rattle.session.specs.Calls.{Passes, TellsNews, StopsNews, call_of, with_subscriptions};
@@ -21,9 +22,11 @@ ghost use Rattle.session.specs.Replies.{IsLine, IsReplied, Asks, Feeds, Stops, a
 ghost use Rattle.session.specs.Ahead.{commands_of, AreReplies, Settles, IsPut, TakesAhead, StopsAhead};
 
 use crate::desk::Desk;
+use crate::due::Due;
 use crate::line::{Event, Line};
 use crate::news::News;
 use crate::output::{Output, WriteFailed};
+use crate::page::Page;
 use crate::question::Question;
 use crate::reads::{Told, check_held, read};
 use crate::reply::{
@@ -33,6 +36,7 @@ use crate::request::Request;
 use crate::sent::Sent;
 use crate::shelf::Shelf;
 use crate::subscriptions::Subscriptions;
+use json::Scratch;
 use refusal::Refusal;
 use revision::{Command, Name};
 use std::alloc::{AllocError, Global};
@@ -56,6 +60,10 @@ pub struct Session {
     line: Line,
     source: Option<Name>,
     subscriptions: Subscriptions,
+    /// What reading a line by tokens takes of memory, kept from line to line.
+    scratch: Box<Scratch>,
+    /// Where all that is written is spelled.
+    page: Page,
     ended: bool,
 }
 
@@ -86,19 +94,21 @@ impl Session {
             ≡ record { line = Some []; peer = record { source = None; subscriptions = [] }; ended = false }) }
         ensures only { IfErr result (λ e. e ≡ Refusal.NoMemory) }
     {
-        match Line::new(alloc) {
-            Ok(line) => Ok(Session {
-                line,
-                source: None,
-                subscriptions: Subscriptions::new(alloc),
-                ended: false,
-            }),
-            Err(_) => Err(Refusal::NoMemory),
-        }
+        let scratch = Box::new(alloc, Scratch::new(alloc))?;
+        let page = Page::new(alloc)?;
+        let line = Line::new(alloc)?;
+        Ok(Session {
+            line,
+            source: None,
+            subscriptions: Subscriptions::new(alloc),
+            scratch,
+            page,
+            ended: false,
+        })
     }
 
     /// Takes a piece of the input, and writes the replies to the lines that end in it. Commands whose lines follow one another in
-    /// the piece are asked together (`Desk::ask_all`) and replied in one write.
+    /// the piece are asked together (`Desk::ask_all`) and replied together.
     pub fn feed<O: Output, D: Desk>(
         &mut self,
         alloc: Global,
@@ -180,21 +190,39 @@ impl Session {
         }
     }
 
+    /// Whether a source has presented itself.
+    pub fn is_greeted(&self) -> bool
+        ensures { result ≡ is_some self.now.peer.source }
+    {
+        self.source.is_some()
+    }
+
+    /// Whether it follows a document.
+    pub fn follows(&self) -> bool
+        ensures { result ≡ not (length self.now.peer.subscriptions == 0) }
+    {
+        !self.subscriptions.entries().is_empty()
+    }
+
     // Writes what is told, and notes it.
     fn tell<O: Output>(&mut self, out: &mut O, news: &News) -> Result<(), SessionEnded>
         requires works { self.old.ended ≡ false }
         requires length { length news.now.last.items ≡ length self.old.peer.subscriptions }
-        ensures written { OnOk result (Appends (O.contents out.old) (O.contents out.new) (string_bytes news.now.text)) }
+        ensures written { OnOk result (Appends (O.contents out.old) (O.contents out.new) (flat_map due_text news.now.lines.items)) }
         ensures noted { OnOk result (self.new
             ≡ with_subscriptions self.old (going_on self.old.peer.subscriptions news.now.last.items)) }
         ensures front { OnErr result
-            (AppendsFront (O.contents out.old) (O.contents out.new) (string_bytes news.now.text)) }
+            (AppendsFront (O.contents out.old) (O.contents out.new) (flat_map due_text news.now.lines.items)) }
         ensures failed { OnErr result (O.has_failed out.new ≡ true) }
         ensures err { OnErr result (self.new ≡ record self.old { ended = true }) }
     {
-        self.put(out, news.text.as_bytes())?;
-        self.subscriptions.go_on(news.last.as_slice());
-        Ok(())
+        match write_all(&mut self.page, out, news.lines.as_slice()) {
+            Ok(()) => {
+                self.subscriptions.go_on(news.last.as_slice());
+                Ok(())
+            }
+            Err(_) => Err(self.end()),
+        }
     }
 
     // Takes the text in front of what is left of a piece, and gives what is left behind it.
@@ -273,7 +301,7 @@ impl Session {
         written
     }
 
-    // Writes the replies to commands that were asked, all at once where memory is found for it.
+    // Writes the replies to commands that were asked.
     fn reply_all<O: Output>(
         &mut self,
         alloc: Global,
@@ -288,39 +316,10 @@ impl Session {
         ensures ok { OnOk result (self.new ≡ self.old) }
         ensures err { OnErr result (self.new ≡ record self.old { ended = true }) }
     {
-        let mut text = Vec::new(alloc);
-        for one in sent {
-            let reply = reply_of(alloc, one);
-            self.gather(out, &mut text, bytes_of(&reply))?;
+        match write_replies(alloc, &mut self.page, out, sent) {
+            Ok(()) => Ok(()),
+            Err(_) => Err(self.end()),
         }
-        if !text.is_empty() {
-            self.put(out, text.as_slice())?;
-        }
-        Ok(())
-    }
-
-    // Puts bytes to the text that is to be written or, where no memory is found for them, writes both.
-    fn gather<O: Output>(
-        &mut self,
-        out: &mut O,
-        text: &mut Vec<u8>,
-        bytes: &[u8],
-    ) -> Result<(), SessionEnded>
-        requires works { self.old.ended ≡ false }
-        ensures gathered { OnOk result ((done : List ℕ) × (text.old.items ++ bytes.now ≡ done ++ text.new.items)
-            × Appends (O.contents out.old) (O.contents out.new) done) }
-        ensures front { OnErr result (AppendsFront (O.contents out.old) (O.contents out.new) (text.old.items
-            ++ bytes.now)) }
-        ensures failed { OnErr result (O.has_failed out.new ≡ true) }
-        ensures ok { OnOk result (self.new ≡ self.old) }
-        ensures err { OnErr result (self.new ≡ record self.old { ended = true }) }
-    {
-        if text.extend_from_slice(bytes).is_err() {
-            self.put(out, text.as_slice())?;
-            text.clear();
-            self.put(out, bytes)?;
-        }
-        Ok(())
     }
 
     // What the next byte makes of the line.
@@ -344,14 +343,14 @@ impl Session {
         desk: &mut D,
         shelf: &mut Shelf,
         request: Result<Request, Refusal>,
-    ) -> Result<String, AllocError>
+    ) -> Result<Due, AllocError>
         requires greets { IfOk request GreetsSource }
         requires due { IfSome self.old.line (λ line. IsAnswer (request_of self.old.peer.source line) request) }
         requires fits { Fits (D.reached desk.old) shelf.old }
         ensures fits { Fits (D.reached desk.new) shelf.new }
         ensures others { self.new ≡ record self.old { peer = self.new.peer } }
         ensures replied { IfSome self.old.line (λ line. (asked : List Exchange)
-            × IsReplied self.old.peer line asked self.new.peer (text_told (λ t. string_bytes t) result)
+            × IsReplied self.old.peer line asked self.new.peer (text_told (λ t. due_text t) result)
             × Asks D.does desk.old asked desk.new) }
     {
         match request {
@@ -366,17 +365,19 @@ impl Session {
     }
 
     // What the line asks for, which is complete.
-    fn request(&self, alloc: Global) -> Result<Request, Refusal>
-        ensures due { IfSome self.now.line (λ line. IsAnswer (request_of self.now.peer.source line) result) }
+    fn request(&mut self, alloc: Global) -> Result<Request, Refusal>
+        ensures due { IfSome self.old.line (λ line. IsAnswer (request_of self.old.peer.source line) result) }
         ensures greets { IfOk result GreetsSource }
+        ensures unchanged { self.new ≡ self.old }
     {
-        Request::read(alloc, self.source.as_ref(), self.line.bytes())
+        let source = self.source.as_ref();
+        Request::read(alloc, source, self.line.bytes(), &mut self.scratch)
     }
 
     // Greets a source, which has presented itself then.
-    fn greet(&mut self, alloc: Global, source: Name) -> Result<String, AllocError>
+    fn greet(&mut self, alloc: Global, source: Name) -> Result<Due, AllocError>
         requires { is_source_name source ≡ true }
-        ensures greeted { IfOk result (λ text. string_bytes text ≡ line_of spec_greeting) }
+        ensures greeted { IfOk result (λ due. due_text due ≡ line_of spec_greeting) }
         ensures presented { OnOk result (self.new
             ≡ record self.old { peer = record self.old.peer { source = Some source } }) }
         ensures unchanged { OnErr result (self.new ≡ self.old) }
@@ -393,12 +394,12 @@ impl Session {
         desk: &mut D,
         name: Name,
         rev: u64,
-    ) -> Result<String, AllocError>
+    ) -> Result<Due, AllocError>
         ensures later { IsLater (D.reached desk.old) (D.reached desk.new) }
         ensures followed { (shown : Option state.State) × D.does desk.old (Shown shown) desk.new
             × OnOk result (self.new ≡ with_subscriptions self.old
             (subscribed self.old.peer.subscriptions name rev (may_follow_shown name rev shown)))
-            × IfOk result (λ text. string_bytes text ≡ subscribed_line name rev (may_follow_shown name rev shown))
+            × IfOk result (λ due. due_text due ≡ subscribed_line name rev (may_follow_shown name rev shown))
             × OnErr result (self.new ≡ self.old) }
     {
         if let Err(refusal) = show_held(desk, &name, rev) {
@@ -410,8 +411,8 @@ impl Session {
     }
 
     // Follows a document no longer, and tells so.
-    fn unsubscribe(&mut self, alloc: Global, name: &Name) -> Result<String, AllocError>
-        ensures told { IfOk result (λ text. string_bytes text ≡ line_of (spec_unsubscribed name.now)) }
+    fn unsubscribe(&mut self, alloc: Global, name: &Name) -> Result<Due, AllocError>
+        ensures told { IfOk result (λ due. due_text due ≡ line_of (spec_unsubscribed name.now)) }
         ensures left { OnOk result (self.new
             ≡ with_subscriptions self.old (without_subscription self.old.peer.subscriptions name.now)) }
         ensures unchanged { OnErr result (self.new ≡ self.old) }
@@ -425,34 +426,29 @@ impl Session {
     fn send<O: Output>(
         &mut self,
         out: &mut O,
-        reply: &Result<String, AllocError>,
+        reply: &Result<Due, AllocError>,
     ) -> Result<(), SessionEnded>
         requires { self.old.ended ≡ false }
         ensures written { OnOk result (Appends (O.contents out.old) (O.contents out.new)
-            (text_told (λ t. string_bytes t) reply.now)) }
+            (text_told (λ t. due_text t) reply.now)) }
         ensures front { OnErr result (AppendsFront (O.contents out.old) (O.contents out.new)
-            (text_told (λ t. string_bytes t) reply.now)) }
+            (text_told (λ t. due_text t) reply.now)) }
         ensures failed { OnErr result (O.has_failed out.new ≡ true) }
         ensures ok { OnOk result (self.new ≡ self.old) }
         ensures err { OnErr result (self.new ≡ record self.old { ended = true }) }
     {
-        self.put(out, bytes_of(reply))?;
-        Ok(())
+        match write_reply(&mut self.page, out, reply) {
+            Ok(()) => Ok(()),
+            Err(_) => Err(self.end()),
+        }
     }
 
-    // Writes bytes, or ends the session.
-    fn put<O: Output>(&mut self, out: &mut O, bytes: &[u8]) -> Result<(), SessionEnded>
-        ensures written { OnOk result (Appends (O.contents out.old) (O.contents out.new) bytes.now) }
-        ensures front { OnErr result (AppendsFront (O.contents out.old) (O.contents out.new) bytes.now) }
-        ensures failed { OnErr result (O.has_failed out.new ≡ true) }
-        ensures ok { OnOk result (self.new ≡ self.old) }
-        ensures err { OnErr result (self.new ≡ record self.old { ended = true }) }
+    // Ends the session, since a write failed.
+    fn end(&mut self) -> SessionEnded
+        ensures { self.new ≡ record self.old { ended = true } }
     {
-        if out.put(bytes).is_err() {
-            self.ended = true;
-            return Err(SessionEnded);
-        }
-        Ok(())
+        self.ended = true;
+        SessionEnded
     }
 }
 
@@ -474,8 +470,8 @@ fn put(request: Result<Request, Refusal>, sent: &mut Vec<Sent>) -> Option<Result
 }
 
 // The reply that tells the answer of a command.
-fn reply_of(alloc: Global, sent: &Sent) -> Result<String, AllocError>
-    ensures { IsLine (answer_line sent.now.command sent.now.answer) (text_told (λ t. string_bytes t) result) }
+fn reply_of(alloc: Global, sent: &Sent) -> Result<Due, AllocError>
+    ensures { IsLine (answer_line sent.now.command sent.now.answer) (text_told (λ t. due_text t) result) }
 {
     match sent.answer {
         Ok(reply) => acknowledgement(alloc, &sent.command, reply),
@@ -490,11 +486,11 @@ fn answer<D: Desk>(
     shelf: &mut Shelf,
     name: &Name,
     question: Question,
-) -> Result<String, AllocError>
+) -> Result<Due, AllocError>
     requires fits { Fits (D.reached desk.old) shelf.old }
     ensures fits { Fits (D.reached desk.new) shelf.new }
     ensures told { (shown : Option state.State) × D.does desk.old (Shown shown) desk.new
-        × IsLine (shown_line name.now question shown) (text_told (λ t. string_bytes t) result) }
+        × IsLine (shown_line name.now question shown) (text_told (λ t. due_text t) result) }
 {
     match view(alloc, desk, shelf, name, question) {
         Ok(Told { reply, look }) => {
@@ -518,14 +514,14 @@ fn view<D: Desk>(
     requires fits { Fits (D.reached desk.old) shelf.now }
     ensures fits { Fits (D.reached desk.new) shelf.now }
     ensures told { (shown : Option state.State) × D.does desk.old (Shown shown) desk.new
-        × IsReadOf (λ state answer. IfOk answer.reply (λ text. string_bytes text
+        × IsReadOf (λ state answer. IfOk answer.reply (λ due. due_text due
         ≡ read_line name.now question state)) shown result }
     ensures look { IfOk result (λ told. IsGivenLook (D.reached desk.new) told.look) }
 {
     desk.view(
         |state|
             ensures reply { Fits state.now shelf.entry.now
-                → IfOk result.reply (λ text. string_bytes text ≡ read_line name.entry.now question state.now) }
+                → IfOk result.reply (λ due. due_text due ≡ read_line name.entry.now question state.now) }
             ensures look { IsGivenLook state.now result.look }
         { read(alloc, state, shelf, name, question) },
     )
@@ -553,7 +549,7 @@ fn show_news<D: Desk>(
     ensures later { IsLater (D.reached desk.old) (D.reached desk.new) }
     ensures told { (shown : Option state.State) × D.does desk.old (Shown shown) desk.new
         × IfOk result (λ found. IfSome found (λ news.
-        AreNews subscriptions.now shown (string_bytes news.text) news.last.items))
+        AreNews subscriptions.now shown (flat_map due_text news.lines.items) news.last.items))
         × (result ≡ Ok None → AreNone subscriptions.now shown)
         × OnErr result (MayBeMissed subscriptions.now shown) }
 {
@@ -563,12 +559,84 @@ fn show_news<D: Desk>(
     }
 }
 
-// The bytes of a reply.
-fn bytes_of(reply: &Result<String, AllocError>) -> &[u8]
-    ensures { result.now ≡ text_told (λ t. string_bytes t) reply.now }
+// Writes a reply, or the line of `NoMemory` where memory ran out for it.
+fn write_reply<O: Output>(
+    page: &mut Page,
+    out: &mut O,
+    reply: &Result<Due, AllocError>,
+) -> Result<(), WriteFailed>
+    ensures written { OnOk result (Appends (O.contents out.old) (O.contents out.new)
+        (text_told (λ t. due_text t) reply.now)) }
+    ensures front { OnErr result (AppendsFront (O.contents out.old) (O.contents out.new)
+        (text_told (λ t. due_text t) reply.now)) }
+    ensures failed { OnErr result (O.has_failed out.new ≡ true) }
+{
+    page.begin();
+    print_reply(page, out, reply);
+    page.finish(out)
+}
+
+// Writes lines that are due.
+fn write_all<O: Output>(page: &mut Page, out: &mut O, lines: &[Due]) -> Result<(), WriteFailed>
+    ensures written { OnOk result (Appends (O.contents out.old) (O.contents out.new) (flat_map due_text lines.now)) }
+    ensures front { OnErr result
+        (AppendsFront (O.contents out.old) (O.contents out.new) (flat_map due_text lines.now)) }
+    ensures failed { OnErr result (O.has_failed out.new ≡ true) }
+{
+    page.begin();
+    print_all(page, out, lines);
+    page.finish(out)
+}
+
+// Writes the replies to commands that were asked. Each is spelled before the next one.
+fn write_replies<O: Output>(
+    alloc: Global,
+    page: &mut Page,
+    out: &mut O,
+    sent: &[Sent],
+) -> Result<(), WriteFailed>
+    ensures written { (text : List ℕ) × AreReplies sent.now text
+        × OnOk result (Appends (O.contents out.old) (O.contents out.new) text)
+        × OnErr result (AppendsFront (O.contents out.old) (O.contents out.new) text) }
+    ensures failed { OnErr result (O.has_failed out.new ≡ true) }
+{
+    page.begin();
+    print_replies(alloc, page, out, sent);
+    page.finish(out)
+}
+
+// Spells a reply.
+fn print_reply<O: Output>(page: &mut Page, out: &mut O, reply: &Result<Due, AllocError>)
+    ensures { Spells O.contents O.has_failed out.old page.old out.new page.new
+        (text_told (λ t. due_text t) reply.now) }
 {
     match reply {
-        Ok(text) => text.as_bytes(),
-        Err(_) => NO_MEMORY,
+        Ok(due) => due.print(page, out),
+        Err(_) => page.push(out, NO_MEMORY),
+    }
+}
+
+// Spells lines that are due.
+fn print_all<O: Output>(page: &mut Page, out: &mut O, lines: &[Due])
+    ensures { Spells O.contents O.has_failed out.old page.old out.new page.new (flat_map due_text lines.now) }
+{
+    let mut rest = lines;
+    while let Some((due, others)) = rest.split_first() {
+        due.print(page, out);
+        rest = others;
+    }
+}
+
+// Spells the replies to commands that were asked.
+fn print_replies<O: Output>(alloc: Global, page: &mut Page, out: &mut O, sent: &[Sent])
+    ensures { (text : List ℕ) × AreReplies sent.now text
+        × Spells O.contents O.has_failed out.old page.old out.new page.new text }
+{
+    let mut rest = sent;
+    while let Some((one, others)) = rest.split_first() {
+        let reply = reply_of(alloc, one);
+        print_reply(page, out, &reply);
+        drop(reply);
+        rest = others;
     }
 }

@@ -1,4 +1,6 @@
 mod ahead;
+mod forms;
+mod pieces;
 mod reads;
 mod shelf;
 mod subscriptions;
@@ -39,6 +41,16 @@ impl Conversation {
         requires last { keep ≤ 65536 }
     {
         let limits = Limits::new(4, 4, 65536, 65536, keep);
+        Conversation {
+            session: Session::new(rt.alloc()).expect(rt, "memory"),
+            desk: StateDesk::new(State::new(rt.alloc(), limits)),
+            shelf: Shelf::new(rt.alloc()).expect(rt, "memory"),
+        }
+    }
+
+    /// The same of documents of at most 2^24 units' weight and of long changes, with 16 revisions.
+    fn roomy(rt: &(impl Abort + AllocGlobal)) -> Conversation {
+        let limits = Limits::new(4, 4, 1 << 24, 1 << 20, 16);
         Conversation {
             session: Session::new(rt.alloc()).expect(rt, "memory"),
             desk: StateDesk::new(State::new(rt.alloc(), limits)),

@@ -2,3 +2,4 @@ pub mod Conversation
 pub mod Desks
 pub mod Room
 pub mod Begun
+pub mod Idle

@@ -1,13 +1,17 @@
 //! The loop that takes connections.
 use crate::hall::Hall;
 use crate::watch::ListenerWatch;
+use std::io::{self, ErrorKind};
 use std::net::{OpenListener, TcpStream};
 use std::sync::Wait;
+use std::thread;
 use std::time::{Clock, Duration};
-use std::{io, thread};
 
 /// How long an error that may pass is waited out, in milliseconds.
 const ERROR_WAIT: u64 = 100;
+
+/// How long it is waited out, in milliseconds, that nobody connected in the listener's own time.
+const PAUSE_WAIT: u64 = 1;
 
 /// The listener isn't open.
 const EBADF: i32 = 9;
@@ -21,8 +25,8 @@ const EINVAL: i32 = 22;
 /// The listener is no socket.
 const ENOTSOCK: i32 = 88;
 
-/// Takes connections until the listener can't work any more, where there are threads that serve them and the watch asks for it. Each other
-/// error of the listener concerns one connection or may pass: it is waited out, and the next connection is taken then.
+/// Takes connections until the listener can't work any more, where there are threads that serve them and as long as the watch asks for it.
+/// Each other error of the listener concerns one connection or may pass: it is waited out, and the next connection is taken then.
 pub fn accept_all<R: Wait + Clock, N: OpenListener<Stream = TcpStream>, W: ListenerWatch>(
     rt: &R,
     hall: &Hall,
@@ -40,8 +44,20 @@ pub fn accept_all<R: Wait + Clock, N: OpenListener<Stream = TcpStream>, W: Liste
                 watch.failed(reason);
                 return;
             }
-            Err(_) => thread::sleep(rt, Duration::from_millis(ERROR_WAIT)),
+            Err(reason) => thread::sleep(rt, wait_after(reason)),
         }
+        if !watch.goes_on(hall.peers(rt)) {
+            return;
+        }
+    }
+}
+
+// How long an error is waited out.
+fn wait_after(reason: io::Error) -> Duration {
+    if reason.kind() == ErrorKind::WouldBlock {
+        Duration::from_millis(PAUSE_WAIT)
+    } else {
+        Duration::from_millis(ERROR_WAIT)
     }
 }
 

@@ -7,18 +7,21 @@ ghost use Rattle.session.specs.Shelf.{Fits};
 ghost use Rattle.sockets.specs.Conversation.{beginning, Answers, Converses, IsConversation, StopsConversing, StopsIn};
 
 use crate::hall::Hall;
+use crate::patience::Patience;
+use crate::pause::is_pause;
 use session::{Desk, Output, Session, SessionEnded, Shelf};
 use std::alloc::Global;
-use std::io::{ErrorKind, Read};
+use std::io::Read;
 
 /// How many bytes are read at once.
 const PIECE: usize = 8192;
 
-/// Has a conversation by a desk, from a session's beginning until the input ends or fails, a write fails, or the hall ends. Where the
-/// session is out of memory nothing is read or written.
+/// Has a conversation by a desk, from a session's beginning until the input ends or fails, a write fails, the peer is idle for as long as the
+/// patience with it has, or the hall ends. Where the session is out of memory nothing is read or written.
 pub fn converse<K: Desk, I: Read, O: Output>(
     alloc: Global,
     hall: &Hall,
+    patience: &mut Patience,
     desk: &mut K,
     input: &mut I,
     output: &mut O,
@@ -39,13 +42,23 @@ pub fn converse<K: Desk, I: Read, O: Output>(
     let Ok(mut shelf) = Shelf::new(alloc) else {
         return Ok(());
     };
-    take_turns(alloc, hall, &mut session, desk, &mut shelf, input, output)
+    take_turns(
+        alloc,
+        hall,
+        patience,
+        &mut session,
+        desk,
+        &mut shelf,
+        input,
+        output,
+    )
 }
 
 // Takes turns until the conversation is over.
 fn take_turns<K: Desk, I: Read, O: Output>(
     alloc: Global,
     hall: &Hall,
+    patience: &mut Patience,
     session: &mut Session,
     desk: &mut K,
     shelf: &mut Shelf,
@@ -63,10 +76,12 @@ fn take_turns<K: Desk, I: Read, O: Output>(
 {
     let mut piece = [0; PIECE];
     'turns: for _ in 0..u64::MAX {
-        if hall.has_ended() {
+        if hall.has_ended() || patience.is_over() {
             return Ok(());
         }
-        if !take_turn(alloc, session, desk, shelf, input, &mut piece, output)? {
+        if !take_turn(
+            alloc, patience, session, desk, shelf, input, &mut piece, output,
+        )? {
             return Ok(());
         }
     }
@@ -76,6 +91,7 @@ fn take_turns<K: Desk, I: Read, O: Output>(
 // Reads what comes into `piece` and answers it. The answer is whether the conversation goes on; it does where nothing came in time.
 fn take_turn<K: Desk, I: Read, O: Output>(
     alloc: Global,
+    patience: &mut Patience,
     session: &mut Session,
     desk: &mut K,
     shelf: &mut Shelf,
@@ -98,6 +114,7 @@ fn take_turn<K: Desk, I: Read, O: Output>(
         return Ok(false);
     };
     answer(alloc, session, desk, shelf, &piece[..count], output)?;
+    patience.note(session, &piece[..count]);
     Ok(true)
 }
 
@@ -113,11 +130,6 @@ fn read_piece<I: Read>(input: &mut I, piece: &mut [u8; PIECE]) -> Option<usize>
         Err(error) if is_pause(error.kind()) => Some(0),
         Err(_) => None,
     }
-}
-
-// Whether a read ended since nothing came in its time, or since a signal cut it short.
-fn is_pause(kind: ErrorKind) -> bool {
-    kind == ErrorKind::WouldBlock || kind == ErrorKind::TimedOut || kind == ErrorKind::Interrupted
 }
 
 // Answers a piece, tells the news of the documents that are followed, and sends on all that was written.

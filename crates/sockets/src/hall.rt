@@ -1,18 +1,31 @@
 //! Where connections wait for the thread that serves them.
 ghost use Rattle.std.specs.Prelude.{◌≤◌, length};
 
+use crate::watch::Peers;
 use std::alloc::{AllocError, Global};
 use std::collections::VecDeque;
 use std::net::TcpStream;
 use std::sync::atomic::{AtomicBool, AtomicUsize, Ordering};
 use std::sync::{Condvar, Mutex, Wait};
 
-/// The connections that wait, and how many threads are free to serve one. No more wait than are free.
+/// How the serving of a connection ended.
+#[derive(Clone, Copy, Debug, PartialEq, Eq)]
+pub enum Parting {
+    /// The peer closed it, a call on it failed, there was no memory for its session, or the hall ended.
+    Over,
+    /// The peer took no byte of what was written to it.
+    Slow,
+    /// The peer was idle.
+    Idle,
+}
+
+/// The connections that wait, how many threads are free to serve one, and what became of all. No more wait than are free.
 #[derive(Drop)]
 struct Places {
     streams: VecDeque<TcpStream>,
     free: usize,
     ended: bool,
+    peers: Peers,
     ghost served: { length streams.items ≤ free },
 }
 
@@ -21,6 +34,8 @@ impl Places {
     fn offer(&mut self, stream: TcpStream) {
         if self.streams.len() < self.free {
             drop(self.streams.push_back(stream));
+        } else {
+            count(&mut self.peers.turned_away);
         }
     }
 
@@ -31,12 +46,29 @@ impl Places {
         }
         let stream = self.streams.pop_front()?;
         self.free -= 1;
+        self.peers.open = self.peers.open.saturating_add(1);
         Some(stream)
     }
 
     fn free_one(&mut self) {
         self.free = self.free.saturating_add(1);
     }
+
+    // Frees a thread that has served a connection, which ended so.
+    fn leave(&mut self, parting: Parting) {
+        self.peers.open = self.peers.open.saturating_sub(1);
+        match parting {
+            Parting::Over => {}
+            Parting::Slow => count(&mut self.peers.slow),
+            Parting::Idle => count(&mut self.peers.idle),
+        }
+        self.free_one();
+    }
+}
+
+// Counts one more.
+fn count(number: &mut u64) {
+    *number = number.saturating_add(1);
 }
 
 /// Hands connections to the threads that serve them, each to one that is free. A connection for which none is free is closed without a
@@ -46,28 +78,52 @@ pub struct Hall {
     places: Mutex<Places>,
     changed: Condvar,
     ended: AtomicBool,
+    /// For how many seconds a peer may be idle; 0 is for ever.
+    idle: u32,
     /// The desk that got no thread, by its place among the desks, or a number above all places.
     without_thread: AtomicUsize,
 }
 
 impl Hall {
-    /// A hall without threads. Refused as out of memory alone.
-    pub fn new(alloc: Global, threads: usize) -> Result<Hall, AllocError> {
+    /// A hall without threads, whose peers may be idle for so many seconds, 0 for ever. Refused as out of memory alone.
+    pub fn new(alloc: Global, threads: usize, idle: u32) -> Result<Hall, AllocError> {
         Ok(Hall {
             places: Mutex::new(Places {
                 streams: VecDeque::with_capacity(alloc, threads)?,
                 free: 0,
                 ended: false,
+                peers: Peers {
+                    open: 0,
+                    turned_away: 0,
+                    slow: 0,
+                    idle: 0,
+                },
             }),
             changed: Condvar::new(),
             ended: AtomicBool::new(false),
+            idle,
             without_thread: AtomicUsize::new(usize::MAX),
         })
     }
 
-    /// One more thread is free to serve a connection: one that has begun, or one that has served its last connection to the end.
+    /// One more thread is free to serve a connection, which has begun.
     pub fn free_one(&self, rt: &impl Wait) {
         self.places.lock(rt).free_one();
+    }
+
+    /// A thread has served a connection, which ended so, and is free to serve another one.
+    pub fn leave(&self, rt: &impl Wait, parting: Parting) {
+        self.places.lock(rt).leave(parting);
+    }
+
+    /// What became of the connections so far.
+    pub fn peers(&self, rt: &impl Wait) -> Peers {
+        self.places.lock(rt).peers
+    }
+
+    /// For how many seconds a peer may be idle; 0 is for ever.
+    pub fn idle(&self) -> u32 {
+        self.idle
     }
 
     /// How many threads are free to serve a connection.

@@ -4,9 +4,11 @@
 //! session of its own: what comes in one read is given to `Session::feed`, the news are told after each read and after each 100
 //! milliseconds in which nothing came, and all that was written then leaves at once. A peer that takes no byte of what is written to it
 //! holds up its own desk alone, and is closed: a write that took no byte in 5 seconds fails. One that took some is followed by another
-//! one, and the system takes a little more where it seemed full, so that this comes about after 5 to 15 seconds. An error of the listener
-//! is waited out, but for those by which it can't work any more (`accepting.rt`): then each session ends within its next read. A
-//! `ListenerWatch` is told how many desks got a thread, before anybody is taken, and why the listener ended.
+//! one, and the system takes a little more where it seemed full, so that this comes about after 5 to 15 seconds. A peer that is idle for as
+//! many seconds as were asked for is closed (`specs/Idle.antt`), which is counted by the reads in which nothing came: bytes of a line that
+//! has no end neither count nor begin anew. An error of the listener is waited out, but for those by which it can't work any more
+//! (`accepting.rt`). Then, and where the watch doesn't go on, each session ends within 100 milliseconds, in a read or a write. A
+//! `ListenerWatch` is told how many desks got a thread, before anybody is taken, what became of the connections, and why the listener ended.
 //!
 //! A caller, with its contract, which is proved as it stands:
 //!
@@ -33,7 +35,7 @@
 //! {
 //!     let mut desks = Vec::new(alloc);
 //!     desks.push(desk)?;
-//!     Ok(serve_desks(rt, alloc, desks, listener, watch)?)
+//!     Ok(serve_desks(rt, alloc, desks, listener, 0, watch)?)
 //! }
 //! ```
 //!
@@ -56,9 +58,12 @@ mod begun;
 mod connection;
 mod conversation;
 mod hall;
+mod patience;
+mod pause;
+mod peer;
 mod serving;
 mod threads;
 mod watch;
 
 pub use serving::serve_desks;
-pub use watch::ListenerWatch;
+pub use watch::{ListenerWatch, Peers};

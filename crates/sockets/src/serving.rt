@@ -17,8 +17,9 @@ use std::time::Clock;
 
 /// Serves those who connect until the listener can't work any more, and gives the desks back when each session has ended. Each desk has a
 /// thread of its own, which serves one connection after another by it; where none is free a connection is closed without a byte. The watch
-/// is told how many desks got a thread before anybody is taken: where it answers so, or none did, nobody is. Out of memory it is refused
-/// before that.
+/// is told how many desks got a thread before anybody is taken: where it answers so, or none did, nobody is. It is asked whether to go on
+/// each time that the listener took a connection or failed. A peer that says no `hello`, or sends no line and follows no document, for `idle`
+/// seconds, is closed; 0 lets each be. Out of memory it is refused before that.
 pub fn serve_desks<
     K: Desk + Send + Drop,
     R: Threads + Wait + Clock + Sync,
@@ -29,13 +30,14 @@ pub fn serve_desks<
     alloc: Global,
     desks: Vec<K>,
     listener: &N,
+    idle: u32,
     watch: &W,
 ) -> Result<Vec<K>, AllocFailed<Vec<K>>>
     // They come back in their order, each asked for what conversations ask, one after another.
     ensures served { IfOk result (λ after. HaveServed K.does desks.items after.items) }
     ensures refused { IfErr result (λ failed. failed.value ≡ desks) }
 {
-    match Room::new(alloc, desks.len()) {
+    match Room::new(alloc, desks.len(), idle) {
         Ok(room) => Ok(serve_in(rt, alloc, room, desks, listener, watch)),
         Err(AllocError) => Err(AllocFailed { value: desks }),
     }
@@ -49,12 +51,12 @@ struct Room<K: Desk + Drop> {
 }
 
 impl<K: Desk + Drop> Room<K> {
-    // Room for so many desks.
-    fn new(alloc: Global, desks: usize) -> Result<Room<K>, AllocError>
+    // Room for so many desks, whose peers may be idle for so many seconds.
+    fn new(alloc: Global, desks: usize, idle: u32) -> Result<Room<K>, AllocError>
         ensures { IfOk result (λ room. HasRoom desks room.begun × HasRoom desks room.served) }
     {
         Ok(Room {
-            hall: Hall::new(alloc, desks)?,
+            hall: Hall::new(alloc, desks, idle)?,
             begun: Vec::with_capacity(alloc, desks)?,
             served: Vec::with_capacity(alloc, desks)?,
         })

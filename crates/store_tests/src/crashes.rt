@@ -110,7 +110,7 @@ fn is_after(rt: &(impl Abort + AllocGlobal), script: &Script, moves: usize, foun
     lines_after(rt, script, moves).as_str() == found
 }
 
-// What a device of these bytes is opened as by a pick.
+/// What a device of these bytes is opened as by a pick.
 pub fn lines_by(rt: &(impl Abort + AllocGlobal), bytes: &[u8], pick: Pick) -> String {
     lines_of(rt, open_by(rt, device_of(rt, bytes), pick).state())
 }

@@ -1,6 +1,8 @@
 //! The halves of a job, and milestones that are made of them.
 use crate::jobs::job;
-use crate::stores::{EditRow, change, create, formatted_device, is_answer, open_store};
+use crate::stores::{
+    EditRow, answer_text, change, create, edit, formatted_device, is_answer, is_text, open_store,
+};
 use disk::{Disk, MemDisk};
 use milestone::{Composed, Job, Part, PartDone, compose_job, compose_part, join_parts};
 use recovery::{Shape, Store};
@@ -37,6 +39,21 @@ fn edited(rt: &(impl Abort + AllocGlobal)) -> Store<MemDisk> {
     store
 }
 
+/// The newest revision of a store whose past keeps no document below revision 8: a job to one of these begins at the empty document.
+const LONG: u64 = 20;
+
+// A store whose only document was created with a letter and edited up to that revision.
+fn edited_long(rt: &(impl Abort + AllocGlobal)) -> Store<MemDisk> {
+    let mut store = edited(rt);
+    for base in 8..LONG {
+        let number = base.saturating_add(1);
+        let taken = answer_text(rt, &mut store, &edit(rt, number, base, "x"));
+        let wanted = format!(in rt.alloc(); "taken {number}").expect(rt, "memory");
+        is_text(rt, taken.as_str(), wanted.as_str());
+    }
+    store
+}
+
 fn halves_of(rt: &(impl Abort + AllocGlobal), job: &Job) -> (Part, Part) {
     job.halves(rt.alloc()).expect(rt, "memory")
 }
@@ -61,7 +78,7 @@ fn by_halves(rt: &(impl Abort + AllocGlobal), job: Job) -> Composed {
 
 // A job to a revision has so many deltas in its two halves.
 fn is_parted(rt: &(impl Abort + AllocGlobal), revision: u64, first: usize, second: usize) {
-    let mut store = edited(rt);
+    let mut store = edited_long(rt);
     let (one, other) = halves_of(rt, &job(rt, &mut store, revision));
     assert_eq!(rt; one.deltas().len(), first);
     assert_eq!(rt; other.deltas().len(), second);
@@ -80,12 +97,12 @@ fn one_delta_is_none_and_one(rt: HostRuntime) {
 // To the newest revision a job has no delta.
 #[test]
 fn no_delta_is_none_and_none(rt: HostRuntime) {
-    is_parted(&rt, 8, 0, 0);
+    is_parted(&rt, LONG, 0, 0);
 }
 
 #[test]
 fn halves_make_what_the_job_makes(rt: HostRuntime) {
-    let mut store = edited(&rt);
+    let mut store = edited_long(&rt);
     let one = by_halves(&rt, job(&rt, &mut store, 7));
     let other = job(&rt, &mut store, 7);
     match compose_job(rt.alloc(), other) {
@@ -100,7 +117,7 @@ fn halves_make_what_the_job_makes(rt: HostRuntime) {
 
 #[test]
 fn exchanged_halves_are_strangers(rt: HostRuntime) {
-    let mut store = edited(&rt);
+    let mut store = edited_long(&rt);
     let made = job(&rt, &mut store, 7);
     let (first, second) = halves_of(&rt, &made);
     let first = done(&rt, first);

@@ -31,7 +31,7 @@ pub fn job<D: Disk>(rt: &(impl Abort + AllocGlobal), store: &mut Store<D>, revis
     }
 }
 
-// A delta inserts this text without attributes, and does nothing else.
+/// A delta inserts this text without attributes, and does nothing else.
 pub fn inserts(delta: &Delta, wanted: &str) -> bool {
     match delta.ops() {
         [op] => match op.get() {

@@ -59,4 +59,6 @@ mod stores;
 #[cfg(test)]
 mod third_batch;
 #[cfg(test)]
+mod together;
+#[cfg(test)]
 mod upkeep;

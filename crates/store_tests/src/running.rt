@@ -84,7 +84,7 @@ fn many_creations_in_many_runs(rt: HostRuntime) {
     }
 }
 
-// The step that commits the batch which these bytes spell. It fits a slot of the store.
+/// The step that commits the batch which these bytes spell. It fits a slot of the store.
 pub fn step<D: Disk>(rt: &(impl Abort + AllocGlobal), store: &Store<D>, bytes: &[u8]) -> StoreStep
     ensures { CanTake (state_of store.now) result }
 {

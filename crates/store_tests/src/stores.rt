@@ -247,8 +247,8 @@ fn creation(rt: &(impl Abort + AllocGlobal), source: &str, doc: &str, text: &str
     Command::create(doc, source, 1, insert_of(rt, text)).expect(rt, "a creation")
 }
 
-// An edit of the document "d" by the source "a", by a number of 1 to 2^53 - 1, made on a revision: it inserts a text at the
-// beginning.
+/// An edit of the document "d" by the source "a", by a number of 1 to 2^53 - 1, made on a revision: it inserts a text at the
+/// beginning.
 pub fn edit(rt: &(impl Abort + AllocGlobal), number: u64, base: u64, text: &str) -> Command {
     assert!(rt; 1 <= number && number < 9_007_199_254_740_992);
     let source = Name::source(rt.alloc(), "a").expect(rt, "a source");

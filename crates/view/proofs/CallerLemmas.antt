@@ -21,32 +21,9 @@ use Rattle.revision.specs.contracts.state.State as state
 use Rattle.revision.specs.contracts.taken.Taken as taken
 use Rattle.revision.specs.contracts.batch.Batch as batch
 use Rattle.published.specs.declared.site.Site as site
+use Rattle.published.proofs.Crossing.{delta_send, document_send, name_send, state_send, taken_send}
 use Rattle.view.specs.contracts.shown.Shown as shown
 use Rattle.view.specs.contracts.viewer.Viewer as viewer
-
-pub name_send : IsSend name.the_row
-name_send = search (sendable, crosses, maps.crosses) depth 60 fits 20000
-
-pub delta_send : IsSend delta.the_row
-delta_send = search (sendable, crosses, maps.crosses) depth 60 fits 20000
-
-pub document_send : IsSend document.the_row
-document_send = search (sendable, crosses, maps.crosses) depth 60 fits 20000
-
-pub sources_send : IsSend sources.the_row
-sources_send = search (name_send, sendable, crosses) depth 60 fits 20000
-
-pub table_send : IsSend kept.the_row
-table_send = search (name_send, sources_send, sendable, crosses) depth 60 fits 20000
-
-pub past_send : IsSend past.the_row
-past_send = search (name_send, delta_send, document_send, sources_send, sendable, crosses) depth 60 fits 20000
-
-pub one_send : IsSend one.the_row
-one_send = search (name_send, past_send, document_send, table_send, sendable, crosses) depth 60 fits 20000
-
-pub state_send : IsSend state.the_row
-state_send = search (one_send, sendable, crosses, maps.crosses) depth 60 fits 20000
 
 pub name_sync : IsSync name.the_row
 name_sync = search (sendable, crosses, maps.crosses) depth 60 fits 20000
@@ -71,9 +48,6 @@ one_sync = search (name_sync, past_sync, document_sync, table_sync, sendable, cr
 
 pub state_sync : IsSync state.the_row
 state_sync = search (one_sync, sendable, crosses, maps.crosses) depth 60 fits 20000
-
-pub taken_send : IsSend taken.the_row
-taken_send = search (name_send, delta_send, sendable, crosses, maps.crosses) depth 60 fits 20000
 
 pub taken_sync : IsSync taken.the_row
 taken_sync = search (name_sync, delta_sync, sendable, crosses, maps.crosses) depth 60 fits 20000

@@ -71,6 +71,25 @@ impl<D, J: Site> Viewer<D, J> {
         ensures only { IfErr result (λ e. e ≡ Refusal.StoreFailed) }
         ensures unchanged { OnErr result (self.new ≡ self.old) }
     {
+        let (answer, seen) = self.peek(f)?;
+        self.told = seen;
+        Ok(answer)
+    }
+
+    /// Lends the state that is published to a function, as `read` does, and gives the token of the batches that make it beside the answer.
+    /// What the viewer has seen stays as it is.
+    pub fn peek<A, F: FnOnce(&State) -> A + Drop>(
+        &mut self,
+        f: F,
+    ) -> Result<(A, Told<D, J>), Refusal>
+        requires { F.IsAlwaysCallable f }
+        ensures begins { IfOk result (λ r. IsPrefix self.old r.1) }
+        ensures grows { IfOk result (λ r. state.all_grow J.start (commands_of r.1) ≡ true) }
+        ensures answer { IfOk result (λ r. (s : state.State) × (s ≡ state.fold J.start (commands_of r.1))
+            × FnOnceReturnsAt F.FnOnce f s r.0) }
+        ensures only { IfErr result (λ e. e ≡ Refusal.StoreFailed) }
+        ensures unchanged { self.new ≡ self.old }
+    {
         let reader = match self.reader.take() {
             Some(reader) => reader,
             None => return Err(Refusal::StoreFailed),
@@ -89,8 +108,7 @@ impl<D, J: Site> Viewer<D, J> {
         }
         let answer = f(&reading.get().state);
         self.reader = Some(reading.leave());
-        self.told = seen;
-        Ok(answer)
+        Ok((answer, seen))
     }
 
     /// What stood in a document at a revision, by the state that `read` lends. Refused as `State::at` refuses it on that state, which is

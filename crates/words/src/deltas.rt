@@ -1,41 +1,102 @@
 //! The words of the commands on deltas: `compose`, `transform`, `invert` and `apply`.
-use crate::arguments::{with_flag, with_word};
+use crate::arguments::{with_flag, with_word_unless};
 use algebra::Task;
+use clap::error::ErrorKind;
 use clap::{ArgMatches, Command, Error};
 use std::alloc::{AllocError, Global};
 use std::convert::AsStr;
 
+/// The option by which the deltas of a command stand on lines of standard input.
+const LINES: &str = "stdin";
+
+/// The help for a word that stands for a document.
+const DOCUMENT: &str = "The document, as the delta that makes it";
+
+/// What a command makes of two deltas.
+#[derive(Clone, Copy, Debug, PartialEq, Eq)]
+pub enum Making {
+    /// The delta with the effect of the first, and then the second.
+    Compose,
+    /// The second delta as it is after the first. With priority the first goes first.
+    Transform { priority: bool },
+    /// The delta that takes back the first on the document that the second makes.
+    Invert,
+    /// The document that the first makes, after the second.
+    Apply,
+}
+
+impl Making {
+    /// The task on these two deltas.
+    pub fn task<'a>(self, first: &'a str, second: &'a str) -> Task<'a> {
+        match self {
+            Making::Compose => Task::Compose { first, second },
+            Making::Transform { priority } => Task::Transform {
+                first,
+                second,
+                priority,
+            },
+            Making::Invert => Task::Invert {
+                delta: first,
+                base: second,
+            },
+            Making::Apply => Task::Apply {
+                document: first,
+                delta: second,
+            },
+        }
+    }
+}
+
+/// A command on two deltas.
+#[derive(Clone, Copy, Debug, PartialEq, Eq)]
+pub struct DeltaCommand<'a> {
+    pub making: Making,
+    /// The deltas, where they don't stand on lines of standard input.
+    pub deltas: Option<(&'a str, &'a str)>,
+}
+
 /// What the words ask for, of which the first stands for the program. An `Err` has the text for the user, which names
 /// the program `richd delta`.
-pub fn task_in<'a, S: AsStr>(alloc: Global, words: &'a [S]) -> Result<Task<'a>, Error> {
+pub fn command_in<'a, S: AsStr>(alloc: Global, words: &'a [S]) -> Result<DeltaCommand<'a>, Error> {
     let matches = richd_delta(alloc)?.try_get_matches_from(words)?;
     Ok(match matches.subcommand() {
-        Some(("compose", given)) => Task::Compose {
-            first: word_in(given, "A"),
-            second: word_in(given, "B"),
-        },
-        Some(("transform", given)) => Task::Transform {
-            first: word_in(given, "A"),
-            second: word_in(given, "B"),
-            priority: given.get_flag("first"),
-        },
-        Some(("invert", given)) => Task::Invert {
-            delta: word_in(given, "DELTA"),
-            base: word_in(given, "BASE"),
-        },
-        Some((_, given)) => Task::Apply {
-            document: word_in(given, "DOC"),
-            delta: word_in(given, "DELTA"),
-        },
-        None => Task::Apply {
-            document: "",
-            delta: "",
+        Some(("compose", given)) => asked(given, Making::Compose, "A", "B"),
+        Some(("transform", given)) => {
+            let priority = given.get_flag("first");
+            asked(given, Making::Transform { priority }, "A", "B")
+        }
+        Some(("invert", given)) => asked(given, Making::Invert, "DELTA", "BASE"),
+        Some((_, given)) => asked(given, Making::Apply, "DOC", "DELTA"),
+        None => DeltaCommand {
+            making: Making::Apply,
+            deltas: None,
         },
     })
 }
 
+// A command whose deltas have these names.
+fn asked<'a>(
+    given: &ArgMatches<'a>,
+    making: Making,
+    first: &str,
+    second: &str,
+) -> DeltaCommand<'a> {
+    let deltas = if given.get_flag(LINES) {
+        None
+    } else {
+        Some((word_in(given, first), word_in(given, second)))
+    };
+    DeltaCommand { making, deltas }
+}
+
 fn word_in<'a>(given: &ArgMatches<'a>, name: &str) -> &'a str {
     given.get_str(name).unwrap_or("")
+}
+
+/// The text for a user whose lines of standard input can't be the words of a command.
+pub fn not_lines(alloc: Global, why: &str) -> Result<Error, AllocError> {
+    let mut delta = richd_delta(alloc)?;
+    delta.error(ErrorKind::InvalidValue, why)
 }
 
 fn richd_delta<'a>(alloc: Global) -> Result<Command<'a>, AllocError> {
@@ -66,9 +127,30 @@ fn transform<'a>(alloc: Global) -> Result<Command<'a>, AllocError> {
     with_priority(alloc, transform)
 }
 
+// The two deltas, as words or lines.
+fn with_deltas<'a>(
+    alloc: Global,
+    command: Command<'a>,
+    first: (&'a str, &'a str),
+    second: (&'a str, &'a str),
+) -> Result<Command<'a>, AllocError> {
+    let command = with_word_unless(alloc, command, LINES, first.0, first.1)?;
+    let command = with_word_unless(alloc, command, LINES, second.0, second.1)?;
+    with_lines(alloc, command)
+}
+
+fn with_lines<'a>(alloc: Global, command: Command<'a>) -> Result<Command<'a>, AllocError> {
+    let help = "Reads the two from standard input, each on a line of its own";
+    with_flag(alloc, command, LINES, help)
+}
+
 fn with_two<'a>(alloc: Global, command: Command<'a>) -> Result<Command<'a>, AllocError> {
-    let command = with_word(alloc, command, "A", "The first delta")?;
-    with_word(alloc, command, "B", "The second delta")
+    with_deltas(
+        alloc,
+        command,
+        ("A", "The first delta"),
+        ("B", "The second delta"),
+    )
 }
 
 fn with_priority<'a>(alloc: Global, command: Command<'a>) -> Result<Command<'a>, AllocError> {
@@ -80,12 +162,11 @@ fn invert<'a>(alloc: Global) -> Result<Command<'a>, AllocError> {
     let invert = Command::new(alloc, "invert").about(
         "Prints the delta that takes back another on a document",
     );
-    let invert = with_word(alloc, invert, "DELTA", "The delta to take back")?;
-    with_word(
+    with_deltas(
         alloc,
         invert,
-        "BASE",
-        "The document, as the delta that makes it",
+        ("DELTA", "The delta to take back"),
+        ("BASE", DOCUMENT),
     )
 }
 
@@ -93,11 +174,10 @@ fn apply<'a>(alloc: Global) -> Result<Command<'a>, AllocError> {
     let apply = Command::new(alloc, "apply").about(
         "Prints a document after a delta, as the delta that makes it",
     );
-    let apply = with_word(
+    with_deltas(
         alloc,
         apply,
-        "DOC",
-        "The document, as the delta that makes it",
-    )?;
-    with_word(alloc, apply, "DELTA", "The delta to apply")
+        ("DOC", DOCUMENT),
+        ("DELTA", "The delta to apply"),
+    )
 }

@@ -1,7 +1,6 @@
 //! What the words ask for.
-use crate::deltas::task_in;
-use crate::store::{self, ShapeOptions};
-use algebra::Task;
+use crate::deltas::{DeltaCommand, command_in};
+use crate::store::{self, Listening, ShapeOptions};
 use clap::error::ErrorKind;
 use clap::{Command, Error};
 use std::alloc::{AllocError, Global};
@@ -10,23 +9,25 @@ use std::env::{self, Env};
 use std::io;
 
 /// The version of the program, which `richd --version` prints behind its name.
-const VERSION: &str = "0.2.0";
+pub const VERSION: &str = "0.2.0";
 
 /// What the words ask for.
 #[derive(Clone, Copy, Debug, PartialEq, Eq)]
 pub enum Invocation<'a> {
-    /// To make a store in this file.
+    /// To make a store in this file. Where the file is made and `reserve` is given, it is first written whole.
     Format {
         path: &'a str,
         shape: ShapeOptions,
+        reserve: bool,
     },
     /// To serve the store in this file: to those who connect to an address where one is given, else to one session over
     /// standard input and output. A milestone of a document is put where it passes a multiple of `every` revisions, which is 1 to
-    /// 65,536.
+    /// 65,536. The store is read as for `Dump`.
     Serve {
         path: &'a str,
-        listen: Option<&'a str>,
+        listening: Option<Listening<'a>>,
         every: u32,
+        older: bool,
     },
     /// To print the documents of the store in this file. Where a document has two milestones, its reading begins with the newer
     /// one, or with the older one where that is asked for.
@@ -34,13 +35,28 @@ pub enum Invocation<'a> {
         path: &'a str,
         older: bool,
     },
+    /// To print how full the store in this file is, or what each of its documents holds and has left.
+    Info {
+        path: &'a str,
+        documents: bool,
+    },
+    /// To read the store in this file by both milestones of each document, and to tell whether the two readings match.
+    Check {
+        path: &'a str,
+    },
     /// To bring the store of the first format in one file over to another file.
     Migrate {
         old: &'a str,
         new: &'a str,
     },
+    /// To copy the store in one file to another file, with the numbers that the words give and those of the old store.
+    Copy {
+        old: &'a str,
+        new: &'a str,
+        shape: ShapeOptions,
+    },
     /// To print what comes of two deltas.
-    Delta(Task<'a>),
+    Delta(DeltaCommand<'a>),
 }
 
 impl<'a> Invocation<'a> {
@@ -49,7 +65,7 @@ impl<'a> Invocation<'a> {
     pub fn parse<S: AsStr>(alloc: Global, words: &'a [S]) -> Result<Invocation<'a>, Error> {
         match words {
             [_, first, ..] if first.as_str() == "delta" => {
-                Ok(Invocation::Delta(task_in(alloc, &words[1..])?))
+                Ok(Invocation::Delta(command_in(alloc, &words[1..])?))
             }
             _ => Invocation::of_store(alloc, words),
         }
@@ -61,15 +77,29 @@ impl<'a> Invocation<'a> {
             Some(("format", given)) => Invocation::Format {
                 path: store::path_in(given),
                 shape: store::shape_in(given),
+                reserve: store::is_reserved(given),
             },
             Some(("serve", given)) => Invocation::Serve {
                 path: store::path_in(given),
-                listen: store::listen_in(given),
+                listening: store::listening_in(given),
                 every: store::every_in(given),
+                older: store::is_older(given),
+            },
+            Some(("info", given)) => Invocation::Info {
+                path: store::path_in(given),
+                documents: store::has_documents(given),
+            },
+            Some(("check", given)) => Invocation::Check {
+                path: store::path_in(given),
             },
             Some(("migrate", given)) => {
                 let (old, new) = store::files_in(given);
                 Invocation::Migrate { old, new }
+            }
+            Some(("copy", given)) => {
+                let (old, new) = store::files_in(given);
+                let shape = store::shape_in(given);
+                Invocation::Copy { old, new, shape }
             }
             Some((_, given)) => Invocation::Dump {
                 path: store::path_in(given),
@@ -109,12 +139,24 @@ fn richd<'a>(alloc: Global) -> Result<Command<'a>, AllocError> {
 fn with_subcommands<'a>(alloc: Global, richd: Command<'a>) -> Result<Command<'a>, AllocError> {
     let richd = richd.subcommand(store::format(alloc)?)?;
     let richd = richd.subcommand(store::serve(alloc)?)?;
-    let richd = richd.subcommand(store::dump(alloc)?)?;
-    let richd = richd.subcommand(store::migrate(alloc)?)?;
-    richd.subcommand(delta(alloc))
+    let richd = with_readers(alloc, richd)?;
+    with_movers(alloc, richd)?.subcommand(delta(alloc))
 }
 
-// For the help alone: its words are read by `task_in`.
+// The commands that only read a store.
+fn with_readers<'a>(alloc: Global, richd: Command<'a>) -> Result<Command<'a>, AllocError> {
+    let richd = richd.subcommand(store::dump(alloc)?)?;
+    let richd = richd.subcommand(store::info(alloc)?)?;
+    richd.subcommand(store::check(alloc)?)
+}
+
+// The commands that read one store and make another.
+fn with_movers<'a>(alloc: Global, richd: Command<'a>) -> Result<Command<'a>, AllocError> {
+    let richd = richd.subcommand(store::migrate(alloc)?)?;
+    richd.subcommand(store::copy(alloc)?)
+}
+
+// For the help alone: its words are read by `command_in`.
 fn delta<'a>(alloc: Global) -> Command<'a> {
     Command::new(alloc, "delta").about(
         "Composes, transforms, inverts or applies deltas: 'richd delta --help' tells more",

@@ -2,7 +2,7 @@
 //!
 //! `Invocation::parse` reads them, and answers what they ask for or the text for a user whose words can't be used, who
 //! asked for help, or who asked for the version. `given` takes the words from the system, or answers the text for a user one
-//! of whose words isn't UTF-8. Which words mean what is tested, and not proved. It stands on `clap`, and on `algebra` for the
+//! of whose words isn't UTF-8. `Lines` are two words that stand on lines of standard input in place of the command line. Which words mean what is tested, and not proved. It stands on `clap`, and on `algebra` for the
 //! tasks on deltas.
 //!
 //! A caller, which is proved to be safe as it stands. It has no other contract:
@@ -14,9 +14,10 @@
 //! /// The file that the words name. A command on deltas has none.
 //! pub fn file_in<'a>(alloc: Global, words: &'a [&'a str]) -> Result<Option<&'a str>, clap::Error> {
 //!     Ok(match Invocation::parse(alloc, words)? {
-//!         Invocation::Format { path, shape: _ } => Some(path),
+//!         Invocation::Format { path, .. } => Some(path),
 //!         Invocation::Serve { path, .. } | Invocation::Dump { path, older: _ } => Some(path),
-//!         Invocation::Migrate { old, new: _ } => Some(old),
+//!         Invocation::Info { path, documents: _ } | Invocation::Check { path } => Some(path),
+//!         Invocation::Migrate { old, .. } | Invocation::Copy { old, .. } => Some(old),
 //!         Invocation::Delta(_) => None,
 //!     })
 //! }
@@ -26,7 +27,10 @@
 mod arguments;
 mod deltas;
 mod invocation;
+mod lines;
 mod store;
 
-pub use invocation::{Invocation, given};
-pub use store::{DEFAULT_EVERY, ShapeOptions};
+pub use deltas::{DeltaCommand, Making};
+pub use invocation::{Invocation, VERSION, given};
+pub use lines::{Lines, LinesFault};
+pub use store::{DEFAULT_EVERY, Listening, ShapeOptions};

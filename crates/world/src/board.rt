@@ -1,6 +1,7 @@
 //! What stands behind the lock: the order of the commands that were taken, the state after them, and how far it is written.
-ghost use Rattle.std.specs.Prelude.{◌≡◌, ◌⊎◌, ◌+◌, ◌≤◌, [], true, Some, if◌then◌else◌, length, drop, IfOk, IfErr, IsErrOf, OnOk, OnErr};
+ghost use Rattle.std.specs.Prelude.{◌≡◌, ◌⊎◌, ◌+◌, ◌≤◌, [], true, Some, if◌then◌else◌, length, drop, IfOk, IfErr, IfSome, IsErrOf, OnOk, OnErr};
 ghost use Rattle.revision.specs.Acceptance.{answer, Refuses};
+ghost use Rattle.revision.specs.Moved.{IsMovedIn};
 ghost use Rattle.revision.specs.Planned.{may_want_memory};
 ghost use Rattle.world.specs.Board.{begun_board, submitted, ticket_of, can_take, taken_more, can_settle, settled_more, can_ack, reopened};
 ghost use Rattle.world.specs.World.{entry_of};
@@ -8,7 +9,7 @@ ghost use Rattle.world.specs.World.{entry_of};
 use crate::entry::{Entry, Noted};
 use crate::ticket::Ticket;
 use refusal::Refusal;
-use revision::{Command, Plan, Reply, State};
+use revision::{Command, MovedEdit, Plan, Reply, State};
 use std::alloc::Global;
 use std::marker::Model;
 use std::snapshot::Snapshot;
@@ -103,8 +104,26 @@ impl Board {
             → may_want_memory command.now.action (answer self.old.state command.now) ≡ true }
         ensures unchanged { OnErr result (self.new ≡ self.old) }
     {
+        self.submit_moved(alloc, command, None)
+    }
+
+    /// The same, by an edit that may have been moved on already, as `State::plan_moved` takes it.
+    pub fn submit_moved(
+        &mut self,
+        alloc: Global,
+        command: &Command,
+        moved: Option<&MovedEdit>,
+    ) -> Result<Ticket, Refusal>
+        requires moved { IfSome moved (λ m. IsMovedIn self.old.state m.now) }
+        ensures ok { OnOk result (self.new ≡ submitted (entry_of command.now) self.old command.now) }
+        ensures ticket { IfOk result (λ ticket. Some ticket ≡ ticket_of self.old command.now) }
+        ensures refused { IfErr result (λ e. (e ≡ Refusal.NoMemory) ⊎ (answer self.old.state command.now ≡ Refuses e)) }
+        ensures memory { IsErrOf result Refusal.NoMemory
+            → may_want_memory command.now.action (answer self.old.state command.now) ≡ true }
+        ensures unchanged { OnErr result (self.new ≡ self.old) }
+    {
         let ahead = self.order.len();
-        let taken = match self.state.plan(alloc, command) {
+        let taken = match self.state.plan_moved(alloc, command, moved) {
             Ok(Plan::Taken(taken)) => taken,
             Ok(Plan::Again { rev }) => return Ok(Ticket::new(command, Reply::Again { rev }, ahead)),
             Err(refusal) => return Err(refusal),

@@ -4,6 +4,7 @@ pub mod Between
 pub mod Places
 pub mod Heads
 pub mod Apart
+pub mod Leading
 pub mod Steps
 pub mod Partly
 pub mod CallerLemmas

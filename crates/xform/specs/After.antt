@@ -1,5 +1,5 @@
 -- A delta as it is after another delta of the same document (quill-delta's README, "transform()").
-use Rattle.std.specs.Prelude.{Bool, List, [], length, if◌then◌else◌}
+use Rattle.std.specs.Prelude.{Bool, true, List, [], ◌∷◌, length, if◌then◌else◌}
 use Rattle.attributes.specs.Attributes.{Changes, transformed}
 use Rattle.attributes.specs.Map.{empty}
 use Rattle.delta.specs.Element.{Element}
@@ -34,3 +34,8 @@ after (Gap xs f g) (Gap ys e h) priority = beside xs ys priority (left_of f e pr
 -- and as a list of operations, in normal form
 abbrev pub second_past : List Operation → List Operation → Bool → List Operation
 second_past first second priority = nf (after (counted first) (counted second) priority)
+
+-- and past several in turn, each with priority
+abbrev pub second_past_all : List (List Operation) → List Operation → List Operation
+second_past_all [] second = second
+second_past_all (first ∷ others) second = second_past_all others (second_past first second true)

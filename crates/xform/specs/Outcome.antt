@@ -1,5 +1,5 @@
 -- What transforming comes to: accepted, or refused. Memory may run out at any step.
-use Rattle.std.specs.Prelude.{Bool, List}
+use Rattle.std.specs.Prelude.{Bool, true, List, [], ◌∷◌}
 use Rattle.refusal.specs.declared.Refusal.{Refusal}
 use Rattle.refusal.specs.declared.Refusal.TheVariants.{BadOps, NoMemory}
 use Rattle.delta.specs.Operation.{Operation, IsBounded}
@@ -14,3 +14,13 @@ abbrev pub IsTransformRefused : List Operation → List Operation → Bool → R
 IsTransformRefused first second priority BadOps = ¬ (CanTransform first second priority)
 IsTransformRefused first second priority NoMemory = Unit {0}
 IsTransformRefused first second priority _ = ⊥
+
+-- past several in turn it stays within the bound each time
+abbrev pub CanPassAll : List (List Operation) → List Operation → Type 0
+CanPassAll [] second = Unit {0}
+CanPassAll (first ∷ others) second = CanTransform first second true × CanPassAll others (second_past first second true)
+
+abbrev pub IsPassRefused : List (List Operation) → List Operation → Refusal → Type 0
+IsPassRefused firsts second BadOps = ¬ (CanPassAll firsts second)
+IsPassRefused firsts second NoMemory = Unit {0}
+IsPassRefused firsts second _ = ⊥

@@ -46,6 +46,6 @@ mod position;
 mod stepping;
 mod transforming;
 
-pub use moving::move_past;
+pub use moving::{move_past, move_past_all};
 pub use position::transform_position;
 pub use transforming::transform;

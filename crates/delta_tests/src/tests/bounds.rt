@@ -6,7 +6,7 @@ use delta::{Builder, Delta, MAX_LEN, Op};
 use refusal::Refusal;
 use std::alloc::Global;
 use std::process::Abort;
-use xform::{move_past, transform};
+use xform::{move_past, move_past_all, transform};
 
 /// How many units are retained, whether in bold, the text that is inserted behind them, and how many units are deleted.
 type Edit = (u64, bool, &'static str, u64);
@@ -99,14 +99,17 @@ const COMPOSED: [Row; 3] = [
     ),
 ];
 
-// both from a borrowed delta and from one that is given away
+// from a borrowed delta, from one that is given away, and past a list of one
 fn transforms(rt: &impl Abort, alloc: Global, row: &Row) {
     let first = delta_of(alloc, &row.0).expect(rt, "first");
     let second = delta_of(alloc, &row.1).expect(rt, "second");
     let after = transform(alloc, &first, &second, true);
     assert_eq!(rt; told(alloc, after).expect(rt, "told").as_str(), row.2);
+    let copy = second.copy(alloc).expect(rt, "copy");
     let moved = move_past(alloc, &first, second);
     assert_eq!(rt; told(alloc, moved).expect(rt, "told").as_str(), row.2);
+    let past = move_past_all(alloc, &[first], copy);
+    assert_eq!(rt; told(alloc, past).expect(rt, "told").as_str(), row.2);
 }
 
 fn composes(rt: &impl Abort, alloc: Global, row: &Row) {

@@ -6,7 +6,7 @@ use optext::{read_json, read_ops};
 use refusal::Refusal;
 use std::alloc::Global;
 use std::test::Fail;
-use xform::move_past;
+use xform::{move_past, move_past_all, transform};
 
 fn delta_of(alloc: Global, ops: &str) -> Result<Delta, Refusal> {
     let value = read_json(alloc, ops.as_bytes())?;
@@ -76,6 +76,95 @@ fn a_shared_delta_is_moved(rt: HostRuntime) {
     let moved = move_past(rt.alloc(), &first, delta).expect(&rt, "moved");
     assert!(rt; moved.lead() == Some(5) && copy.lead() == Some(3));
     assert!(rt; copy == delta_of(rt.alloc(), LED).expect(&rt, "its own"));
+}
+
+/// Three deltas in turn, each made on the document after the one before it, a delta of the document before them all, and
+/// what it is after them.
+type Past = ([&'static str; 3], &'static str, &'static str);
+
+/// Inserts at the beginning move what stands behind them, and what is inserted there too; what ends before a change stays;
+/// and what stood within deleted units comes to where these stood.
+const PAST_THREE: [Past; 6] = [
+    (
+        [
+            "[{\"insert\":\"xy\"}]",
+            "[{\"insert\":\"xy\"}]",
+            "[{\"insert\":\"xy\"}]",
+        ],
+        LED,
+        "[{\"retain\":9},{\"insert\":\"a\"}]",
+    ),
+    (
+        [
+            "[{\"insert\":\"xy\"}]",
+            "[{\"insert\":\"xy\"}]",
+            "[{\"insert\":\"xy\"}]",
+        ],
+        "[{\"insert\":\"a\"}]",
+        "[{\"retain\":6},{\"insert\":\"a\"}]",
+    ),
+    (
+        ["[{\"delete\":1}]", "[{\"delete\":1}]", "[{\"delete\":1}]"],
+        LED,
+        "[{\"insert\":\"a\"}]",
+    ),
+    (
+        [
+            "[{\"insert\":\"xy\"}]",
+            "[{\"retain\":4},{\"delete\":2}]",
+            "[{\"insert\":\"b\"}]",
+        ],
+        LED,
+        "[{\"retain\":5},{\"insert\":\"a\"}]",
+    ),
+    (
+        [
+            "[{\"retain\":9},{\"insert\":\"z\"}]",
+            "[{\"insert\":\"b\"}]",
+            "[{\"retain\":9},{\"delete\":1}]",
+        ],
+        LED,
+        "[{\"retain\":4},{\"insert\":\"a\"}]",
+    ),
+    (
+        [
+            "[{\"insert\":\"x\"}]",
+            "[{\"delete\":1}]",
+            "[{\"insert\":\"xy\"}]",
+        ],
+        "[{\"attributes\":{\"bold\":true},\"retain\":1}]",
+        "[{\"retain\":2},{\"attributes\":{\"bold\":true},\"retain\":1}]",
+    ),
+];
+
+fn deltas_of(alloc: Global, texts: &[&str]) -> Result<Vec<Delta>, Refusal> {
+    let mut deltas = Vec::new(alloc);
+    for text in texts {
+        deltas.push(delta_of(alloc, text)?)?;
+    }
+    Ok(deltas)
+}
+
+fn transformed_in_turn(alloc: Global, firsts: &[Delta], second: Delta) -> Result<Delta, Refusal> {
+    let mut after = second;
+    for first in firsts {
+        after = transform(alloc, first, &after, true)?;
+    }
+    Ok(after)
+}
+
+#[test]
+fn a_delta_is_moved_past_many(rt: HostRuntime) {
+    for (firsts, second, after) in &PAST_THREE {
+        let firsts = deltas_of(rt.alloc(), firsts).expect(&rt, "firsts");
+        let after = delta_of(rt.alloc(), after).expect(&rt, "after");
+        let one = delta_of(rt.alloc(), second).expect(&rt, "second");
+        assert!(rt; move_past_all(rt.alloc(), &firsts, one).expect(&rt, "moved") == after);
+        let other = delta_of(rt.alloc(), second).expect(&rt, "second");
+        assert!(rt;
+            transformed_in_turn(rt.alloc(), &firsts, other).expect(&rt, "in turn") == after
+        );
+    }
 }
 
 #[test]

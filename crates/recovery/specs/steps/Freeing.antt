@@ -1,32 +1,30 @@
 -- Making room in a full journal: the steps on the way to where nothing needs the oldest segment.
-use Rattle.std.specs.Prelude.{◌≡◌, ◌≢◌, ◌⊎◌, ℕ, ◌≤◌, Option, List, [], slice_get}
+use Rattle.std.specs.Prelude.{◌≡◌, ◌≢◌, ◌⊎◌, ℕ, ◌+◌, ◌≤◌, ◌<◌, nat_lt, true, Option, List, [], length, take, get_or, filter, slice_get}
 use Rattle.disk.specs.declared.device.Disk.{Ghosts}
 use Rattle.revision.specs.State.{State, newest_revision}
 use Rattle.history.specs.Cell.{Pair, cells_at}
 use Rattle.segments.specs.Slot.{Segment}
 use Rattle.segments.specs.Table.{IsRetired}
+use Rattle.recovery.specs.declared.group.Member.{Member}
 use Rattle.recovery.specs.declared.marks.Mark.{Mark}
 use Rattle.recovery.specs.declared.store.Store.{Store}
 use Rattle.recovery.specs.Jobs.{jobs_for}
 use Rattle.recovery.specs.Marked.{MayRetire}
 use Rattle.recovery.specs.Marks.{greatest_marked}
-use Rattle.recovery.specs.Open.{IsOpen, IsHalfRaised, AreBothNewest, state_of, ring_of, known_marks, kept_jobs}
+use Rattle.recovery.specs.Open.{IsOpen, IsLeft, IsRaised, AreBothNewest, state_of, ring_of, known_marks, kept_jobs}
+use Rattle.recovery.specs.steps.Group.{is_in, IsGroup}
 
 -- the newest revision of a document, by its number
 abbrev pub reached_in : State → ℕ → ℕ
 reached_in state document = newest_revision (slice_get state.documents document)
 
--- a mark is of another segment, or the document has reached it
-abbrev pub MayReach : ℕ → Mark → State → Type 0
-MayReach segment mark state = mark.segment ≡ segment → mark.revision ≤ reached_in state mark.document
+-- A table has for each document the greatest revision that is marked of it, 0 where none is. So many documents are marked there.
+abbrev pub count_marked : List ℕ → ℕ
+count_marked marked = length (filter (nat_lt 0) marked)
 
--- a mark says nothing of a segment: it is one of another, or of no revision
-abbrev pub IsMarkElsewhere : ℕ → Mark → Type 0
-IsMarkElsewhere segment mark = (mark.segment ≢ segment) ⊎ (mark.revision ≡ 0)
-
--- it is one of the segment
-abbrev pub IsMarkOf : ℕ → Mark → Type 0
-IsMarkOf segment mark = (mark.segment ≡ segment) × (1 ≤ mark.revision)
+-- each document has reached what is marked of it
+abbrev pub AreReached : List ℕ → State → Type 0
+AreReached marked state = (document : ℕ) → get_or marked document 0 ≤ reached_in state document
 
 module _ {D : Type 0} {disk : Ghosts D} where
   -- the documents stay, and so do the segments and what is known of them
@@ -35,21 +33,34 @@ module _ {D : Type 0} {disk : Ghosts D} where
     pub ring : ring_of new ≡ ring_of old
     pub marks : known_marks new ≡ known_marks old
 
-  -- The store goes on over the same slots, and P says what has become of the cells of one document. Those of the others are unchanged.
-  pub record IsPutOf (document : ℕ) (P : Pair → Type 0) (old : Store D disk) (is_open : IsOpen old) (new : Store D disk) : Type 0 where
+  -- The members are the newest milestones of the marked documents from one number up to another.
+  pub record IsGathered (marked : List ℕ) (from end : ℕ) (members : List Member) (store : Store D disk) : Type 0 where
+    pub group : IsGroup members store
+    pub each : (document : ℕ) → from ≤ document → document < end → 1 ≤ get_or marked document 0 → is_in members document ≡ true
+    pub only : (document : ℕ) → is_in members document ≡ true → (from ≤ document) × (document < end) × (1 ≤ get_or marked document 0)
+    pub count : count_marked (take from marked) + length members ≡ count_marked (take end marked)
+
+  -- The marked documents of numbers below a bound are covered: the store goes on over the same slots, and both cells of each of them hold it at its
+  -- newest revision, and no job of it is kept. The other documents are left unchanged.
+  pub record AreCoveredTo (bound : ℕ) (marked : ℕ → ℕ) (old : Store D disk) (is_open : IsOpen old) (new : Store D disk) : Type 0 where
     pub goes_on : IsOpen new
     pub same_table : goes_on.table ≡ is_open.table
-    pub others : (number : ℕ) → number ≢ document → cells_at goes_on.cells number ≡ cells_at is_open.cells number
-    pub own : P (cells_at goes_on.cells document)
+    pub spared : (document : ℕ) → (bound ≤ document) ⊎ (marked document ≡ 0) → IsLeft old is_open new goes_on document
+    pub raised : (document : ℕ) → document < bound → 1 ≤ marked document → IsRaised old new goes_on document
 
-  -- Milestones of one document were given up: the store goes on over the same slots, and the cells of the others are unchanged.
-  pub record IsHalfPut (document : ℕ) (old : Store D disk) (is_open : IsOpen old) (new : Store D disk) : Type 0 where
+  -- It was given up: the store goes on over the same slots. One marked document has its cells unchanged, and no kept job. Each other one is left
+  -- unchanged, or has both its milestones; and those that aren't marked are left unchanged.
+  pub record IsHalfCovered (marked : ℕ → ℕ) (old : Store D disk) (is_open : IsOpen old) (new : Store D disk) : Type 0 where
     pub goes_on : IsOpen new
     pub same_table : goes_on.table ≡ is_open.table
-    pub others : (number : ℕ) → number ≢ document → cells_at goes_on.cells number ≡ cells_at is_open.cells number
-    pub own : IsHalfRaised (state_of old) document (cells_at is_open.cells document) (cells_at goes_on.cells document)
+    pub spared : (document : ℕ) → marked document ≡ 0 → IsLeft old is_open new goes_on document
+    pub under_way : ℕ
+    pub needs : 1 ≤ marked under_way
+    pub own : cells_at goes_on.cells under_way ≡ cells_at is_open.cells under_way
+    pub dropped : jobs_for under_way (kept_jobs new) ≡ []
+    pub others : (document : ℕ) → document ≢ under_way → 1 ≤ marked document → IsLeft old is_open new goes_on document ⊎ IsRaised old new goes_on document
 
-  -- The documents of these marks of a segment are covered: the store goes on over the same slots. The cells of a document without a mark are as
+  -- The documents of the marks of a segment are covered: the store goes on over the same slots. The cells of a document without a mark are as
   -- they were, and so are its kept jobs; both cells of each other document hold it at its newest revision, and no job of it is kept.
   pub record AreCovered (segment : ℕ) (marks : List Mark) (old : Store D disk) (is_open : IsOpen old) (new : Store D disk) : Type 0 where
     pub goes_on : IsOpen new

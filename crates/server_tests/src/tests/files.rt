@@ -75,6 +75,38 @@ fn a_document_is_made_and_printed(rt: HostRuntime) {
     remove(&rt, path);
 }
 
+#[test]
+fn a_file_that_is_written_whole_holds_the_same(rt: HostRuntime) {
+    let (plain, whole) = (path(&rt, "plain"), path(&rt, "whole"));
+    let (plain, whole) = (plain.expect(&rt, "a path"), whole.expect(&rt, "a path"));
+    let words = [
+        "richd",
+        "format",
+        plain.as_str(),
+        "--docs",
+        "2",
+        "--cell",
+        "256",
+    ];
+    runs(&rt, &words, &mut io::empty(), (0, "", ""));
+    let words = [
+        "richd",
+        "format",
+        whole.as_str(),
+        "--docs",
+        "2",
+        "--cell",
+        "256",
+        "--reserve",
+    ];
+    runs(&rt, &words, &mut io::empty(), (0, "", ""));
+    let bytes = fs::read(&rt, plain.as_str()).expect(&rt, "the file");
+    let others = fs::read(&rt, whole.as_str()).expect(&rt, "the file");
+    assert!(&rt; bytes.as_slice() == others.as_slice());
+    remove(&rt, plain.as_str());
+    remove(&rt, whole.as_str());
+}
+
 fn slot_is_written<R: Files<File = File> + AllocGlobal + Abort>(rt: &R, path: &str) {
     let bytes = fs::read(rt, path).expect(rt, "the file");
     assert_eq!(rt; bytes.len(), 1600);

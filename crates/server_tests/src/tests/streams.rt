@@ -1,5 +1,5 @@
 use super::{CREATE, HELLO, format_small, path, remove};
-use server::run;
+use server::{Patient, run};
 use std::fs::File;
 use std::io::{self, ErrorKind, Read, Write};
 use std::net::{Net, TcpListener, TcpStream};
@@ -154,4 +154,27 @@ fn each_reply_is_sent_on_before_the_next_line(rt: HostRuntime) {
     format_small(&rt, path.as_str());
     sends_on(&rt, path.as_str());
     remove(&rt, path.as_str());
+}
+
+/// Writes to a stream until it takes no more, which comes within so many pieces.
+fn is_filled<W: Write>(stream: &mut W, pieces: usize) -> bool {
+    for _ in 0..pieces {
+        if stream.write_all(&[b'x'; 4096]).is_err() {
+            return true;
+        }
+    }
+    false
+}
+
+#[test]
+fn a_stream_without_room_is_not_waited_for(rt: HostRuntime) {
+    let (mut reader, writer) = io::pipe(&rt).expect(&rt, "a pipe");
+    let mut stream = Patient::new(&rt, writer);
+    assert!(&rt; is_filled(&mut stream, 1_000));
+    assert!(&rt; stream.write_all(b"y").is_err());
+    let mut taken = [0; 8192];
+    assert!(&rt; reader.read(&mut taken).expect(&rt, "what was written") > 0);
+    assert!(&rt; stream.write_all(b"y").is_ok());
+    drop(reader);
+    assert!(&rt; stream.write_all(b"y").is_err());
 }

@@ -6,7 +6,7 @@ use std::io;
 use words::given;
 
 /// Words that can't be used, and what the errors name.
-const FAULTS: [(&str, &str); 13] = [
+const FAULTS: [(&str, &str); 25] = [
     ("richd", "--help"),
     ("richd serve", "--help"),
     ("richd format p --docs 4294967296", "--help"),
@@ -14,6 +14,18 @@ const FAULTS: [(&str, &str); 13] = [
     ("richd serve p --every 0", "--every"),
     ("richd serve p --every 65537", "--every"),
     ("richd dump p --pick best", "--help"),
+    ("richd serve p --pick best", "--help"),
+    ("richd serve p --idle 5", "--listen"),
+    ("richd serve p --exit-on-failure", "--listen"),
+    ("richd serve p --log", "--listen"),
+    ("richd serve p --listen a --stats 1", "--log"),
+    ("richd serve p --listen a --idle 86401", "--idle"),
+    ("richd serve p --listen a --log --stats x", "--stats"),
+    ("richd copy p q --reserve", "Usage: richd copy"),
+    ("richd delta compose x --stdin", "Usage: richd delta"),
+    ("richd delta compose --stdin now", "Usage: richd delta"),
+    ("richd info", "Usage: richd info"),
+    ("richd check p --documents", "Usage: richd check"),
     ("richd delta", "Usage: richd delta"),
     ("richd delta merge x y", "Usage: richd delta"),
     ("richd delta compose x", "Usage: richd delta"),
@@ -23,13 +35,20 @@ const FAULTS: [(&str, &str); 13] = [
 ];
 
 /// Words that ask for help, and what it names.
-const HELP: [(&str, &str); 3] = [
+const HELP: [(&str, &str); 7] = [
     ("richd --help", "Usage: richd <COMMAND>"),
+    (
+        "richd copy --help",
+        "Usage: richd copy [OPTIONS] <OLD> <NEW>",
+    ),
     ("richd delta --help", "Usage: richd delta <COMMAND>"),
     (
         "richd delta transform --help",
-        "Usage: richd delta transform [OPTIONS] <A> <B>",
+        "Usage: richd delta transform [OPTIONS] [A] [B]",
     ),
+    ("richd serve --help", "--exit-on-failure"),
+    ("richd serve --help", "--stats <SECONDS>"),
+    ("richd format --help", "--reserve"),
 ];
 
 #[test]

@@ -50,7 +50,7 @@ pub fn greeted_all<R: Abort + AllocGlobal + Net<Stream = TcpStream>>(
 }
 
 /// Within a while a new connection is served.
-fn comes_free<R: Abort + Clock + Net<Stream = TcpStream>>(rt: &R, address: SocketAddr) {
+pub fn comes_free<R: Abort + Clock + Net<Stream = TcpStream>>(rt: &R, address: SocketAddr) {
     for _ in 0..TRIES {
         if is_served(rt, address) {
             return;

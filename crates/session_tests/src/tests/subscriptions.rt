@@ -80,6 +80,78 @@ const ENDED: [Row; 6] = [
     (Step::News, &[]),
 ];
 
+/// A name has none of the characters that need an escape, and each reply has it as it is.
+const NAMED: [Row; 11] = [
+    (
+        Step::Say(
+            r#"{"do":"create","doc":"ABCDEFGHIJKLMNOPQRSTUVWXYZabcdefghijklmnopqrstuvwxyz0123456789._","n":1,"ops":[{"insert":"z"}]}"#,
+        ),
+        &[
+            r#"{"doc":"ABCDEFGHIJKLMNOPQRSTUVWXYZabcdefghijklmnopqrstuvwxyz0123456789._","n":1,"ok":"taken","rev":1}"#,
+        ],
+    ),
+    (
+        Step::Say(
+            r#"{"do":"create","doc":"ABCDEFGHIJKLMNOPQRSTUVWXYZabcdefghijklmnopqrstuvwxyz0123456789._","n":1,"ops":[{"insert":"z"}]}"#,
+        ),
+        &[
+            r#"{"doc":"ABCDEFGHIJKLMNOPQRSTUVWXYZabcdefghijklmnopqrstuvwxyz0123456789._","n":1,"ok":"again","rev":1}"#,
+        ],
+    ),
+    (
+        Step::Say(r#"{"do":"create","doc":"-","n":1,"ops":[{"insert":"z"}]}"#),
+        &[r#"{"doc":"-","n":1,"ok":"taken","rev":1}"#],
+    ),
+    (
+        Step::Say(
+            r#"{"do":"subscribe","doc":"ABCDEFGHIJKLMNOPQRSTUVWXYZabcdefghijklmnopqrstuvwxyz0123456789._","rev":0}"#,
+        ),
+        &[
+            r#"{"doc":"ABCDEFGHIJKLMNOPQRSTUVWXYZabcdefghijklmnopqrstuvwxyz0123456789._","ok":"subscribed","rev":0}"#,
+        ],
+    ),
+    (
+        Step::News,
+        &[
+            r#"{"doc":"ABCDEFGHIJKLMNOPQRSTUVWXYZabcdefghijklmnopqrstuvwxyz0123456789._","news":1,"ops":[{"insert":"z"}]}"#,
+        ],
+    ),
+    (
+        Step::Say(
+            r#"{"do":"delete","doc":"ABCDEFGHIJKLMNOPQRSTUVWXYZabcdefghijklmnopqrstuvwxyz0123456789._","n":2}"#,
+        ),
+        &[
+            r#"{"doc":"ABCDEFGHIJKLMNOPQRSTUVWXYZabcdefghijklmnopqrstuvwxyz0123456789._","n":2,"ok":"taken","rev":2}"#,
+        ],
+    ),
+    (
+        Step::News,
+        &[
+            r#"{"doc":"ABCDEFGHIJKLMNOPQRSTUVWXYZabcdefghijklmnopqrstuvwxyz0123456789._","ended":13}"#,
+        ],
+    ),
+    (
+        Step::Say(
+            r#"{"do":"unsubscribe","doc":"ABCDEFGHIJKLMNOPQRSTUVWXYZabcdefghijklmnopqrstuvwxyz0123456789._"}"#,
+        ),
+        &[
+            r#"{"doc":"ABCDEFGHIJKLMNOPQRSTUVWXYZabcdefghijklmnopqrstuvwxyz0123456789._","ok":"unsubscribed"}"#,
+        ],
+    ),
+    (
+        Step::Say(r#"{"do":"create","doc":"a\"b","n":1,"ops":[{"insert":"z"}]}"#),
+        &[r#"{"code":8,"error":"BadName"}"#],
+    ),
+    (
+        Step::Say(r#"{"do":"create","doc":"a\\b","n":1,"ops":[{"insert":"z"}]}"#),
+        &[r#"{"code":8,"error":"BadName"}"#],
+    ),
+    (
+        Step::Say(r#"{"do":"create","doc":"\u001f","n":1,"ops":[{"insert":"z"}]}"#),
+        &[r#"{"code":8,"error":"BadName"}"#],
+    ),
+];
+
 /// A deletion ends a subscription, whether it is the next revision or a later one, and one that follows the document created again begins
 /// there.
 const DELETED: [Row; 14] = [
@@ -242,4 +314,10 @@ fn a_deletion_ends_a_subscription(rt: HostRuntime) {
 fn several_documents_are_followed(rt: HostRuntime) {
     are_followed(&rt, &SEVERAL, 65_536);
     are_followed(&rt, &SEVERAL, 1);
+}
+
+#[test]
+fn a_name_is_replied_as_it_is(rt: HostRuntime) {
+    are_followed(&rt, &NAMED, 65_536);
+    are_followed(&rt, &NAMED, 1);
 }

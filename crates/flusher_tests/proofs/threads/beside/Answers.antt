@@ -1,6 +1,6 @@
 use denote.Param.Send.{sendable}
 use Rattle.std.proofs.Crossing.{crosses}
-use Rattle.flusher_tests.proofs.Crossing.{seat_send, closer_send, hub_sync}
+use Rattle.hub.proofs.CallerLemmas.{seat_send, closer_send, hub_sync}
 use Rattle.flusher_tests.proofs.threads.beside.Goals as goal
 
 pub join-held-requires-send-F : goal.join-held-requires-send-F

@@ -1,6 +1,6 @@
 use denote.Param.Send.{sendable}
 use Rattle.std.proofs.Crossing.{crosses}
-use Rattle.hub_tests.proofs.Crossing.{seat_send, closer_send, hub_sync}
+use Rattle.hub.proofs.CallerLemmas.{seat_send, closer_send, hub_sync}
 use Rattle.hub_tests.proofs.threads.both.Goals as goal
 
 pub join-requires-send-F : goal.join-requires-send-F

@@ -1,5 +1,5 @@
 //! Reading of deltas.
-ghost use Rattle.std.specs.Prelude.{◌≡◌, ◌++◌, ℕ, List, IfOk, IfSome, IfNone};
+ghost use Rattle.std.specs.Prelude.{◌≡◌, ◌++◌, ℕ, List, IfOk, IfSome, IfNone, IsOkUnless};
 ghost use Rattle.delta.specs.Operation.{Operation};
 ghost use Rattle.journal.specs.DeltaSpelling as spelling;
 ghost use Rattle.revision.specs.Spellable.{IsSpellable};
@@ -43,6 +43,17 @@ fn delta_in(alloc: Global, bytes: &[u8]) -> Result<(Delta, &[u8]), Unread>
 {
     let (count, rest) = number32(bytes)?;
     let (ops, rest) = operations(alloc, count, rest)?;
-    let delta = delta_of_ops(ops)?;
+    let delta = shared(alloc, delta_of_ops(ops)?)?;
     Ok((delta, rest))
+}
+
+// An equal delta, whose copies share its operations: a state that is opened is copied for those who order and who read.
+fn shared(alloc: Global, delta: Delta) -> Result<Delta, Unread>
+    ensures same { IfOk result (λ shared. shared ≡ delta) }
+    ensures only { IsOkUnless result Unread.NoMemory }
+{
+    match delta.share(alloc) {
+        Ok(shared) => Ok(shared),
+        Err(_) => Err(Unread::NoMemory),
+    }
 }

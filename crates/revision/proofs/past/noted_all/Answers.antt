@@ -14,9 +14,9 @@ loop-i-preserved c =
     let taker = c.index-takers-i.result in
     let later : c.args.start + (i + 1) ≡ c.args.start + i + 1 = omega arith in
     let rest = drop (i + 1) (changes_by takers deltas) in
-    ap (λ n. sources_after n c.note.new.self rest) later
+    ap (λ n. sources_after n c.take.new.self rest) later
     ∙ (ap (λ (s : Sources). sources_after (c.args.start + i + 1) s rest)
-    c.in_ok-note.ensures.ok
+    c.in_ok-take.ensures.ok
     ∙ (noted-here c.args.start i c.loop-i.noted takers deltas taker c.requires.same c.loop-i-test.true c.index-takers-i.is ∙ c.loop-i.invariant))
 
 pub returns-clause-sources : goal.returns-clause-sources

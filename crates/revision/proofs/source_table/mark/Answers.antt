@@ -11,4 +11,4 @@ returns-in_ok-push-clause-ok c =
 pub returns-else-is_same-clause-ok : goal.returns-else-is_same-clause-ok
 returns-else-is_same-clause-ok c =
     but-there c.args.source.now c.args.changed.now.items c.args.accepted.now c.args.ahead.now c.requires
-    (λ same. false≢true (c.if-is_same.ensures.1 (c.find_near.ensures.window ∙ (same ∙ sym c.find_near-2.ensures.window))))
+    (λ same. false≢true (c.if-is_same.ensures.1 (c.see_near.ensures.window ∙ (same ∙ sym c.see_near-2.ensures.window))))

@@ -1,6 +1,6 @@
 use denote.Exit.{yes}
 use denote.Param.Send.{param_send, arg_send}
-use Rattle.server.proofs.Crossing.{device_send}
+use Rattle.disk.proofs.Crossing.{device_send}
 use Rattle.server.proofs.program.listen.Goals as goal
 
 -- the store's device goes to the thread that writes

@@ -1,11 +1,10 @@
-use Rattle.std.proofs.Common.{◌≡◌, refl}
-use Rattle.std.proofs.Common.{rules}
-use Rattle.std.proofs.lemmas.Result.{IfOk-weaker}
-use Rattle.serde_json.specs.View.{view}
-use Rattle.session.specs.Reply as spec
+use Rattle.std.proofs.Common.{ap₂, ◌∙◌}
+use Rattle.session.specs.Reply.{acknowledgement, line_of}
+use Rattle.session.proofs.Spelled.{spells_acknowledgement}
 use Rattle.session.proofs.reply.acknowledgement.Goals as goal
 
 pub returns : goal.returns
 returns c =
-    let built : view c.in_ok-value.value ≡ spec.acknowledgement c.args.command.now.name c.args.command.now.number c.args.reply = search rules in
-    IfOk-weaker c.line_of.result _ _ (λ text h. h refl) (rw built at c.line_of.ensures)
+    spells_acknowledgement c.name.result.now _ c.number.result _ c.args.reply _ _ _ _ c.in_ok-text.ensures.named c.kind.ensures c.rev.ensures
+    c.in_ok-text.ensures.begun c.in_ok-push_number.ensures c.in_ok-push_word.ensures c.in_ok-end_with_number.ensures
+    ∙ ap₂ (λ doc n. line_of (acknowledgement doc n c.args.reply)) c.name.ensures c.number.ensures.number

@@ -1,5 +1,5 @@
 use Rattle.std.proofs.Common.{◌≡◌, IfOk, sym, subst}
-use Rattle.std.specs.String.{string_bytes}
+use Rattle.session.specs.steps.DueText.{due_text}
 use Rattle.revision.specs.State.{State}
 use Rattle.session.specs.Reads.{read_line}
 use Rattle.session.specs.Shelf.{Fits, IsGivenLook}
@@ -15,7 +15,7 @@ returns-clause-told g c =
       shown.0,
       shown.1,
       read_weaker _ _ shown.0 c.view.result now shown.2 shown.3 (λ answer gave.
-          subst (λ (s : State). IfOk answer.reply (λ text. string_bytes text ≡ read_line c.args.name.now c.args.question s)) gave.2
+          subst (λ (s : State). IfOk answer.reply (λ due. due_text due ≡ read_line c.args.name.now c.args.question s)) gave.2
           (gave.1.0 (subst (λ (s : State). Fits s c.args.shelf.now) (sym gave.2) fits))),
     )
 

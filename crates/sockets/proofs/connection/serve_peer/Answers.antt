@@ -7,10 +7,6 @@ returns-then-not-is_ready g c = served_nobody g.K.Desk.does c.args.desk.now
 pub returns-in_default : goal.returns-in_default
 returns-in_default g c = served_nobody g.K.Desk.does c.args.desk.now
 
-pub returns-then-is_err : goal.returns-then-is_err
-returns-then-is_err g c =
-    served_one g.K.Desk.does c.converse.result c.args.desk.now c.converse.new.desk _ _ _ _ c.converse.ensures.answered c.converse.ensures.stopped
-
 pub returns : goal.returns
 returns g c =
     served_one g.K.Desk.does c.converse.result c.args.desk.now c.converse.new.desk _ _ _ _ c.converse.ensures.answered c.converse.ensures.stopped

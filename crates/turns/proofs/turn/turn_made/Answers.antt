@@ -1,4 +1,4 @@
-use Rattle.std.proofs.Common.{◌∙◌, ap}
+use Rattle.std.proofs.Common.{◌∙◌, ap, arith}
 use Rattle.recovery.specs.Open.{has_failed}
 use Rattle.flusher.specs.Holding.{store_of}
 use Rattle.turns.proofs.Writing.{kept_up_same, writes_kept_up, writes_on, works_after, fails_ok, fails_err, fails_not, held_not_fault, turn_apart, turned_after, causes_after}
@@ -76,7 +76,7 @@ returns-in-None-clause-turned g c =
     turned_after c.write_held.result c.args.flusher.now c.hold_next.new.flusher c.write_held.new.flusher (c.hold_next.ensures.told ∙ c.keep_up.ensures.keeps.told) c.write_held.ensures.turned
 
 pub write_held-requires : goal.write_held-requires
-write_held-requires g c = record { held = rw c.in-None.is at c.in-Ok.ensures.held }
+write_held-requires g c = (omega arith, rw c.in-None.is at c.in-Ok.ensures.held)
 
 pub returns-in-None-clause-fails : goal.returns-in-None-clause-fails
 returns-in-None-clause-fails g c worked =

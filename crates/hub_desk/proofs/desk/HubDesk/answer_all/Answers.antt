@@ -1,7 +1,7 @@
 use Rattle.std.proofs.Common.{◌≡◌, ◌<◌, ◌∙◌, List, length, take, sym, ap, subst, rules}
 use Rattle.revision.specs.Command.{Command}
 use Rattle.hub_desk.specs.AtHub.{Desk}
-use Rattle.hub_desk.specs.Tickets.{AreOf}
+use Rattle.hub.specs.Submitted.{AreOf}
 use Rattle.hub_desk.proofs.Tickets.{answered_more, asked_whole, commands_same, take_whole}
 use Rattle.hub_desk.proofs.desk.HubDesk.answer_all.Goals as goal
 

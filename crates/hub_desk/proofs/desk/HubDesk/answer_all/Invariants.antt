@@ -2,7 +2,8 @@ use Rattle.std.proofs.Common.{◌≡◌, ℕ, take}
 use Rattle.session.specs.Replies.{Asks}
 use Rattle.session.specs.Ahead.{commands_of, exchanges_of}
 use Rattle.hub_desk.specs.AtHub.{PassesAtHub}
-use Rattle.hub_desk.specs.Tickets.{counted_all, with_count}
+use Rattle.hub.specs.Submitted.{counted_all}
+use Rattle.hub_desk.specs.Tickets.{with_count}
 use Rattle.hub_desk.proofs.desk.HubDesk.answer_all.Given as goal
 
 -- the commands so far were answered by their submissions

@@ -1,143 +1,130 @@
-use Rattle.std.proofs.Common.{◌≡◌, ◌<◌, ◌+◌, List, length, take, get_or, refl, sym, ap, subst, arith}
+use Rattle.std.proofs.Common.{◌≡◌, ◌≢◌, ◌⊎◌, inl, inr, ℕ, ◌≤◌, ◌<◌, ◌+◌, ◌*◌, List, length, get_or, refl, sym, ◌∙◌, ap, subst, arith, rules}
 use Rattle.std.specs.Prelude.{Ok, Err}
-use Rattle.std.proofs.lemmas.List.{take_all}
-use Rattle.refusal.specs.declared.Refusal.TheVariants.{Fault}
-use Rattle.recovery.specs.declared.marks.Mark.{Mark}
-use Rattle.recovery.specs.Marks.{marks_of}
-use Rattle.recovery.specs.Open.{IsOpen, device_of, kept_jobs, state_of}
-use Rattle.recovery.specs.steps.Freeing.{MayReach, AreCovered}
-use Rattle.recovery.proofs.Going.{goes_nowhere, goes_same}
-use Rattle.recovery.proofs.Faults.{faults_none, faults_on, faults_ok}
-use Rattle.recovery.proofs.Raising.{keeps_on, may_reach}
+use Rattle.std.proofs.lemmas.List.{get_or_past}
+use Rattle.refusal.specs.declared.Refusal.{Refusal}
+use Rattle.refusal.specs.declared.Refusal.TheVariants.{StillNeeded, NoMemory, Fault}
+use Rattle.milestone.specs.Job.{Job}
+use Rattle.recovery.specs.Marks.{greatest_marked, within_segment}
+use Rattle.recovery.specs.Open.{IsOpen, IsHalfFreed, device_of, kept_jobs, known_marks, state_of}
+use Rattle.recovery.specs.steps.Freeing.{IsHalfCovered, count_marked}
+use Rattle.recovery.proofs.CoveredDocuments.{covered_none, half_covered, half_freed, all_covered, table_all, jobs_without, fewer_marks, err_map, memory_needs}
+use Rattle.recovery.proofs.Faults.{faults_none, faults_but_jobs, goes_but_jobs}
+use Rattle.recovery.proofs.Gathered.{told_fault}
+use Rattle.recovery.proofs.Going.{goes_nowhere}
+use Rattle.recovery.proofs.OneRound.{if_ok}
+use Rattle.recovery.proofs.OtherJobs.{fewer_without}
+use Rattle.recovery.proofs.Reaching.{marks_reached}
 use Rattle.recovery.proofs.Refusals.{ok≢err}
-use Rattle.recovery.proofs.Covering.{none_covered, covered_more, half_freed, calls_more, calls_all}
-use Rattle.recovery.proofs.SparedJobs.{spared_same, spared_more, no_more_kept}
 use Rattle.recovery.proofs.store.Store.cover_segment.Goals as goal
 
-pub loop-place-init : goal.loop-place-init
-loop-place-init g c = record {
-  faults = faults_none c.args.self.now (Ok tt) c.requires.working (ok≢err tt Fault);
-  keeps = record { state = refl; ring = refl; marks = refl };
-  goes = goes_nowhere c.args.self.now;
-  covered = none_covered c.args.segment c.args.self.now;
-  calls = omega arith;
-  calls_by_marks = omega arith;
-  jobs = λ is_open. spared_same c.args.segment c.args.self.now c.args.self.now refl;
-  few_jobs = omega arith;
-}
+-- no document is marked
+pub returns-in_default-clause-covered : goal.returns-in_default-clause-covered
+returns-in_default-clause-covered g c is_open =
+    let store = c.args.self.now in
+    let none : (n : ℕ) → greatest_marked c.args.segment n (known_marks store) ≡ 0 = search rules in
+    all_covered store store is_open c.args.segment (λ n. 0) (λ n. sym (none n)) 0 (λ n past. refl) (covered_none (λ n. 0) store is_open)
 
--- the mark at the place
-pub mark_at-mark-requires : goal.mark_at-mark-requires
-mark_at-mark-requires g c = omega (arith, c.loop-place-test.true, c.mark_count-place-end.ensures, ap (λ (l : List Mark). length l) c.loop-place.invariant.keeps.marks)
+pub returns-in_default-clause-goes : goal.returns-in_default-clause-goes
+returns-in_default-clause-goes g c = goes_nowhere c.args.self.now
 
-pub loop-place-preserved : goal.loop-place-preserved
-loop-place-preserved g c =
-    let start = c.args.self.now in
-    let store = c.loop-place.self in
-    let new = c.cover_mark.new.self in
-    let mark = c.mark_at-mark.result in
-    let place = c.loop-place.place in
-    let before = c.loop-place.invariant in
-    let inside : place < length (marks_of start.marks) = omega (arith, c.loop-place-test.true, c.mark_count-place-end.ensures) in
-    let is : get_or (marks_of start.marks) place mark ≡ mark = subst (λ (l : List Mark). get_or l place mark ≡ mark) before.keeps.marks c.mark_at-mark.ensures in
-    record {
-      faults = faults_on tt (Ok tt) before.faults (faults_ok c.in_default.field-0 tt c.in_default.ensures.faults);
-      keeps = keeps_on before.keeps c.cover_mark.ensures.keeps;
-      goes = goes_same before.keeps.state before.goes c.cover_mark.ensures.goes;
-      covered = λ is_open.
-          covered_more c.args.segment place mark start store is_open inside is (before.covered is_open) new before.keeps.state c.cover_mark.ensures.elsewhere
-          (λ of. c.in_default.ensures.covered of (before.covered is_open).goes_on) c.cover_mark.ensures.dropped;
-      calls = calls_more c.args.segment place (length (g.D.Disk.past (device_of store))) (length (g.D.Disk.past (device_of new))) (length (g.D.Disk.past (device_of start)))
-          (marks_of start.marks) mark inside is before.calls c.cover_mark.ensures.calls
-          (λ away. ap (λ s. length (g.D.Disk.past (device_of s))) (c.cover_mark.ensures.elsewhere away));
-      calls_by_marks = omega (arith, before.calls_by_marks, c.cover_mark.ensures.calls);
-      jobs = λ is_open.
-          spared_more start store new c.args.segment place mark inside is (λ away. ap (λ s. kept_jobs s) (c.cover_mark.ensures.elsewhere away)) c.cover_mark.ensures.dropped
-          (before.jobs is_open);
-      few_jobs = omega (arith, before.few_jobs, no_more_kept c.args.segment mark store new c.cover_mark.ensures.elsewhere c.cover_mark.ensures.dropped);
-    }
+pub returns-in_default-clause-faults : goal.returns-in_default-clause-faults
+returns-in_default-clause-faults g c = faults_none c.args.self.now (Ok tt) c.requires.working (ok≢err tt Fault)
 
+-- the documents of the table are covered
+pub returns-in-Ok-clause-needed : goal.returns-in-Ok-clause-needed
+returns-in-Ok-clause-needed g c told is_open =
+    let store = c.args.self.now in
+    let marked : List ℕ = c.deref.result.now in
+    let from = c.deref.ensures.value in
+    let count : length marked ≡ length store.cells.items = ap (λ (l : List ℕ). length l) from ∙ c.in-Ok.ensures.count in
+    let each = λ (k : ℕ) (below : k < length store.cells.items). ap (λ (l : List ℕ). get_or l k 0) from ∙ c.in-Ok.ensures.marked k below in
+    c.cover_documents.ensures.needed told is_open
+    (λ n. omega (
+      arith,
+      table_all store is_open c.requires.oldest.0 c.args.segment marked c.requires.oldest.1 count each n,
+      marks_reached store is_open c.requires.oldest.0 c.args.segment c.requires.oldest.1 n,
+    ))
+
+pub returns-in-Ok-clause-covered : goal.returns-in-Ok-clause-covered
+returns-in-Ok-clause-covered g c =
+    let store = c.args.self.now in
+    let marked : List ℕ = c.deref.result.now in
+    let from = c.deref.ensures.value in
+    let count : length marked ≡ length store.cells.items = ap (λ (l : List ℕ). length l) from ∙ c.in-Ok.ensures.count in
+    let each = λ (k : ℕ) (below : k < length store.cells.items). ap (λ (l : List ℕ). get_or l k 0) from ∙ c.in-Ok.ensures.marked k below in
+    if_ok c.cover_documents.result
+    (λ covered is_open.
+    all_covered store c.cover_documents.new.self is_open c.args.segment (λ n. get_or marked n 0)
+    (table_all store is_open c.requires.oldest.0 c.args.segment marked c.requires.oldest.1 count each)
+    (length marked) (λ n past. get_or_past marked n 0 past) (covered is_open)) c.cover_documents.ensures.covered
+
+pub returns-in-Ok-clause-half : goal.returns-in-Ok-clause-half
+returns-in-Ok-clause-half g c =
+    let store = c.args.self.now in
+    let new = c.cover_documents.new.self in
+    let marked : List ℕ = c.deref.result.now in
+    let from = c.deref.ensures.value in
+    let count : length marked ≡ length store.cells.items = ap (λ (l : List ℕ). length l) from ∙ c.in-Ok.ensures.count in
+    let each = λ (k : ℕ) (below : k < length store.cells.items). ap (λ (l : List ℕ). get_or l k 0) from ∙ c.in-Ok.ensures.marked k below in
+    err_map (λ e. e ≢ Fault → (is_open : IsOpen store) → IsHalfCovered (λ n. get_or marked n 0) store is_open new) (λ e. e ≢ Fault → (is_open : IsOpen store) → IsHalfFreed store is_open new)
+    c.cover_documents.result
+    (λ e half other is_open.
+    half_freed store new is_open c.args.segment (λ n. get_or marked n 0)
+    (table_all store is_open c.requires.oldest.0 c.args.segment marked c.requires.oldest.1 count each)
+    c.requires.oldest.0 c.requires.oldest.1 (half other is_open)) c.cover_documents.ensures.half
+
+pub returns-in-Ok-clause-calls : goal.returns-in-Ok-clause-calls
+returns-in-Ok-clause-calls g c = omega (arith, c.cover_documents.ensures.calls, c.in-Ok.ensures.few, ap (λ (l : List ℕ). count_marked l) c.deref.ensures.value)
+
+pub returns-in-Ok-clause-calls_by_marks : goal.returns-in-Ok-clause-calls_by_marks
+returns-in-Ok-clause-calls_by_marks g c =
+    omega (arith, c.cover_documents.ensures.calls, c.in-Ok.ensures.few, ap (λ (l : List ℕ). count_marked l) c.deref.ensures.value, fewer_marks c.args.segment (known_marks c.args.self.now))
+
+pub returns-in-Ok-clause-jobs : goal.returns-in-Ok-clause-jobs
+returns-in-Ok-clause-jobs g c is_open document none =
+    let store = c.args.self.now in
+    let marked : List ℕ = c.deref.result.now in
+    let from = c.deref.ensures.value in
+    let count : length marked ≡ length store.cells.items = ap (λ (l : List ℕ). length l) from ∙ c.in-Ok.ensures.count in
+    let each = λ (k : ℕ) (below : k < length store.cells.items). ap (λ (l : List ℕ). get_or l k 0) from ∙ c.in-Ok.ensures.marked k below in
+    c.cover_documents.ensures.jobs document
+    (omega (arith, none, table_all store is_open c.requires.oldest.0 c.args.segment marked c.requires.oldest.1 count each document))
+
+-- there was no memory for the table
 pub returns-in-Err-clause-needed : goal.returns-in-Err-clause-needed
-returns-in-Err-clause-needed g c told is_open =
-    let start = c.args.self.now in
-    let mark = c.mark_at-mark.result in
-    let place = c.loop-place.place in
-    let before = c.loop-place.invariant in
-    let inside : place < length (marks_of start.marks) = omega (arith, c.loop-place-test.true, c.mark_count-place-end.ensures) in
-    let is : get_or (marks_of start.marks) place mark ≡ mark = subst (λ (l : List Mark). get_or l place mark ≡ mark) before.keeps.marks c.mark_at-mark.ensures in
-    c.in-Err.ensures.needed told (before.covered is_open).goes_on
-    (subst (MayReach c.args.segment mark) (sym before.keeps.state) (may_reach start is_open c.requires.oldest.0 c.args.segment c.requires.oldest.1 place mark inside is))
+returns-in-Err-clause-needed g c told = absurd (memory_needs c.in-Err.refusal c.in-Err.ensures.only told)
 
 pub returns-in-Err-clause-half : goal.returns-in-Err-clause-half
 returns-in-Err-clause-half g c other is_open =
-    let start = c.args.self.now in
-    let mark = c.mark_at-mark.result in
-    let place = c.loop-place.place in
-    let before = c.loop-place.invariant in
-    let inside : place < length (marks_of start.marks) = omega (arith, c.loop-place-test.true, c.mark_count-place-end.ensures) in
-    let is : get_or (marks_of start.marks) place mark ≡ mark = subst (λ (l : List Mark). get_or l place mark ≡ mark) before.keeps.marks c.mark_at-mark.ensures in
-    half_freed c.args.segment place mark start c.loop-place.self is_open inside is (before.covered is_open) c.cover_mark.new.self c.requires.oldest.0 c.requires.oldest.1 before.keeps.state
-    c.in-Err.ensures.of (c.in-Err.ensures.half other (before.covered is_open).goes_on) (c.cover_mark.ensures.dropped c.in-Err.ensures.of)
+    let store = c.args.self.now in
+    let new = c.drop_job.new.self in
+    half_freed store new is_open c.args.segment (λ n. greatest_marked c.args.segment n (known_marks store)) (λ n. refl) c.requires.oldest.0 c.requires.oldest.1
+    (half_covered 0 (λ n. greatest_marked c.args.segment n (known_marks store)) store store new is_open
+    (covered_none (λ n. greatest_marked c.args.segment n (known_marks store)) store is_open) c.in-Some.first (omega arith) c.in-Some.ensures.some c.drop_job.ensures.same c.drop_job.ensures.open
+    c.drop_job.ensures.jobs)
 
 pub returns-in-Err-clause-calls : goal.returns-in-Err-clause-calls
-returns-in-Err-clause-calls g c =
-    let start = c.args.self.now in
-    let store = c.loop-place.self in
-    let new = c.cover_mark.new.self in
-    let mark = c.mark_at-mark.result in
-    let place = c.loop-place.place in
-    let before = c.loop-place.invariant in
-    let inside : place < length (marks_of start.marks) = omega (arith, c.loop-place-test.true, c.mark_count-place-end.ensures) in
-    let is : get_or (marks_of start.marks) place mark ≡ mark = subst (λ (l : List Mark). get_or l place mark ≡ mark) before.keeps.marks c.mark_at-mark.ensures in
-    calls_all c.args.segment (place + 1) (length (g.D.Disk.past (device_of new))) (length (g.D.Disk.past (device_of start))) (marks_of start.marks)
-    (calls_more c.args.segment place (length (g.D.Disk.past (device_of store))) (length (g.D.Disk.past (device_of new))) (length (g.D.Disk.past (device_of start)))
-    (marks_of start.marks) mark inside is before.calls c.cover_mark.ensures.calls
-    (λ away. ap (λ s. length (g.D.Disk.past (device_of s))) (c.cover_mark.ensures.elsewhere away)))
+returns-in-Err-clause-calls g c = omega (arith, ap (λ d. length (g.D.Disk.past d)) c.drop_job.ensures.same.device)
+
+pub returns-in-Err-clause-calls_by_marks : goal.returns-in-Err-clause-calls_by_marks
+returns-in-Err-clause-calls_by_marks g c = omega (arith, ap (λ d. length (g.D.Disk.past d)) c.drop_job.ensures.same.device)
+
+pub returns-in-Err-clause-keeps : goal.returns-in-Err-clause-keeps
+returns-in-Err-clause-keeps g c = let same = c.drop_job.ensures.same in record { state = same.state; ring = same.ring; marks = same.marks }
 
 pub returns-in-Err-clause-jobs : goal.returns-in-Err-clause-jobs
-returns-in-Err-clause-jobs g c is_open =
-    let start = c.args.self.now in
-    let store = c.loop-place.self in
-    let mark = c.mark_at-mark.result in
-    let place = c.loop-place.place in
-    let before = c.loop-place.invariant in
-    let inside : place < length (marks_of start.marks) = omega (arith, c.loop-place-test.true, c.mark_count-place-end.ensures) in
-    let is : get_or (marks_of start.marks) place mark ≡ mark = subst (λ (l : List Mark). get_or l place mark ≡ mark) before.keeps.marks c.mark_at-mark.ensures in
-    spared_more start store c.cover_mark.new.self c.args.segment place mark inside is (λ away. ap (λ s. kept_jobs s) (c.cover_mark.ensures.elsewhere away)) c.cover_mark.ensures.dropped
-    (before.jobs is_open)
+returns-in-Err-clause-jobs g c is_open document none =
+    jobs_without c.in-Some.first (λ n. greatest_marked c.args.segment n (known_marks c.args.self.now)) c.args.self.now c.drop_job.new.self c.in-Some.ensures.some c.drop_job.ensures.jobs document none
 
 pub returns-in-Err-clause-no_more_jobs : goal.returns-in-Err-clause-no_more_jobs
 returns-in-Err-clause-no_more_jobs g c =
-    omega (
-      arith,
-      c.loop-place.invariant.few_jobs,
-      no_more_kept c.args.segment c.mark_at-mark.result c.loop-place.self c.cover_mark.new.self c.cover_mark.ensures.elsewhere c.cover_mark.ensures.dropped,
-    )
-
-pub returns-clause-no_more_jobs : goal.returns-clause-no_more_jobs
-returns-clause-no_more_jobs g c = c.loop-place.invariant.few_jobs
+    omega (arith, ap (λ (l : List Job). length l) c.drop_job.ensures.jobs, fewer_without c.in-Some.first (kept_jobs c.args.self.now))
 
 pub returns-in-Err-clause-faults : goal.returns-in-Err-clause-faults
-returns-in-Err-clause-faults g c = faults_on tt (Err c.in-Err.refusal) c.loop-place.invariant.faults c.in-Err.ensures.faults
+returns-in-Err-clause-faults g c =
+    let store = c.args.self.now in
+    faults_but_jobs (Err c.in-Err.refusal) store store c.drop_job.new.self c.requires.working c.drop_job.ensures.same
+    (faults_none store (Err c.in-Err.refusal) c.requires.working (told_fault c.in-Err.refusal (inr c.in-Err.ensures.only)))
 
 pub returns-in-Err-clause-goes : goal.returns-in-Err-clause-goes
-returns-in-Err-clause-goes g c = goes_same c.loop-place.invariant.keeps.state c.loop-place.invariant.goes c.cover_mark.ensures.goes
-
-pub returns-clause-covered : goal.returns-clause-covered
-returns-clause-covered g c is_open =
-    let start = c.args.self.now in
-    let all : take c.loop-place.place (marks_of start.marks) ≡ marks_of start.marks = take_all c.loop-place.place (marks_of start.marks) (omega (arith, c.mark_count-place-end.ensures)) in
-    subst (λ (l : List Mark). AreCovered c.args.segment l start is_open c.loop-place.self) all (c.loop-place.invariant.covered is_open)
-
-pub returns-clause-calls : goal.returns-clause-calls
-returns-clause-calls g c =
-    let start = c.args.self.now in
-    calls_all c.args.segment c.loop-place.place (length (g.D.Disk.past (device_of c.loop-place.self))) (length (g.D.Disk.past (device_of start))) (marks_of start.marks) c.loop-place.invariant.calls
-
--- twelve calls for each mark, in any store
-pub returns-in-Err-clause-calls_by_marks : goal.returns-in-Err-clause-calls_by_marks
-returns-in-Err-clause-calls_by_marks g c =
-    omega (arith, c.loop-place.invariant.calls_by_marks, c.cover_mark.ensures.calls, c.loop-place-test.true, c.mark_count-place-end.ensures)
-
-pub returns-clause-calls_by_marks : goal.returns-clause-calls_by_marks
-returns-clause-calls_by_marks g c = omega (arith, c.loop-place.invariant.calls_by_marks, c.mark_count-place-end.ensures)
+returns-in-Err-clause-goes g c = goes_but_jobs c.args.self.now c.drop_job.new.self c.drop_job.ensures.same c.drop_job.ensures.open

@@ -10,7 +10,7 @@ use Rattle.revision.proofs.doc_state.DocState.take_over.Goals as goal
 
 pub note-requires-clause-accepted : goal.note-requires-clause-accepted
 note-requires-clause-accepted c =
-    rw c.keep.ensures (subst (λ (e : PendingDocument). IsAccepted (prepared_units e.past) (counted c.args.change.delta)) (sym c.self.view_is) c.requires.accepted)
+    rw c.keep_apart.ensures (subst (λ (e : PendingDocument). IsAccepted (prepared_units e.past) (counted c.args.change.delta)) (sym c.self.view_is) c.requires.accepted)
 
 -- what is kept beside the past comes of it
 pub invariant_of-self-2 : goal.invariant_of-self-2
@@ -19,7 +19,7 @@ invariant_of-self-2 c =
     let change = c.args.change in
     let one : Next = next_by change.source change.number change.step change.delta in
     let past : Prepared = record inside.past { next = inside.past.next ++ one ∷ [] } in
-    let noted : c.note.new.past ≡ past = c.in_ok-note.ensures.past ∙ ap (λ (p : Prepared). record p { next = p.next ++ one ∷ [] }) c.keep.ensures in
+    let noted : c.note.new.past ≡ past = c.in_ok-note.ensures.past ∙ ap (λ (p : Prepared). record p { next = p.next ++ one ∷ [] }) c.keep_apart.ensures in
     let after = c.in_ok-after.after in
     let after_is : after ≡ units_after (prepared_units inside.past) change.step (own_delta change.step change.delta) =
     c.in_ok-after.ensures.same

@@ -4,11 +4,18 @@ use Rattle.delta.specs.Operation.{Operation}
 use Rattle.compose.specs.Many.{applied}
 use Rattle.revision.specs.declared.kept_document.Kept.{Kept}
 use Rattle.revision.specs.declared.taker.Taker.{Taker}
-use Rattle.revision.specs.Past.{Parts, Prepared, AreParts, newest, seen, sources_after, changes_by}
+use Rattle.revision.specs.Past.{Parts, Prepared, AreParts, AreNoted, newest, seen, sources_after, changes_by}
 use Rattle.revision.specs.steps.PastView.{parts_of}
 use Rattle.revision.proofs.Parts.{seen-newest, document_is}
 use Rattle.revision.proofs.LettingGo.{later_parts, later_are, later_is, noted_there}
 use Rattle.revision.proofs.past.Past.let_go_to_floor.Goals as goal
+
+pub sources_after_first-noted-requires-clause-noted : goal.sources_after_first-noted-requires-clause-noted
+sources_after_first-noted-requires-clause-noted c =
+    let parts : Parts = parts_of c.self.inside in
+    subst (AreNoted parts.start parts.sources (changes_by c.as_slice-2.result.now c.as_slice-3.result.now)) (sym c.as_slice.ensures.value)
+    (subst (λ (t : List Taker). AreNoted parts.start parts.sources (changes_by t c.as_slice-3.result.now) parts.kept) (sym c.as_slice-2.ensures.value)
+    (subst (λ (d : List (List Operation)). AreNoted parts.start parts.sources (changes_by parts.takers d) parts.kept) (sym c.as_slice-3.ensures.value) c.self.invariant.noted))
 
 pub invariant_of-self : goal.invariant_of-self
 invariant_of-self c =
@@ -22,12 +29,14 @@ invariant_of-self c =
     let units : c.in-Ok.document ≡ applied parts.units (take gone parts.deltas) =
     c.in-Ok.ensures.document
     ∙ sym (document_is parts c.self.invariant c.args.self.now c.self.view_is parts.floor (omega (arith, low)) (omega (arith, high, c.self.invariant.floor)) parts.deltas refl) in
+    let sources_is = c.in-Ok-noted.ensures.sources
+    ∙ ap₂ (λ (t : List Taker) (d : List (List Operation)). sources_after parts.start parts.sources (changes_by (take gone t) (take gone d))) c.as_slice-2.ensures.value c.as_slice-3.ensures.value in
     subst (λ (n : ℕ). AreParts (record (later_parts parts gone sources passed) { start = n; units = c.in-Ok.document; takers = c.drop_first.new.items.items; deltas = c.drop_first-in-Ok-noted.new.items.items; kept = c.drop_first-in-Ok-noted-2.new.items.items })) start_is
     (subst (λ (u : List Element). AreParts (record (later_parts parts gone sources passed) { units = u; takers = c.drop_first.new.items.items; deltas = c.drop_first-in-Ok-noted.new.items.items; kept = c.drop_first-in-Ok-noted-2.new.items.items })) (sym units)
     (subst (λ (t : List Taker). AreParts (record (later_parts parts gone sources passed) { takers = t; deltas = c.drop_first-in-Ok-noted.new.items.items; kept = c.drop_first-in-Ok-noted-2.new.items.items })) (sym c.drop_first.ensures)
     (subst (λ (d : List (List Operation)). AreParts (record (later_parts parts gone sources passed) { deltas = d; kept = c.drop_first-in-Ok-noted-2.new.items.items })) (sym c.drop_first-in-Ok-noted.ensures)
     (subst (λ (k : List Kept). AreParts (record (later_parts parts gone sources passed) { kept = k })) (sym c.drop_first-in-Ok-noted-2.ensures)
-    (later_are parts c.self.invariant gone sources passed (omega arith))))))
+    (later_are parts c.self.invariant gone sources passed (omega arith) sources_is)))))
 
 pub returns-in-Ok-noted : goal.returns-in-Ok-noted
 returns-in-Ok-noted c =
@@ -42,7 +51,7 @@ returns-in-Ok-noted c =
     c.in-Ok.ensures.document
     ∙ sym (document_is parts c.self.invariant c.args.self.now c.self.view_is parts.floor (omega (arith, low)) (omega (arith, high, c.self.invariant.floor)) parts.deltas refl) in
     let noted = noted_there parts c.self.invariant gone sources (omega arith)
-    (c.in-Ok-noted.ensures.sources ∙ ap₂ (λ (t : List Taker) (d : List (List Operation)). sources_after parts.start parts.sources (changes_by (take gone t) (take gone d))) c.as_slice.ensures.value c.as_slice-2.ensures.value) in
+    (c.in-Ok-noted.ensures.sources ∙ ap₂ (λ (t : List Taker) (d : List (List Operation)). sources_after parts.start parts.sources (changes_by (take gone t) (take gone d))) c.as_slice-2.ensures.value c.as_slice-3.ensures.value) in
     ap (λ (n : ℕ). seen (record (later_parts parts gone sources passed) { start = n; units = c.in-Ok.document; takers = c.drop_first.new.items.items; deltas = c.drop_first-in-Ok-noted.new.items.items })) start_is
     ∙ (ap (λ (u : List Element). seen (record (later_parts parts gone sources passed) { units = u; takers = c.drop_first.new.items.items; deltas = c.drop_first-in-Ok-noted.new.items.items })) units
     ∙ (ap₂ (λ (t : List Taker) (d : List (List Operation)). seen (record (later_parts parts gone sources passed) { takers = t; deltas = d })) c.drop_first.ensures c.drop_first-in-Ok-noted.ensures

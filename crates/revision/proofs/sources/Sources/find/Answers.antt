@@ -8,4 +8,4 @@ use Rattle.revision.proofs.sources.Sources.find.Goals as goal
 pub returns-in-Ok-clause-named : goal.returns-in-Ok-clause-named
 returns-in-Ok-clause-named c =
     subst (λ n. is_source_name n ≡ true) c.as_str.ensures.text
-    (named-found _ _ c.args.self.now.entries (subst (λ l. are_named l ≡ true) (ap entries_of c.self.view_is) c.self.invariant) c.in-Ok.ensures.found)
+    (named-found _ _ c.args.self.now.entries (subst (λ l. are_named l ≡ true) (ap entries_of c.self.view_is) c.self.invariant.named) c.in-Ok.ensures.found)

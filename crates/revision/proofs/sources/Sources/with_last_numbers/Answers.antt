@@ -1,6 +1,8 @@
-use Rattle.std.proofs.Common.{◌≡◌, ◌∙◌, ap, map}
-use Rattle.revision.specs.Sources.{are_named, cut}
-use Rattle.revision.proofs.Cutting.{ascending-cut, named-cut}
+use Rattle.std.proofs.Common.{◌≡◌, ◌∙◌, ap, length, map, arith}
+use Rattle.attributes.specs.Map.{entries_of}
+use Rattle.revision.specs.Sources.{cut}
+use Rattle.revision.proofs.Cutting.{ascending-cut}
+use Rattle.revision.proofs.Counted.{keeps-cut}
 use Rattle.revision.proofs.sources.Sources.with_last_numbers.Goals as goal
 
 pub invariant_of-result : goal.invariant_of-result
@@ -11,4 +13,4 @@ invariant_of-result c =
 pub invariant_of-result-2 : goal.invariant_of-result-2
 invariant_of-result-2 c =
     let is = c.in_ok-last_numbers_of.ensures.cut ∙ ap (map cut) c.entries.ensures.entries in
-    ap are_named is ∙ (named-cut c.args.self.now.entries ∙ c.entries.ensures.named)
+    keeps-cut _ c.args.self.now.entries _ c.entries.ensures.named is (omega (arith, c.len.ensures, ap length (ap entries_of c.self.view_is)))

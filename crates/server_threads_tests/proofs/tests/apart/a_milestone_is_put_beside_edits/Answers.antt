@@ -1,5 +1,5 @@
 use denote.Param.Send.{param_send, arg_send}
-use Rattle.server_threads_tests.proofs.Crossing.{device_send}
+use Rattle.disk.proofs.Crossing.{device_send}
 use Rattle.server_threads_tests.proofs.tests.apart.a_milestone_is_put_beside_edits.Goals as goal
 
 -- the store's device goes to the thread that writes

@@ -1,6 +1,6 @@
 use denote.Exit.{yes}
 use denote.Param.Send.{param_send, arg_send}
-use Rattle.server_threads_tests.proofs.Crossing.{device_send}
+use Rattle.disk.proofs.Crossing.{device_send}
 use Rattle.server_threads_tests.proofs.tests.many.eight_write_into_a_file.Goals as goal
 
 -- the store's device goes to the thread that writes

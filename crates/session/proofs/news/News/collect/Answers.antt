@@ -1,5 +1,6 @@
 use Rattle.std.proofs.Common.{◌≡◌, ◌++◌, ◌∷◌, [], length, map, take, ap, ap₂, ◌∙◌, rules, arith}
-use Rattle.std.specs.String.{string_bytes}
+use Rattle.std.specs.List.{flat_map}
+use Rattle.session.specs.steps.DueText.{due_text}
 use Rattle.session.proofs.Kept.{read_at}
 use Rattle.std.proofs.lemmas.List.{take_all, length-map}
 use Rattle.session.specs.News.{lines_in, last_in, news, going_on}
@@ -13,7 +14,7 @@ loop-entry-preserved c =
     let so_far = c.loop-entry.invariant in
     let one = c.entry-item.result in
     let read = read_at _ subscriptions c.loop-entry.entry-index one c.entries-entries.ensures c.loop-entry-test.true c.entry-item.is in
-    let text : string_bytes c.tell.new.text ≡ string_bytes c.loop-entry.text ++ lines_in state one.0 one.1 = search rules in
+    let text : flat_map due_text c.tell.new.lines.items ≡ flat_map due_text c.loop-entry.lines.items ++ lines_in state one.0 one.1 = search rules in
     let next : c.in_ok-next.next ≡ last_in state one.0 one.1 = search rules in
     let pushed : c.push.new.self.items ≡ c.loop-entry.last.items ++ c.in_ok-next.next ∷ [] = search rules in
     record {

@@ -1,5 +1,6 @@
+use Rattle.std.specs.List.{flat_map}
 use Rattle.std.proofs.Common.{◌≡◌, Option, Ok, IfSome, refl, sym, ap, subst, ◌∙◌, inl, inr}
-use Rattle.std.specs.String.{string_bytes}
+use Rattle.session.specs.steps.DueText.{due_text}
 use Rattle.session.specs.declared.news.News.{News}
 use Rattle.session.specs.News.{going_on, news_shown, subscriptions_shown, AreNews, AreNone, MayBeMissed}
 use Rattle.session.specs.Subscriptions.{Subscriptions}
@@ -12,8 +13,8 @@ pub returns-in_ok-tell-in-Ok-Some-clause-heard : goal.returns-in_ok-tell-in-Ok-S
 returns-in_ok-tell-in-Ok-Some-clause-heard g c =
     let shown = c.in-Ok-Some.ensures.told in
     let same : c.self.inside.subscriptions ≡ c.args.self.now.peer.subscriptions = ap (λ (s : Session). s.peer.subscriptions) c.self.view_is in
-    let news : AreNews c.self.inside.subscriptions shown.0 (string_bytes c.in-Ok-Some.news.text) c.in-Ok-Some.news.last.items =
-    subst (λ (f : Option News). IfSome f (λ news. AreNews c.self.inside.subscriptions shown.0 (string_bytes news.text) news.last.items)) c.in-Ok-Some.field-0-is shown.2 in
+    let news : AreNews c.self.inside.subscriptions shown.0 (flat_map due_text c.in-Ok-Some.news.lines.items) c.in-Ok-Some.news.last.items =
+    subst (λ (f : Option News). IfSome f (λ news. AreNews c.self.inside.subscriptions shown.0 (flat_map due_text news.lines.items) news.last.items)) c.in-Ok-Some.field-0-is shown.2 in
     let done = c.in_ok-tell-in-Ok-Some.ensures in
     told_pass g.D.Desk.does c.args.self.now c.tell.new.self c.args.desk.now c.show_news.new.desk (g.O.Output.contents c.args.out.now) (g.O.Output.contents c.tell.new.out)
     _ (going_on c.args.self.now.peer.subscriptions c.in-Ok-Some.news.last.items) shown.0 shown.1

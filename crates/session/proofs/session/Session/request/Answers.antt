@@ -8,4 +8,4 @@ use Rattle.session.proofs.session.Session.request.Goals as goal
 pub returns-clause-due : goal.returns-clause-due
 returns-clause-due c =
     subst (λ (s : Session). IfSome s.line (λ line. IsAnswer (request_of s.peer.source line) c.read.result)) c.self.view_is
-    (line_due c.self.inside.line c.self.inside.source _ c.bytes.result.now c.read.result c.bytes.ensures c.as_ref.ensures.value c.read.ensures.due)
+    (line_due c.self.inside.line c.self.inside.source _ c.bytes.result.now c.read.result c.bytes.ensures c.as_ref-source.ensures.value c.read.ensures.due)

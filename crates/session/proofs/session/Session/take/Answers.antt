@@ -1,5 +1,5 @@
-use Rattle.std.proofs.Common.{◌≡◌, ◌++◌, List, [], ◌∷◌, true, refl, sym, ap, subst, ◌∙◌, inl, Ok}
-use Rattle.std.specs.String.{string_bytes}
+use Rattle.std.proofs.Common.{◌≡◌, ◌++◌, List, [], ◌∷◌, Some, true, refl, sym, ap, subst, ◌∙◌, inl, Ok}
+use Rattle.session.specs.steps.DueText.{due_text}
 use Rattle.std.specs.Io.KnownBytes.{Appends}
 use Rattle.refusal.specs.declared.Refusal.TheVariants.{LineTooLong}
 use Rattle.revision.specs.Command.{Command}
@@ -47,9 +47,9 @@ returns-in_ok-send-in-TooLong-clause-taken g c first piece begun clean ahead =
     let contents = g.O.Output.contents in
     let old = c.args.self.now in
     let settle = c.in_ok-settle-in-TooLong.ensures in
-    let text = text_told (λ t. string_bytes t) c.refusal_reply.result in
+    let text = text_told (λ t. due_text t) c.refusal_reply.result in
     let over = overflows old c.event_of.new.self c.args.byte text (sym c.in-TooLong.ensures.event) c.in-TooLong.ensures.others
-    (told_line (λ t. string_bytes t) c.refusal_reply.result (refusal_line LineTooLong) c.refusal_reply.ensures) in
+    (told_line (λ t. due_text t) c.refusal_reply.result (refusal_line LineTooLong) c.refusal_reply.ensures) in
     let same : c.send.new.self ≡ c.event_of.new.self = c.in_ok-send-in-TooLong.ensures.ok ∙ settle.ok in
     let fed = settled does first old piece _ begun c.args.desk.now clean (contents c.args.out.now) ahead c.settle.new.desk (contents c.settle.new.out)
     (settles_map does _ _ _ _ (Appends (contents c.args.out.now) (contents c.settle.new.out)) (λ t h. h.0) settle.settled) in
@@ -75,9 +75,9 @@ returns-in_err-send-in-TooLong-clause-stopped g c =
     let contents = g.O.Output.contents in
     let old = c.args.self.now in
     let settle = c.in_ok-settle-in-TooLong.ensures in
-    let text = text_told (λ t. string_bytes t) c.refusal_reply.result in
+    let text = text_told (λ t. due_text t) c.refusal_reply.result in
     let over = overflows old c.event_of.new.self c.args.byte text (sym c.in-TooLong.ensures.event) c.in-TooLong.ensures.others
-    (told_line (λ t. string_bytes t) c.refusal_reply.result (refusal_line LineTooLong) c.refusal_reply.ensures) in
+    (told_line (λ t. due_text t) c.refusal_reply.result (refusal_line LineTooLong) c.refusal_reply.ensures) in
     on_err c.from_residual-in_err-send-in-TooLong.result (λ first piece begun clean ahead.
     let fed = settled does first old piece _ begun c.args.desk.now clean (contents c.args.out.now) ahead c.settle.new.desk (contents c.settle.new.out)
     (settles_map does _ _ _ _ (Appends (contents c.args.out.now) (contents c.settle.new.out)) (λ t h. h.0) settle.settled) in
@@ -90,9 +90,10 @@ returns-in-None-clause-taken g c first piece begun clean ahead =
     let contents = g.O.Output.contents in
     let read = c.event_of.new.self in
     let sent = c.in-None.ensures in
+    let next = c.next_line-in-None.ensures ∙ ap (λ (s : Session). record s { line = Some [] }) c.request-request.ensures.unchanged in
     subst (λ (l : List Command). Ahead does first (piece ++ c.args.byte ∷ []) l c.next_line-in-None.new.self begun c.args.desk.now clean (contents c.args.out.now)) (sym sent.2)
     (ahead_more does first c.args.self.now piece _ begun c.args.desk.now clean (contents c.args.out.now) ahead read c.next_line-in-None.new.self c.args.byte sent.0
-    (sym c.in-Complete.ensures.event) c.in-Complete.ensures.others c.next_line-in-None.ensures (due_of read.line read.peer.source _ (Ok (Ask sent.0)) sent.1 c.request-request.ensures.due))
+    (sym c.in-Complete.ensures.event) c.in-Complete.ensures.others next (due_of read.line read.peer.source _ (Ok (Ask sent.0)) sent.1 c.request-request.ensures.due))
 
 pub returns-in_err-settle-in-Some-clause-stopped : goal.returns-in_err-settle-in-Some-clause-stopped
 returns-in_err-settle-in-Some-clause-stopped g c =
@@ -105,7 +106,7 @@ returns-in_err-settle-in-Some-clause-stopped g c =
     stops_settling does first old piece _ begun c.args.desk.now clean (contents c.args.out.now) ahead c.settle-in-Some.new.self c.settle-in-Some.new.desk (contents c.settle-in-Some.new.out) (c.args.byte ∷ [])
     (subst (λ (l : List Command). Settles does l c.args.desk.now c.settle-in-Some.new.desk (AppendsFront (contents c.args.out.now) (contents c.settle-in-Some.new.out))) c.in-Some.ensures.1
     (settles_map does _ _ _ _ (AppendsFront (contents c.args.out.now) (contents c.settle-in-Some.new.out)) (λ t h. h.1) settle.settled))
-    (settle.err ∙ ap (λ (s : Session). record s { ended = true }) same))
+    (settle.err ∙ ap (λ (s : Session). record s { ended = true }) (c.request-request.ensures.unchanged ∙ same)))
 
 pub returns-in_ok-send-in-Some-clause-taken : goal.returns-in_ok-send-in-Some-clause-taken
 returns-in_ok-send-in-Some-clause-taken g c first piece begun clean ahead =
@@ -113,8 +114,8 @@ returns-in_ok-send-in-Some-clause-taken g c first piece begun clean ahead =
     let contents = g.O.Output.contents in
     let old = c.args.self.now in
     let settle = c.in_ok-settle-in-Some.ensures in
-    let after = read_after old c.event_of.new.self c.settle-in-Some.new.self c.args.byte settle.ok (sym c.in-Complete.ensures.event) c.in-Complete.ensures.others in
-    let text = text_told (λ t. string_bytes t) c.respond-reply.result in
+    let after = read_after old c.event_of.new.self c.settle-in-Some.new.self c.args.byte (settle.ok ∙ c.request-request.ensures.unchanged) (sym c.in-Complete.ensures.event) c.in-Complete.ensures.others in
+    let text = text_told (λ t. due_text t) c.respond-reply.result in
     let answered = c.respond-reply.ensures in
     let e = ends does old c.settle-in-Some.new.self c.respond-reply.new.self c.next_line.new.self c.args.byte text c.settle-in-Some.new.desk c.respond-reply.new.desk
     after.0 after.1 answered.others c.next_line.ensures answered.replied in
@@ -131,8 +132,8 @@ returns-in_err-send-in-Some-clause-stopped g c =
     let contents = g.O.Output.contents in
     let old = c.args.self.now in
     let settle = c.in_ok-settle-in-Some.ensures in
-    let after = read_after old c.event_of.new.self c.settle-in-Some.new.self c.args.byte settle.ok (sym c.in-Complete.ensures.event) c.in-Complete.ensures.others in
-    let text = text_told (λ t. string_bytes t) c.respond-reply.result in
+    let after = read_after old c.event_of.new.self c.settle-in-Some.new.self c.args.byte (settle.ok ∙ c.request-request.ensures.unchanged) (sym c.in-Complete.ensures.event) c.in-Complete.ensures.others in
+    let text = text_told (λ t. due_text t) c.respond-reply.result in
     let answered = c.respond-reply.ensures in
     let e = ends does old c.settle-in-Some.new.self c.respond-reply.new.self c.next_line.new.self c.args.byte text c.settle-in-Some.new.desk c.respond-reply.new.desk
     after.0 after.1 answered.others c.next_line.ensures answered.replied in

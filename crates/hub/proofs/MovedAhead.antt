@@ -1,0 +1,33 @@
+-- An edit that was moved in a state stays so as the order goes on.
+use Rattle.std.proofs.Common.{◌≡◌, List, [], ◌∷◌, ◌++◌, refl, sym, ap, subst, ◌∙◌}
+use Rattle.std.proofs.lemmas.List.{map-append}
+use mathlib.Core.List.{IsPrefix}
+use Rattle.revision.specs.Command.{Taken}
+use Rattle.revision.specs.State.{State, grown, fold}
+use Rattle.revision.specs.Moved.{MovedEdit, IsMovedIn}
+use Rattle.revision.proofs.CallerLemmas.{moved_stays}
+use Rattle.world.specs.Board.{Board}
+use Rattle.world.specs.World.{Entry, takens}
+use Rattle.hub.specs.Legal.{IsHistory}
+
+fold-parts : (state : State) (first others : List Taken) → fold state (first ++ others) ≡ fold (fold state first) others
+fold-parts state [] others = refl
+fold-parts state (one ∷ first) others = fold-parts (grown state one) first others
+
+-- in what a longer list of commands makes
+pub moved_further : (start : State) (commands more : List Taken) (m : MovedEdit) → IsPrefix commands more
+    → IsMovedIn (fold start commands) m → IsMovedIn (fold start more) m
+moved_further start commands more m (rest, is) moved =
+    subst (λ s. IsMovedIn s m) (sym (fold-parts start commands rest) ∙ ap (fold start) is) (moved_stays (fold start commands) m rest moved)
+
+-- and in what a longer order makes
+pub moved_later : (start : State) (first order : List Entry) (m : MovedEdit) → IsPrefix first order
+    → IsMovedIn (fold start (takens first)) m → IsMovedIn (fold start (takens order)) m
+moved_later start first order m (rest, is) =
+    moved_further start (takens first) (takens order) m (takens rest, sym (map-append (λ (e : Entry). e.taken) first rest) ∙ ap takens is)
+
+-- so in the state of a board whose order is the run's
+pub moved_on_board : (start : State) (board : Board Entry) (order : List Entry) (m : MovedEdit) → order ≡ board.order → board.start ≡ start → IsHistory board
+    → IsMovedIn (fold start (takens order)) m → IsMovedIn board.state m
+moved_on_board start board order m same begun history moved =
+    subst (λ s. IsMovedIn s m) (ap (λ (o : List Entry). fold start (takens o)) same ∙ (ap (λ s. fold s (takens board.order)) (sym begun) ∙ sym history.state)) moved

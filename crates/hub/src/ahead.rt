@@ -1,0 +1,73 @@
+//! Edits that are moved on before they are submitted.
+ghost use Rattle.std.specs.Prelude.{◌≡◌, IfSome};
+ghost use mathlib.Core.List.{IsPrefix};
+ghost use Rattle.recovery.specs.Found.{commands_of};
+ghost use Rattle.revision.specs.Moved.{IsMovedIn};
+ghost use Rattle.revision.specs.State.{fold};
+ghost use Rattle.world.specs.World.{takens};
+
+use published::{Order, Ordered, Site, Told};
+use revision::{Command, MovedEdit};
+use std::marker::Model;
+
+/// An edit that is past what a beginning of the run's order took after its base. A seat that has it submits that edit in less time, since
+/// only what was taken later is left to move it past. Contracts see it as the edit that was moved.
+#[derive(Drop)]
+pub struct Ahead<J: Site> {
+    order: Ordered<J>,
+    moved: MovedEdit,
+}
+
+impl<J: Site> Model for Ahead<J> {
+    ghost use Rattle.revision.specs.Moved as spec;
+    ghost use Rattle.revision.specs.Moved.{IsMovedIn};
+    ghost use Rattle.revision.specs.State.{fold};
+    ghost use Rattle.world.specs.World.{takens};
+
+    ghost Value = { spec.MovedEdit };
+
+    ghost view = { λ a. a.moved };
+
+    ghost invariant = { λ a. IsMovedIn (fold J.start (takens a.order)) a.moved };
+}
+
+impl<J: Site> Ahead<J> {
+    /// An edit that was moved in the state which published batches make. It takes no memory.
+    pub fn of<D>(told: &Told<D, J>, moved: MovedEdit) -> Ahead<J>
+        requires { IsMovedIn (fold J.start (commands_of told.now)) moved }
+        ensures { result ≡ moved }
+    {
+        Ahead {
+            order: told.ordered(),
+            moved,
+        }
+    }
+
+    // Whether a command asks for an edit like this one.
+    pub(crate) fn is_like(&self, command: &Command) -> bool {
+        self.moved.is_like(command)
+    }
+
+    // The edit, which is so in the state after the whole order.
+    pub(crate) fn in_order(&self, order: &mut Order<J>) -> &MovedEdit
+        ensures moved { IsMovedIn (fold J.start (takens order.old)) result.now }
+        ensures same { order.new ≡ order.old }
+    {
+        order.holds(&self.order);
+        &self.moved
+    }
+}
+
+// The edit of a seat that has one, which is so in the state after the whole order.
+pub(crate) fn moved_in<'a, J: Site>(
+    ahead: &'a Option<Ahead<J>>,
+    order: &mut Order<J>,
+) -> Option<&'a MovedEdit>
+    ensures moved { IfSome result (λ m. IsMovedIn (fold J.start (takens order.old)) m.now) }
+    ensures same { order.new ≡ order.old }
+{
+    match ahead {
+        Some(ahead) => Some(ahead.in_order(order)),
+        None => None,
+    }
+}

@@ -1,0 +1,5 @@
+mod Fronts
+mod Told
+mod Agreeing
+mod Weights
+mod Places

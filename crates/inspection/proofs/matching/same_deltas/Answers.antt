@@ -1,0 +1,11 @@
+use Rattle.std.proofs.Common.{sym, ◌∙◌}
+use Rattle.std.specs.Cmp.Lexicographic.{pointwise_decides}
+use Rattle.delta.specs.Equality.{same_operations-Decides}
+use Rattle.inspection.proofs.matching.same_deltas.Goals as goal
+
+pub returns : goal.returns
+returns c =
+    let decides = pointwise_decides same_operations-Decides c.args.one.now c.args.other.now in (
+      λ yes. decides.0 (sym c.eq.ensures ∙ yes),
+      λ same. c.eq.ensures ∙ decides.1 same,
+    )

@@ -1,0 +1,45 @@
+use Rattle.std.proofs.Common.{◌≡◌, ◌≤◌, ◌<◌, ◌+◌, List, ℕ, get_or, length, subst, sym, arith, Vec, Global}
+use Rattle.recovery.specs.declared.group.Member.{Member}
+use Rattle.recovery.specs.steps.Freeing.{IsGathered}
+use Rattle.recovery.proofs.Gathered.{gathered_none, gathered_pass, gathered_push}
+use Rattle.recovery.proofs.store.Store.gather.Goals as goal
+use Rattle.recovery.proofs.store.Store.gather.Goals.{then-marked-document-gt0+in-Ok+else-bytes-ge-MOST_BYTES, else-marked-document-gt0}
+
+pub loop-document-init : goal.loop-document-init
+loop-document-init g c = record {
+  behind = omega arith;
+  gathered = subst (λ (l : List Member). IsGathered c.args.marked.now c.args.from c.args.from l c.args.self.now) (sym c.new-members.ensures.items)
+      (gathered_none c.args.self.now c.args.marked.now c.args.from);
+}
+
+pub returns-then-bytes-ge-MOST_BYTES-clause-gathered : goal.returns-then-bytes-ge-MOST_BYTES-clause-gathered
+returns-then-bytes-ge-MOST_BYTES-clause-gathered g c =
+    let store = c.args.self.now in
+    let marked = c.args.marked.now in
+    let at = c.loop-document.document in
+    let added = c.in-Ok.ensures.added in
+    let some : 1 ≤ get_or marked at 0 = omega (arith, c.if-marked-document-gt0.true) in
+    subst (λ (l : List Member). IsGathered marked c.args.from (at + 1) l store) (sym added.1)
+    (gathered_push store marked c.args.from at c.loop-document.members.items c.loop-document-test.true c.loop-document.invariant.gathered added.0 c.loop-document.invariant.behind some added.3 added.2)
+
+pub loop-document-preserved : goal.loop-document-preserved
+loop-document-preserved g c =
+    let store = c.args.self.now in
+    let marked = c.args.marked.now in
+    let at = c.loop-document.document in
+    record {
+      behind = omega (arith, c.loop-document.invariant.behind);
+      gathered = elim c.if-marked-document-gt0.branch [
+        | then-marked-document-gt0+in-Ok+else-bytes-ge-MOST_BYTES w ↦
+            let added = w.in-Ok.ensures.added in
+            let some : 1 ≤ get_or marked at 0 = omega (arith, w.if-marked-document-gt0.true) in
+            subst (λ (v : Vec Member Global). IsGathered marked c.args.from (at + 1) v.items store) (sym w.members-is)
+            (subst (λ (l : List Member). IsGathered marked c.args.from (at + 1) l store) (sym added.1)
+            (gathered_push store marked c.args.from at c.loop-document.members.items c.loop-document-test.true c.loop-document.invariant.gathered added.0 c.loop-document.invariant.behind some added.3
+            added.2))
+        | else-marked-document-gt0 w ↦
+            let none : get_or marked at 0 ≡ 0 = omega (arith, w.if-marked-document-gt0.false) in
+            subst (λ (v : Vec Member Global). IsGathered marked c.args.from (at + 1) v.items store) (sym w.members-is)
+            (gathered_pass store marked c.args.from at c.loop-document.members.items c.loop-document-test.true c.loop-document.invariant.gathered none)
+      ];
+    }

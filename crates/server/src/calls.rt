@@ -1,0 +1,176 @@
+//! The calls of the system by which the files of stores are had, and by which an address is, noted with their answers.
+//!
+//! **What is not proved**: that each method of `HostCalls` makes the calls of the system that its note stands for. So the few lines of
+//! `HostCalls` are to be read. No other function of the program names a file or an address, but `Standard` the null device.
+ghost use Rattle.std.specs.Prelude.{◌≡◌, ◌∷◌, [], List, Ok, true, false, IfOk, OnOk, OnErr};
+ghost use Rattle.server.specs.Calls.{Call, Found, Missed, Unseen, Opened, FailedOpening, Made, FailedMaking, Removed, Listened, FailedListening};
+
+use crate::notes::Notes;
+use disk::{Disk, FileDisk, FileFault};
+use std::fs::{self, File, Permissions};
+use std::io;
+use std::net::{Net, SocketAddr, TcpListener, TcpStream};
+use std::os::fd::OwnedFd;
+use std::os::unix::fs::PermissionsExt;
+use std::rt::Files;
+use std::time::Duration;
+
+/// What the owner of a file may do, who reads and writes it, and nobody else may.
+const OWNER_ALONE: u32 = 0o600;
+
+/// How long a listener waits for a connection before it is asked whether to go on, in milliseconds.
+const BEAT: u64 = 100;
+
+const FOUND: u64 = 0;
+
+const MISSED: u64 = 1;
+
+const UNSEEN: u64 = 2;
+
+const OPENED: u64 = 3;
+
+const FAILED_OPENING: u64 = 4;
+
+const MADE: u64 = 5;
+
+const FAILED_MAKING: u64 = 6;
+
+const REMOVED: u64 = 7;
+
+const LISTENED: u64 = 8;
+
+const FAILED_LISTENING: u64 = 9;
+
+/// The system, as it is asked for files and addresses.
+pub(crate) trait Calls {
+    /// The calls that were made, newest first.
+    ghost made: { Self → List Call };
+
+    /// Whether a file is there.
+    fn is_there(&mut self, path: &str) -> io::Result<bool>
+        ensures there { result ≡ Ok true → made self.new ≡ Found path.now ∷ made self.old }
+        ensures missing { result ≡ Ok false → made self.new ≡ Missed path.now ∷ made self.old }
+        ensures failed { OnErr result (made self.new ≡ Unseen path.now ∷ made self.old) };
+
+    /// A device over a file that is there, which is locked. A missing one isn't made.
+    fn open(&mut self, path: &str) -> Result<FileDisk, FileFault>
+        ensures good { OnOk result (made self.new ≡ Opened path.now ∷ made self.old) }
+        ensures untouched { IfOk result (λ disk. ⟦<FileDisk as Disk>⟧.past disk ≡ []) }
+        ensures failed { OnErr result (made self.new ≡ FailedOpening path.now ∷ made self.old) };
+
+    /// A device of so many zeros over a new file, which is locked, and its owner's alone where the file system has rights. One that is there
+    /// isn't touched, and the call fails.
+    fn make(&mut self, path: &str, len: u64) -> Result<FileDisk, FileFault>
+        ensures good { OnOk result (made self.new ≡ Made path.now ∷ made self.old) }
+        ensures failed { OnErr result (made self.new ≡ FailedMaking path.now ∷ made self.old) };
+
+    /// Removes a file, where that can be done.
+    fn remove(&mut self, path: &str)
+        ensures { made self.new ≡ Removed path.now ∷ made self.old };
+
+    /// A listener on an address, and the address that it has. It waits no longer than a beat for the next connection.
+    fn listen(&mut self, address: &str) -> io::Result<(TcpListener, SocketAddr)>
+        ensures good { OnOk result (made self.new ≡ Listened address.now ∷ made self.old) }
+        ensures failed { OnErr result (made self.new ≡ FailedListening address.now ∷ made self.old) };
+}
+
+/// The operating system.
+#[derive(Drop)]
+pub(crate) struct HostCalls<'a, R> {
+    rt: &'a R,
+    notes: Notes,
+}
+
+impl<'a, R> HostCalls<'a, R> {
+    /// Nothing was asked yet.
+    pub(crate) fn new(rt: &'a R) -> HostCalls<'a, R> {
+        HostCalls {
+            rt,
+            notes: Notes::new(),
+        }
+    }
+}
+
+impl<R: Files<File = File> + Net<Listener = TcpListener, Stream = TcpStream>> Calls
+    for HostCalls<'_, R> {
+    ghost made = { λ calls. calls.notes.calls };
+
+    fn is_there(&mut self, path: &str) -> io::Result<bool> {
+        match fs::exists(self.rt, path) {
+            Ok(true) => {
+                self.notes.note(&[FOUND], path.as_bytes());
+                Ok(true)
+            }
+            Ok(false) => {
+                self.notes.note(&[MISSED], path.as_bytes());
+                Ok(false)
+            }
+            Err(reason) => {
+                self.notes.note(&[UNSEEN], path.as_bytes());
+                Err(reason)
+            }
+        }
+    }
+
+    fn open(&mut self, path: &str) -> Result<FileDisk, FileFault> {
+        match FileDisk::open(self.rt, path) {
+            Ok(disk) => {
+                self.notes.note(&[OPENED], path.as_bytes());
+                Ok(disk)
+            }
+            Err(fault) => {
+                self.notes.note(&[FAILED_OPENING], path.as_bytes());
+                Err(fault)
+            }
+        }
+    }
+
+    fn make(&mut self, path: &str, len: u64) -> Result<FileDisk, FileFault> {
+        match FileDisk::create(self.rt, path, len) {
+            Ok(disk) => {
+                let _ = fs::set_permissions(self.rt, path, Permissions::from_mode(OWNER_ALONE));
+                self.notes.note(&[MADE], path.as_bytes());
+                Ok(disk)
+            }
+            Err(fault) => {
+                self.notes.note(&[FAILED_MAKING], path.as_bytes());
+                Err(fault)
+            }
+        }
+    }
+
+    fn remove(&mut self, path: &str) {
+        let _ = fs::remove_file(self.rt, path);
+        self.notes.note(&[REMOVED], path.as_bytes());
+    }
+
+    fn listen(&mut self, address: &str) -> io::Result<(TcpListener, SocketAddr)> {
+        match bind(self.rt, address) {
+            Ok(bound) => {
+                self.notes.note(&[LISTENED], address.as_bytes());
+                Ok(bound)
+            }
+            Err(reason) => {
+                self.notes.note(&[FAILED_LISTENING], address.as_bytes());
+                Err(reason)
+            }
+        }
+    }
+}
+
+fn bind<R: Net<Listener = TcpListener, Stream = TcpStream>>(
+    rt: &R,
+    address: &str,
+) -> io::Result<(TcpListener, SocketAddr)> {
+    let listener = with_beat(TcpListener::bind(rt, address)?)?;
+    let bound = listener.local_addr()?;
+    Ok((listener, bound))
+}
+
+// A listener that waits no longer than a beat for the next connection, so that it is asked then whether to go on. The system keeps the wait with the
+// descriptor, for which a stream has the call.
+fn with_beat(listener: TcpListener) -> io::Result<TcpListener> {
+    let stream = TcpStream::from(OwnedFd::from(listener));
+    stream.set_read_timeout(Some(Duration::from_millis(BEAT)))?;
+    Ok(TcpListener::from(OwnedFd::from(stream)))
+}

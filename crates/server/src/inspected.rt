@@ -1,0 +1,127 @@
+//! What a store in a file is told to hold, without a change to it.
+ghost use Rattle.std.specs.Prelude.{◌≡◌, ◌⊎◌, true, OnOk, IfOk, IfErr, IsErrOf};
+ghost use Rattle.std.specs.String.{string_bytes};
+ghost use Rattle.std.specs.Io.KnownBytes.{Appends};
+ghost use Rattle.disk.specs.Crash.{history_of};
+ghost use Rattle.disk.specs.Device.{IsSync, IsAtMostOneStep};
+ghost use Rattle.server.specs.Calls.{IsOpened};
+ghost use Rattle.server.specs.Checked.{checked_line};
+
+use crate::calls::Calls;
+use crate::ended::Ended;
+use crate::files::open_file;
+use disk::{Disk, FileDisk};
+use inspection::{check, documents, info};
+use recovery::{OpenFault, Pick, Store};
+use refusal::Refusal;
+use serving::Failure;
+use session::{Output, Stream};
+use std::alloc::{AllocError, Global};
+use std::io::Write;
+
+/// What came of printing something of a store. The device comes back.
+#[derive(Drop)]
+pub struct Printed<D> {
+    pub disk: D,
+    pub done: Result<(), Failure>,
+}
+
+impl Printed<FileDisk> {
+    /// What the program ends with.
+    pub(crate) fn ended<'a>(self, path: &'a str) -> Result<(), Ended<'a>> {
+        match self.done {
+            Ok(()) => Ok(()),
+            Err(Failure::Refused(refusal)) => Err(Ended::over(path, &self.disk, refusal)),
+            Err(Failure::Stream) => Err(Ended::Stream),
+        }
+    }
+}
+
+/// Prints how full the store in a file is, or its documents.
+pub(crate) fn tell_of_store<'a, C: Calls, O: Write>(
+    alloc: Global,
+    calls: &mut C,
+    path: &'a str,
+    each: bool,
+    output: &mut O,
+) -> Result<(), Ended<'a>>
+    ensures { IsOpened path.now (C.made calls.old) (C.made calls.new) }
+{
+    let disk = open_file(calls, path)?;
+    let mut stream = Stream::new(output);
+    tell_of(alloc, disk, each, &mut stream).ended(path)
+}
+
+// Prints how full the store on a device is, or its documents. Nothing is written to the device.
+fn tell_of<D: Disk, O: Output>(alloc: Global, disk: D, each: bool, output: &mut O) -> Printed<D>
+    ensures time { IsAtMostOneStep IsSync (history_of ⟦<D as Disk>⟧ disk) (history_of ⟦<D as Disk>⟧ result.disk) }
+    ensures seen { D.seen result.disk ≡ D.seen disk }
+{
+    let store = match Store::open(alloc, disk, Pick::Newer) {
+        Ok(store) => store,
+        Err(OpenFault { disk, refusal }) => {
+            let done = Err(Failure::Refused(refusal));
+            return Printed { disk, done };
+        }
+    };
+    let told = if each {
+        documents(alloc, store.state(), output)
+    } else {
+        info(alloc, &store, output)
+    };
+    Printed {
+        disk: store.close(),
+        done: as_served(told),
+    }
+}
+
+// The failure, as the program has it.
+fn as_served(told: Result<(), inspection::Failure>) -> Result<(), Failure> {
+    match told {
+        Ok(()) => Ok(()),
+        Err(inspection::Failure::Refused(refusal)) => Err(Failure::Refused(refusal)),
+        Err(inspection::Failure::Stream) => Err(Failure::Stream),
+    }
+}
+
+/// Reads the store in a file in both ways, and prints that they match.
+pub(crate) fn check_file<'a, C: Calls, O: Write>(
+    alloc: Global,
+    calls: &mut C,
+    path: &'a str,
+    output: &mut O,
+) -> Result<(), Ended<'a>>
+    ensures { IsOpened path.now (C.made calls.old) (C.made calls.new) }
+{
+    let disk = open_file(calls, path)?;
+    match check(alloc, disk) {
+        Ok(checked) => {
+            let mut stream = Stream::new(output);
+            Ok(print_counts(alloc, checked.documents, checked.changes, &mut stream)?)
+        }
+        Err(OpenFault { disk, refusal }) => Err(Ended::over(path, &disk, refusal)),
+    }
+}
+
+// Prints how many documents a store that is sound has, and how many changes.
+fn print_counts<O: Output>(
+    alloc: Global,
+    documents: u64,
+    changes: u64,
+    output: &mut O,
+) -> Result<(), Failure>
+    ensures printed { OnOk result (Appends (O.contents output.old) (O.contents output.new) (checked_line documents changes)) }
+    ensures only { IfErr result (λ e. (e ≡ Failure.Stream) ⊎ (e ≡ Failure.Refused Refusal.NoMemory)) }
+    ensures cause { IsErrOf result Failure.Stream → O.has_failed output.new ≡ true }
+{
+    let line = counted(alloc, documents, changes)?;
+    output.put(line.as_bytes())?;
+    output.flush()?;
+    Ok(())
+}
+
+fn counted(alloc: Global, documents: u64, changes: u64) -> Result<String, AllocError>
+    ensures { IfOk result (λ line. string_bytes line ≡ checked_line documents changes) }
+{
+    format!(in alloc; "ok documents {documents} changes {changes}\n")
+}

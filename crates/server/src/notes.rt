@@ -1,0 +1,32 @@
+//! What the system was asked, kept where only clauses read it.
+ghost use Rattle.std.specs.Prelude.{◌≡◌, ℕ, List, [], ◌∷◌};
+ghost use Rattle.std.specs.Borrow.{ftrue};
+ghost use Rattle.server.specs.Calls.{Call, call_of};
+
+use std::marker::{Model, PhantomData};
+
+/// A list of calls, newest first. It takes no memory.
+#[derive(Drop)]
+pub(crate) struct Notes {
+    marker: PhantomData<u8>,
+    pub ghost calls: { List Call },
+}
+
+impl Model for Notes {
+    ghost also_owns = { λ _. ftrue };
+}
+
+impl Notes {
+    pub(crate) fn new() -> Notes
+        ensures { result.calls ≡ [] }
+    {
+        Notes {
+            marker: PhantomData,
+        }
+    }
+
+    /// Notes a call, by its kind and the name of a file or an address. Its proof is by hand, since it sets what no memory holds.
+    pub(crate) fn note(&mut self, _numbers: &[u64], _bytes: &[u8])
+        ensures { self.new.calls ≡ call_of _numbers.now _bytes.now ∷ self.old.calls }
+    {}
+}

@@ -1,0 +1,8 @@
+use Rattle.serde_json.specs.Data.{Members}
+use Rattle.optext.specs.Described.{scalar_of}
+use Rattle.session.specs.steps.Tokened.{ReadsMembers, AreEntries}
+use Rattle.session.proofs.tokened.attribute_maps.attributes.Given as goal
+
+-- the members so far are those of the map
+abbrev pub invariant-loop : goal.invariant-loop
+invariant-loop l = (found : Members) × ReadsMembers 0 l.initial.reader found l.reader × AreEntries scalar_of found l.attrs.entries

@@ -1,0 +1,511 @@
+// A browser's virtual session: its lines, answered as a session of its own at the store would answer them. Messages stand in a row, each with
+// its reply once that is there, and replies leave from the row's head alone.
+
+import { MOST_LINE, KIND, PROBE, REFUSAL, codeOf, isAgain, readMessage, revOf } from "./messages.js";
+import { Subscription, endedLine } from "./news.js";
+
+const MOST_WAITING = 64; // messages without a reply; then no more are read
+const MOST_READS = 8; // reads that are asked at the same time; one where a reply was large
+const LARGE_REPLY = 1 << 18; // bytes
+const MOST_BUFFERED = 1 << 20; // bytes that the browser hasn't taken; then it gets no news and no reads are asked
+const MOST_OWN = 1_000; // documents of which the last own revision is known
+const LATER = 50; // milliseconds until a browser that took too little is looked at again
+const PATIENCE = 10_000; // milliseconds that a message waits for a store that isn't there, then it is to be sent again
+const FAREWELL = 5_000; // milliseconds that a browser has to answer the end
+const LARGE = 65_536; // bytes of a line that is sent by itself
+const HELLO = Buffer.from('{"gateway":1,"ok":"hello"}\n');
+const EMPTY = Buffer.alloc(0);
+const FULL_STORE = 20;
+const NO_DOCUMENT = 6;
+const NOT_MADE = [3, 4, 7, 15, 16, 17, FULL_STORE]; // a creation that is refused so used no number
+const UNKNOWN = [21, 22]; // a command that is refused so may have been taken
+
+/**
+ * @typedef {object} Slot  a message in the row
+ * @property {string} kind
+ * @property {any} [message]
+ * @property {Buffer} [reply]
+ * @property {boolean} [isAllowed]
+ * @property {boolean} [needsLease]  its holder may have a new lease in its document
+ * @property {boolean} [isAsking]  something is found out before it can be sent
+ * @property {boolean} [isSent]  to the sessions of a store, where it may still wait
+ * @property {{ isSent: boolean, isWanted: boolean }} [ticket]
+ * @property {number} [since]
+ * @property {{ subscription: Subscription, news: import("./news.js").News }} [followed]
+ */
+
+export class Browser {
+  #gateway;
+  #socket;
+  #unread = EMPTY;
+  #skips = false; // the rest of a line that is too long
+  /** @type {Slot[]} */
+  #slots = [];
+  #open = new Map(); // doc -> how many messages of it have no reply
+  #own = new Map(); // doc -> the revision of the last own command that was answered
+  /** @type {Map<string, { subscription: Subscription, news: import("./news.js").News }>} */
+  #followed = new Map();
+  #written = new Set(); // documents with a lease
+  /** @type {Buffer[]} */
+  #out = [];
+  #outBytes = 0;
+  #readsAtOnce = MOST_READS;
+  #given = 0; // bytes
+  #taken = 0; // of them, at the last look
+  #isAlive = true;
+  #wasSlow = false; // at the last look
+  #holder;
+  #isPumping = false;
+  #isPumpDue = false;
+  #isEnding = false;
+  #timer;
+
+  isGone = false;
+
+  /**
+   * @param {any} gateway  what the gateway has for its browsers, see gateway.js
+   * @param {any} socket
+   * @param {import("./users.js").User} user
+   * @param {number} id
+   */
+  constructor(gateway, socket, user, id) {
+    this.#gateway = gateway;
+    this.#socket = socket;
+    this.user = user;
+    this.id = id;
+    socket.on("message", (bytes) => this.#read(bytes));
+    socket.on("pong", () => (this.#isAlive = true));
+    socket.on("close", () => this.#leave());
+    socket.on("error", () => {}); // its close follows
+  }
+
+  /** Its user's name, as others see it. */
+  get shownName() {
+    return this.user.name;
+  }
+
+  /** Whether it has so much to take that it gets nothing unasked. */
+  get isSlow() {
+    return this.#socket.bufferedAmount > MOST_BUFFERED;
+  }
+
+  /** Gives it lines besides its replies. @param {Buffer} lines */
+  say(lines) {
+    if (this.isGone) return;
+    this.#give(lines);
+    this.#flush();
+  }
+
+  /** Ends it now. @param {number} code @param {string} why */
+  close(code, why) {
+    if (this.isGone) return;
+    this.#flush();
+    this.#leave();
+    if (this.#socket.isPaused) this.#socket.resume(); // else its farewell isn't read
+    this.#socket.close(code, why);
+    setTimeout(() => this.#socket.terminate(), FAREWELL).unref();
+  }
+
+  /** Ends it once its commands that were sent are answered. No others are sent. */
+  finish() {
+    this.#isEnding = true;
+    for (const { ticket } of this.#slots) if (ticket !== undefined) ticket.isWanted = false;
+    this.#pump();
+  }
+
+  /** Looks whether it is there: it has answered the last ping, or taken bytes since the last look. */
+  look() {
+    const taken = this.#given - this.#socket.bufferedAmount;
+    const isSilent = !this.#isAlive && !this.#socket.isPaused; // its pong isn't read while no more messages are
+    const isStuck = this.isSlow && this.#wasSlow;
+    if (taken <= this.#taken && (isSilent || isStuck)) {
+      if (isStuck) this.#gateway.metrics.slow += 1;
+      return this.#socket.terminate();
+    }
+    this.#taken = taken;
+    this.#wasSlow = this.isSlow;
+    this.#isAlive = false;
+    this.#socket.ping();
+  }
+
+  /** Has it send again what waits too long for a store. */
+  giveUpWaiting() {
+    const now = performance.now();
+    let hasGivenUp = false;
+    for (const slot of this.#slots) {
+      const { reply, ticket, kind } = slot;
+      if (reply !== undefined || !(now - slot.since > PATIENCE) || (kind === "command" && ticket?.isSent)) continue;
+      if (ticket !== undefined) ticket.isWanted = false;
+      slot.reply = REFUSAL.NoMemory;
+      hasGivenUp = true;
+    }
+    if (hasGivenUp) this.#pump();
+  }
+
+  #read(bytes) {
+    if (this.isGone) return;
+    this.#unread = this.#unread.length === 0 ? bytes : Buffer.concat([this.#unread, bytes]);
+    this.#pump();
+  }
+
+  // Reads lines, sends what may be sent, gives the replies whose turn it is, until none of it does anything.
+  #pump() {
+    if (this.#isPumping) {
+      this.#isPumpDue = true;
+      return;
+    }
+    this.#isPumping = true;
+    do {
+      this.#isPumpDue = false;
+      this.#readLines();
+      const hasGiven = this.#deliver(); // what is asked now has to know the last own revision
+      this.#sendWhatMay();
+      if ((this.#deliver() || hasGiven) && this.#unread.length > 0) this.#isPumpDue = true;
+    } while (this.#isPumpDue && !this.isGone);
+    this.#isPumping = false;
+    this.#flush();
+    if (this.isGone) return;
+    if (this.#isEnding && !this.#slots.some(isOnItsWay)) return this.close(1012, "the gateway ends");
+    const waits = this.#slots.length >= MOST_WAITING || this.#unread.includes(10);
+    if (waits) this.#socket.pause();
+    else if (this.#socket.isPaused) this.#socket.resume();
+  }
+
+  #readLines() {
+    while (!this.isGone && !this.#isEnding && this.#slots.length < MOST_WAITING) {
+      const at = this.#unread.indexOf(10);
+      if (at === -1) break;
+      if (!this.user.takesTurn()) return this.#pumpLater();
+      const line = this.#unread.subarray(0, at);
+      this.#unread = this.#unread.subarray(at + 1);
+      if (this.#skips) this.#skips = false;
+      else if (line.length > MOST_LINE) this.#refuse(REFUSAL.LineTooLong);
+      else this.#take(line);
+    }
+    if (this.#unread.length > MOST_LINE && !this.#unread.includes(10)) {
+      if (!this.#skips) this.#refuse(REFUSAL.LineTooLong);
+      this.#skips = true;
+    }
+    if (this.#skips && !this.#unread.includes(10)) this.#unread = EMPTY;
+  }
+
+  #refuse(reply) {
+    this.#slots.push({ kind: "local", reply });
+  }
+
+  #take(line) {
+    const { message, refusal } = readMessage(line, this.#holder !== undefined);
+    if (refusal !== undefined) return this.#refuse(refusal);
+    if (message.do === "hello") return this.#greet(message.source);
+    /** @type {Slot} */
+    const slot = { kind: KIND[message.do], message, since: performance.now() };
+    this.#slots.push(slot);
+    this.#open.set(message.doc, (this.#open.get(message.doc) ?? 0) + 1);
+    const verdict = this.#gateway.judge(this.user, message);
+    if (typeof verdict === "boolean") this.#judged(slot, verdict);
+    else verdict.then((isAllowed) => this.#judged(slot, isAllowed), () => (slot.reply ??= REFUSAL.NoMemory)).then(() => this.#pump());
+  }
+
+  #judged(slot, isAllowed) {
+    if (isAllowed) slot.isAllowed = true;
+    else slot.reply ??= REFUSAL.NotAllowed;
+  }
+
+  // The name that a browser gives is its token. The names that the store sees are lent for each document.
+  #greet(token) {
+    this.#holder = `${this.user.id}/${token}`; // a token has no stroke
+    this.#gateway.arrive(this.#holder, this);
+    this.#slots.push({ kind: "local", reply: HELLO });
+  }
+
+  // Messages of two kinds don't overtake each other; those of one needn't wait for each other. A caret waits for nothing but its turn.
+  #sendWhatMay() {
+    let kind;
+    let asked = 0;
+    for (const slot of this.#slots) {
+      if (this.isGone || this.#isEnding) return;
+      if (slot.reply !== undefined) continue;
+      if (kind !== undefined && slot.kind !== kind && slot.kind !== "presence") return;
+      if (!slot.isSent) {
+        const isRead = slot.kind === "fetch" || slot.kind === "since";
+        if (isRead && this.isSlow) return this.#pumpLater();
+        if ((isRead && asked >= this.#readsAtOnce) || !slot.isAllowed || slot.isAsking || !this.#send(slot)) return;
+      }
+      if (slot.reply !== undefined) continue;
+      kind = slot.kind;
+      asked += 1;
+    }
+  }
+
+  // Sends a message to its store, or answers it. Gives whether the next one may follow.
+  #send(slot) {
+    const { kind, message: { do: what, doc } } = slot;
+    if (kind === "presence") return this.#reply(slot, `{"doc":"${doc}","ok":"presence"}\n`);
+    if (what === "unsubscribe") return this.#reply(slot, `{"doc":"${doc}","ok":"unsubscribed"}\n`);
+    const { places, stores } = this.#gateway;
+    const place = places.cached(doc);
+    if (place === undefined) {
+      return this.#find(slot, places.find(doc, what === "create"), (found) => found === null && (slot.reply ??= REFUSAL.NoDocument));
+    }
+    const store = stores.get(place);
+    if (store === undefined) {
+      slot.reply = place === null ? REFUSAL.NoDocument : REFUSAL.NoMemory; // a store that isn't in the settings yet
+      return true;
+    }
+    if (kind === "command" || kind === "lease") return this.#write(slot, store);
+    this.#ask(slot, store);
+    return true;
+  }
+
+  #reply(slot, line) {
+    slot.reply = Buffer.from(line);
+    return true;
+  }
+
+  // Waits for something, and goes on then. What can't be asked for is to be sent again.
+  #find(slot, promise, then) {
+    slot.isAsking = true;
+    promise.then(then).catch((error) => {
+      slot.reply ??= REFUSAL.NoMemory;
+      this.#gateway.log("a message can't be served now", { doc: slot.message.doc, error: error.message });
+    }).then(() => {
+      slot.isAsking = false;
+      this.#pump();
+    });
+    return false;
+  }
+
+  // A command, or a question for a lease: both are under the holder's lease in this document.
+  #write(slot, store) {
+    const { message, kind } = slot;
+    if (!slot.needsLease && !store.leases.has(message.doc, this.#holder)) {
+      return this.#find(slot, store.standing(message.doc, () => !this.isGone), (standing) => this.#needLease(slot, standing, store.leases));
+    }
+    const lease = store.leases.lend(message.doc, this.#holder);
+    if (lease instanceof Promise) return this.#find(slot, lease, (found) => found === undefined && (slot.reply ??= REFUSAL.TooManySources));
+    if (lease === undefined) slot.reply = REFUSAL.TooManySources;
+    else if (kind === "lease") slot.reply = leaseLine(message.doc, lease);
+    else if (message.do === "undo" && lease.epoch > 1 && !lease.isOwn) {
+      if (this.#slots.some((it) => it !== slot && isWaiting(it) && it.message.doc === message.doc)) return false; // it may become one's own
+      slot.reply = REFUSAL.NothingToUndo; // what there is was another's
+    } else this.#command(slot, store, lease);
+    this.#written.add(message.doc);
+    return true;
+  }
+
+  // A name isn't lent for a document that is nowhere, and none is needed to be told that one is there already.
+  async #needLease(slot, standing, leases) {
+    const { do: what, doc } = slot.message;
+    const isCreation = what === "create";
+    if (isCreation && standing === "there" && !(await leases.isHeld(doc, this.#holder))) slot.reply ??= REFUSAL.Exists;
+    else if (!isCreation && standing === "nowhere") slot.reply ??= REFUSAL.NoDocument;
+    else slot.needsLease = true;
+  }
+
+  #command(slot, store, lease) {
+    slot.isSent = true;
+    lease.begin();
+    const began = performance.now();
+    const settle = (line) => this.#onCommand(slot, store, lease, line, began);
+    slot.ticket = store.command(lease.name, JSON.stringify(slot.message) + "\n", settle);
+  }
+
+  // What became of a command. Undefined: it wasn't sent, as it wasn't wanted any more; null: its session was cut.
+  #onCommand(slot, store, lease, line, began) {
+    const { metrics } = this.#gateway;
+    const { do: what, doc, n, base } = slot.message;
+    if (line === undefined) return lease.settle(n, "refused");
+    if (line === null) {
+      lease.settle(n, "cut");
+      return this.close(1012, "the store's session was cut");
+    }
+    metrics.replies.add(performance.now() - began);
+    const code = codeOf(line);
+    const result = code !== 0 ? "refused" : isAgain(line) ? "again" : "taken";
+    const isCreation = what === "create";
+    metrics.commands[result] += 1;
+    lease.settle(n, UNKNOWN.includes(code) ? "cut" : result);
+    if (isCreation && NOT_MADE.includes(code)) store.leases.release(doc, this.#holder, lease);
+    const isOthers = result === "again" && isCreation && n === 1 && lease.epoch > 1 && !lease.isOwn;
+    if (result === "taken") {
+      store.leases.own(doc, this.#holder, lease);
+      store.news.taken(doc, line);
+    }
+    if (result !== "refused" && isCreation && !isOthers) this.#gateway.places.created(doc);
+    if (result !== "refused" && base !== PROBE) this.#gateway.taken(this.user, slot.message, revOf(line), result === "again");
+    if (this.isGone) return;
+    if (code === FULL_STORE && isCreation) return this.#sendElsewhere(slot, store, line, this.#gateway.places.move(doc, store.name));
+    if (code === NO_DOCUMENT) return this.#lookAgain(slot, store, line);
+    this.#answer(slot, isOthers ? REFUSAL.OldNumber : line);
+  }
+
+  #ask(slot, store) {
+    const { message } = slot;
+    const { doc, rev } = message;
+    const ticket = { isSent: false, isWanted: true };
+    Object.assign(slot, { isSent: true, ticket });
+    const wanted = () => ticket.isWanted && !this.isGone;
+    const settle = (line) => (codeOf(line) === NO_DOCUMENT ? this.#lookAgain(slot, store, line) : this.#answer(slot, line));
+    const own = this.#own.get(doc) ?? 0;
+    if (message.do === "fetch") return store.fetch(JSON.stringify(message) + "\n", rev === undefined ? own : 0, settle, wanted);
+    if (message.do === "since") return store.since(doc, rev, settle, wanted, own);
+    const subscription = new Subscription(doc, rev, (it) => this.#followed.get(doc)?.subscription === it && this.#tell(doc) && this.#flush());
+    store.news.join(subscription, (line) => {
+      if (this.isGone || slot.reply !== undefined) return store.news.leave(subscription);
+      if (codeOf(line) === 0) slot.followed = { subscription, news: store.news };
+      settle(line);
+    }, wanted);
+  }
+
+  // A document may have another place by now than the one that was asked.
+  #lookAgain(slot, store, line) {
+    const { places } = this.#gateway;
+    if (!places.moves) return this.#answer(slot, line);
+    this.#sendElsewhere(slot, store, line, places.again(slot.message.doc).catch(() => null));
+  }
+
+  // Sends what a store has refused to another one, where there is one.
+  #sendElsewhere(slot, store, line, place) {
+    if (slot.reply !== undefined) return;
+    this.#find(slot, place, (found) => {
+      if (found === null || found === store.name) slot.reply ??= line;
+      else slot.isSent = false;
+    });
+  }
+
+  #answer(slot, line) {
+    if (this.isGone || slot.reply !== undefined) return;
+    slot.reply = line;
+    this.#pump();
+  }
+
+  // Gives the replies whose turn it is, and behind each the news that may go now. Gives whether there was one.
+  #deliver() {
+    const before = this.#slots.length;
+    while (!this.isGone && this.#slots[0]?.reply !== undefined) {
+      const { kind, message, reply, followed } = this.#slots.shift();
+      const code = codeOf(reply);
+      if (reply.length > LARGE_REPLY) this.#readsAtOnce = 1;
+      if (message?.do === "unsubscribe" && code === 0) this.#unfollow(message.doc);
+      this.#give(reply);
+      this.#gateway.metrics.refused(code);
+      if (kind === "local") continue;
+      const { doc } = message;
+      const left = this.#open.get(doc) - 1;
+      if (left > 0) this.#open.set(doc, left);
+      else this.#open.delete(doc);
+      if (kind === "command" && code === 0) this.#noteOwn(doc, revOf(reply));
+      if (kind === "presence" && code === 0) this.#gateway.presence.set(this, message);
+      if (followed !== undefined) {
+        this.#unfollow(doc);
+        this.#followed.set(doc, followed);
+      }
+      this.#tell(doc);
+    }
+    return this.#slots.length < before;
+  }
+
+  #noteOwn(doc, rev) {
+    const before = this.#own.get(doc) ?? 0;
+    this.#own.delete(doc);
+    this.#own.set(doc, Math.max(rev, before));
+    if (this.#own.size > MOST_OWN) this.#own.delete(this.#own.keys().next().value);
+  }
+
+  // Tells the news of a document. It waits while a message of it has no reply; what stands up to an own change that was answered may go.
+  #tell(doc) {
+    const followed = this.#followed.get(doc);
+    if (followed === undefined || this.isGone) return false;
+    const { subscription, news } = followed;
+    const last = this.#open.has(doc) ? (this.#own.get(doc) ?? 0) : Infinity;
+    const { backlog } = subscription;
+    while (backlog.length > 0 && subscription.told < last) {
+      if (this.#isBehind()) return this.#pumpLater();
+      this.#giveNews(subscription, backlog.shift());
+    }
+    if (backlog.length > 0 || subscription.told >= last) return true;
+    const lines = news.linesFor(subscription, last);
+    for (const line of lines ?? []) {
+      if (this.#isBehind()) return this.#pumpLater();
+      this.#giveNews(subscription, line);
+    }
+    if (lines === null && last === Infinity) {
+      this.#give(endedLine(doc)); // it was deleted, or this browser is too slow for what is kept: it fetches
+      this.#unfollow(doc);
+    }
+    return true;
+  }
+
+  #isBehind() {
+    return this.#socket.bufferedAmount + this.#outBytes > MOST_BUFFERED;
+  }
+
+  #giveNews(subscription, line) {
+    this.#give(line);
+    subscription.told += 1;
+    this.#gateway.metrics.news += 1;
+  }
+
+  #pumpLater() {
+    this.#timer ??= setTimeout(() => {
+      this.#timer = undefined;
+      for (const doc of [...this.#followed.keys()]) this.#tell(doc);
+      this.#pump();
+    }, LATER);
+    return true;
+  }
+
+  #give(line) {
+    this.#out.push(line);
+    this.#outBytes += line.length;
+    this.#given += line.length;
+  }
+
+  #flush() {
+    const out = this.#out;
+    if (out.length === 0) return;
+    this.#out = [];
+    this.#outBytes = 0;
+    if (this.isGone) return;
+    let small = [];
+    const send = (bytes) => this.#socket.send(bytes, { binary: true });
+    const sendSmall = () => {
+      if (small.length > 0) send(small.length === 1 ? small[0] : Buffer.concat(small));
+      small = [];
+    };
+    for (const line of out) {
+      if (line.length < LARGE) {
+        small.push(line);
+        continue;
+      }
+      sendSmall();
+      send(line);
+    }
+    sendSmall();
+  }
+
+  #unfollow(doc) {
+    const followed = this.#followed.get(doc);
+    if (followed === undefined) return;
+    this.#followed.delete(doc);
+    followed.news.leave(followed.subscription);
+  }
+
+  #leave() {
+    if (this.isGone) return;
+    this.isGone = true;
+    clearTimeout(this.#timer);
+    for (const { ticket } of this.#slots) if (ticket !== undefined) ticket.isWanted = false;
+    for (const doc of [...this.#followed.keys()]) this.#unfollow(doc);
+    this.#unread = EMPTY;
+    this.#gateway.depart(this, this.#holder, this.#written);
+  }
+}
+
+const isWaiting = ({ kind, isSent, reply }) => kind === "command" && isSent === true && reply === undefined;
+const isOnItsWay = (slot) => isWaiting(slot) && slot.ticket.isSent;
+
+function leaseLine(doc, { name, epoch, next, onWay }) {
+  const known = next !== undefined && onWay === 0 ? { n: next } : {};
+  return Buffer.from(JSON.stringify({ doc, epoch, lease: name, ...known, ok: "lease" }) + "\n");
+}

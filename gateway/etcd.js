@@ -1,0 +1,130 @@
+// etcd by its HTTP interface, of etcd 3.4 and later: keys and values are in base64.
+
+import http from "node:http";
+import https from "node:https";
+
+const PATIENCE = 5_000; // milliseconds for an answer
+
+export const encoded = (text) => Buffer.from(text).toString("base64");
+export const decoded = (text = "") => Buffer.from(text, "base64").toString();
+
+/** @param {string} prefix @returns {string} the first text above all that begin with it */
+const above = (prefix) => prefix.slice(0, -1) + String.fromCharCode(prefix.charCodeAt(prefix.length - 1) + 1);
+
+export class Etcd {
+  #urls;
+  #prefix;
+  #log;
+  #turn = 0;
+  #agents = { "http:": new http.Agent({ keepAlive: true, maxSockets: 32 }), "https:": new https.Agent({ keepAlive: true, maxSockets: 32 }) };
+  isThere = true; // as far as is known
+
+  /** @param {{ urls: string[], prefix?: string, log?: (event: string, about?: object) => void }} options */
+  constructor({ urls, prefix = "richd/", log = () => {} }) {
+    this.#urls = urls;
+    this.#prefix = prefix;
+    this.#log = log;
+  }
+
+  /** A key's value and the revision that wrote it, or undefined. */
+  async get(key) {
+    const [found] = await this.range({ key: this.#key(key) });
+    return found;
+  }
+
+  /** Those whose key begins with a text, in order of keys; from the one behind `after` on, at most `limit`. */
+  async under(text, { after = "", limit = 0, keysOnly = false } = {}) {
+    const from = after === "" ? text : `${text}${after}\0`;
+    return this.range({ key: this.#key(from), range_end: encoded(above(this.#prefix + text)), limit, keys_only: keysOnly });
+  }
+
+  /**
+   * One transaction. Gives whether all that is compared holds; then all is done.
+   * @param {{ key: string, mod?: number }[]} compare  a key's revision; without it, that there is no such key
+   * @param {{ key: string, value?: string }[]} then  what is put, or deleted where it has no value
+   */
+  async transact(compare, then) {
+    const { succeeded = false } = await this.#post("txn", {
+      compare: compare.map(({ key, mod }) => (mod === undefined
+        ? { key: this.#key(key), target: "CREATE", result: "EQUAL", create_revision: 0 }
+        : { key: this.#key(key), target: "MOD", result: "EQUAL", mod_revision: mod })),
+      success: then.map(({ key, value }) => (value === undefined
+        ? { requestDeleteRange: { key: this.#key(key) } }
+        : { requestPut: { key: this.#key(key), value: encoded(value) } })),
+      failure: [],
+    });
+    return succeeded;
+  }
+
+  /** Puts a value where there is none, in one transaction. Gives the value that stands there then, and its revision. */
+  async create(key, value) {
+    const get = { requestRange: { key: this.#key(key) } };
+    const { responses } = await this.#post("txn", {
+      compare: [{ key: this.#key(key), target: "CREATE", result: "EQUAL", create_revision: 0 }],
+      success: [{ requestPut: { key: this.#key(key), value: encoded(value) } }, get],
+      failure: [get],
+    });
+    return this.#found(responses.at(-1).response_range)[0];
+  }
+
+  async range(body) {
+    return this.#found(await this.#post("range", body));
+  }
+
+  close() {
+    for (const agent of Object.values(this.#agents)) agent.destroy();
+  }
+
+  #key(key) {
+    return encoded(this.#prefix + key);
+  }
+
+  #found({ kvs = [] }) {
+    return kvs.map(({ key, value, mod_revision }) => ({ key: decoded(key).slice(this.#prefix.length), value: decoded(value), mod: mod_revision }));
+  }
+
+  // Asks one after the other until one answers.
+  async #post(path, body) {
+    let trouble;
+    for (let tries = 0; tries < this.#urls.length; tries += 1) {
+      try {
+        const answer = await this.#request(new URL(`/v3/kv/${path}`, this.#urls[this.#turn]), JSON.stringify(body));
+        if (!this.isThere) this.#log("etcd is back");
+        this.isThere = true;
+        return answer;
+      } catch (error) {
+        trouble = error;
+        this.#turn = (this.#turn + 1) % this.#urls.length;
+      }
+    }
+    if (this.isThere) this.#log("etcd is away", { error: trouble.message });
+    this.isThere = false;
+    throw trouble;
+  }
+
+  /** @param {URL} url @param {string} body @returns {Promise<any>} */
+  #request(url, body) {
+    return new Promise((resolve, reject) => {
+      const { request } = url.protocol === "https:" ? https : http;
+      const asked = request(url, { method: "POST", agent: this.#agents[url.protocol], headers: { "content-type": "application/json" } }, (response) => {
+        const parts = [];
+        response.on("data", (part) => parts.push(part));
+        response.on("error", reject);
+        response.on("end", () => {
+          const text = Buffer.concat(parts).toString();
+          if (response.statusCode !== 200) return reject(new Error(`etcd answers ${response.statusCode}: ${text.slice(0, 200)}`));
+          try {
+            resolve(JSON.parse(text));
+          } catch (error) {
+            reject(error);
+          }
+        });
+      });
+      let timer;
+      asked.on("socket", () => (timer = setTimeout(() => asked.destroy(new Error("etcd doesn't answer")), PATIENCE))); // not while it waits for one
+      asked.on("close", () => clearTimeout(timer));
+      asked.on("error", reject);
+      asked.end(body);
+    });
+  }
+}

@@ -1,0 +1,105 @@
+// What a program uses of the gateway. docs/GATEWAY.md says what the settings mean.
+
+/** Who is signed in: a name, or an object with an id, and the name that others see. */
+export type User = string | { id: string; name?: string; [more: string]: unknown };
+
+/** What is used of a request of node:http. */
+export interface Request {
+  url?: string;
+  headers: Record<string, string | string[] | undefined>;
+}
+
+/** What a user may do with a document: read it; edit it, and undo; create it, also again; delete it. */
+export type Action = "read" | "edit" | "create" | "delete";
+
+export interface StoreAddress {
+  /** 1 to 32 characters of A-Z a-z 0-9 . _ -, the same for all gateways. */
+  name: string;
+  host: string;
+  port: number;
+  /** Whether new documents go there; true if it isn't given. */
+  new?: boolean;
+}
+
+/** A command as it is sent on, as docs/PROTOCOL.md describes it. */
+export interface Command {
+  do: "create" | "edit" | "undo" | "delete";
+  doc: string;
+  n: number;
+  base?: number;
+  ops?: object[];
+}
+
+export interface LogEvent {
+  time: string;
+  event: string;
+  [about: string]: unknown;
+}
+
+export interface Settings {
+  /** Of this gateway: 1 to 12 characters, "g" if it isn't given. */
+  name?: string;
+  stores: StoreAddress[];
+  /** Sessions of each store that read: 1 or 2. */
+  readers?: number;
+  /** Sessions of each store that write and are always open: 16. */
+  writers?: number;
+  /** Sessions of each store that are opened as needed, for names that have none: 8. */
+  guests?: number;
+  /** Names that this gateway lends in a document: 120. */
+  names?: number;
+  /** Days after which a name may be lent anew where all are lent: 7. */
+  term?: number;
+  /** Milliseconds between two pings: 15,000. A browser that has answered none, and has taken nothing, by the next but one is cut off. */
+  pulse?: number;
+  /** A folder of this gateway's own, needed without etcd. */
+  data?: string;
+  etcd?: { urls: string[]; prefix?: string };
+  /** In which store documents are, by the beginnings of their names; without etcd. */
+  rule?: { prefix: string; store: string }[];
+  /** Of pages that may connect; without a list those of this machine's names. */
+  origins?: string[];
+  limits?: { sessions?: number; userSessions?: number; userMessages?: number };
+  /** Gives who asks, or null where he isn't signed in. Without it everybody is the user "anybody". */
+  authorize?: (request: Request) => User | null | undefined | Promise<User | null | undefined>;
+  /** Whether a user may do something. It is asked at each message. Without it everybody may do all. */
+  can?: (user: any, doc: string, action: Action) => boolean | Promise<boolean>;
+  /** Is asked before a command leaves: false refuses it. */
+  onCommand?: (about: { user: any; doc: string; message: Command }) => boolean | void | Promise<boolean | void>;
+  /** Is told of each command that was taken. */
+  onTaken?: (about: { user: any; doc: string; message: Command; rev: number; isAgain: boolean }) => void | Promise<void>;
+  log?: (event: LogEvent) => void;
+  /** Whether `handleRequest` leaves /metrics out. */
+  hidesMetrics?: boolean;
+}
+
+export interface Health {
+  ok: boolean;
+  /** null where there is no etcd in the settings. */
+  etcd: boolean | null;
+  stores: Record<string, boolean>;
+}
+
+export interface Gateway {
+  /** For the event "upgrade" of an HTTP server. */
+  handleUpgrade(request: Request, socket: any, head: any): Promise<void>;
+  /** Answers /healthz, /metrics and /docs; gives false where it was none of them. */
+  handleRequest(request: Request, response: any): boolean;
+  /** Closes a user's sessions, as his rights have changed. */
+  closeUser(id: string): void;
+  /** Adds a store, or says anew whether one takes new documents. */
+  addStore(store: StoreAddress): void;
+  /** Says anew which pages may connect. */
+  set origins(origins: string[] | undefined);
+  health(): Health;
+  /** The counts, in the text form of Prometheus. */
+  metricsText(): string;
+  /** Ends it: no new browsers, the replies to what was sent, then the end of all sessions. */
+  close(): Promise<void>;
+}
+
+/** Begins a gateway. It fails with a reason where its settings can't be used. */
+export function createGateway(settings: Settings): Promise<Gateway>;
+
+/** The codes by which a WebSocket is closed. */
+export const CODE: { full: 4503; again: 4409; rights: 4403; ends: 1012 };

@@ -1,0 +1,367 @@
+// A gateway: many browsers on a few sessions of some stores.
+
+import { randomBytes } from "node:crypto";
+import { mkdirSync } from "node:fs";
+import path from "node:path";
+import { Browser } from "./browser.js";
+import { Etcd } from "./etcd.js";
+import { Journal, readLines } from "./journal.js";
+import { EtcdLeases } from "./leases-etcd.js";
+import { Leases } from "./leases.js";
+import { lock } from "./lock.js";
+import { KIND, RIGHT } from "./messages.js";
+import { Metrics } from "./metrics.js";
+import { isAllowedOrigin } from "./origins.js";
+import { EtcdPlaces, RuledPlaces } from "./places.js";
+import { Presence } from "./presence.js";
+import { checkOrigins, checkStore, checked } from "./settings.js";
+import { Store } from "./store.js";
+import { User, idOf } from "./users.js";
+import { webSockets } from "./websockets.js";
+
+const MOST_FRAME = 1 << 17; // bytes of a WebSocket's message
+const SECOND = 1_000;
+const FAREWELL = 4_000; // milliseconds that commands which were sent have for their replies, at the end
+const MOST_SAID = 20; // lines of one event within a second
+const RETRY = 1_000; // milliseconds until etcd is asked again for the pool
+const MOST_LISTED = 1_000; // documents of a page
+const MOST_LOOKED = 10_000; // places that are looked at for a page
+export const CODE = { full: 4503, again: 4409, rights: 4403, ends: 1012 };
+
+/** Goes on with a value, at once where it is there. */
+const chain = (value, next) => (typeof value?.then === "function" ? value.then(next) : next(value));
+
+/** @param {import("node:stream").Duplex} socket @param {number} status @param {string} reason */
+function refuse(socket, status, reason) {
+  socket.end(`HTTP/1.1 ${status} ${reason}\r\nConnection: close\r\nContent-Length: 0\r\n\r\n`);
+}
+
+export class Gateway {
+  #settings;
+  #log;
+  #authorize;
+  #can;
+  #onCommand;
+  #onTaken;
+  #sockets;
+  #etcd;
+  #pool;
+  #unlock = () => {};
+  /** @type {Set<Browser>} */
+  #browsers = new Set();
+  /** @type {Map<string, User>} */
+  #users = new Map();
+  /** @type {Map<string, Browser>} */
+  #holders = new Map();
+  #count = 0;
+  /** @type {Map<string, number>} event -> how often in this second */
+  #said = new Map();
+  #isEnding = false;
+  #timers = [];
+
+  metrics = new Metrics();
+  presence = new Presence();
+  /** @type {Map<string, Store>} */
+  stores = new Map();
+  places;
+
+  /** @param {any} settings  that were checked */
+  constructor(settings) {
+    const { log = () => {}, authorize = () => "anybody", can, onCommand, onTaken } = settings;
+    this.#settings = settings;
+    this.#log = log;
+    this.#authorize = authorize;
+    this.#can = can;
+    this.#onCommand = onCommand;
+    this.#onTaken = onTaken;
+    const { WebSocketServer } = webSockets();
+    this.#sockets = new WebSocketServer({ noServer: true, maxPayload: MOST_FRAME, clientTracking: false });
+  }
+
+  async begin() {
+    const { etcd, data, rule, stores, pulse } = this.#settings;
+    if (etcd === undefined) {
+      mkdirSync(data, { recursive: true, mode: 0o700 });
+      this.#unlock = await lock(data);
+      this.places = new RuledPlaces({ rule, folder: data });
+      const file = path.join(data, "pool");
+      const [pool = randomBytes(4).toString("hex")] = readLines(file);
+      await new Journal(file, [pool]).close();
+      this.#pool = this.#namesOf(pool);
+    } else {
+      this.#etcd = new Etcd({ ...etcd, log: this.log });
+      this.places = new EtcdPlaces({ etcd: this.#etcd, stores: () => [...this.stores.values()] });
+    }
+    this.places.moves = etcd !== undefined;
+    for (const store of stores) this.#add(store);
+    if (etcd !== undefined) this.#findPool();
+    this.#timers.push(setInterval(() => this.#look(), pulse), setInterval(() => this.#eachSecond(), SECOND));
+    for (const timer of this.#timers) timer.unref();
+  }
+
+  // Of one event so many lines a second are said; what befalls thousands of browsers at the same time isn't said of each.
+  log = (event, about = {}) => {
+    const said = this.#said.get(event) ?? 0;
+    this.#said.set(event, said + 1);
+    if (said < MOST_SAID) this.#log({ time: new Date().toISOString(), event, ...about });
+  };
+
+  /** Takes over a WebSocket that an HTTP server was asked for. */
+  async handleUpgrade(request, socket, head) {
+    socket.on("error", () => {});
+    if (this.#isEnding) return refuse(socket, 503, "Service Unavailable");
+    if (!isAllowedOrigin(request, this.#settings.origins)) {
+      this.log("origin refused", { origin: request.headers.origin, host: request.headers.host });
+      return refuse(socket, 403, "Forbidden");
+    }
+    const given = await this.#signedIn(request);
+    if (given === undefined) return refuse(socket, 503, "Service Unavailable");
+    if (given === null) return refuse(socket, 401, "Unauthorized");
+    if (this.#isEnding) return refuse(socket, 503, "Service Unavailable");
+    try {
+      this.#sockets.handleUpgrade(request, socket, head, (webSocket) => this.#open(webSocket, given));
+    } catch (error) {
+      this.log("a WebSocket can't be opened", { error: error.message });
+      socket.destroy();
+    }
+  }
+
+  /**
+   * Answers /healthz, /metrics and /docs. Gives whether it was one of them.
+   * @param {import("node:http").IncomingMessage} request
+   * @param {import("node:http").ServerResponse} response
+   */
+  handleRequest(request, response) {
+    const [name, query = ""] = request.url.split("?", 2);
+    const json = (status, value) => {
+      response.writeHead(status, { "content-type": "application/json", "cache-control": "no-store" });
+      response.end(JSON.stringify(value) + "\n");
+    };
+    if (name === "/healthz") {
+      const health = this.health();
+      json(health.ok ? 200 : 503, health);
+    } else if (name === "/metrics" && !this.#settings.hidesMetrics) {
+      response.writeHead(200, { "content-type": "text/plain; version=0.0.4" });
+      response.end(this.metricsText());
+    } else if (name === "/docs") {
+      this.#list(request, new URLSearchParams(query)).then(([status, value]) => json(status, value), (error) => {
+        this.log("the list can't be given now", { error: error.message });
+        json(503, { error: "later" });
+      });
+    } else return false;
+    return true;
+  }
+
+  health() {
+    const stores = Object.fromEntries([...this.stores.values()].map(({ name, isOpen }) => [name, isOpen]));
+    return { etcd: this.#etcd?.isThere ?? null, ok: !this.#isEnding && Object.values(stores).includes(true), stores };
+  }
+
+  metricsText() {
+    return this.metrics.text({ sessions: this.#browsers.size, stores: this.stores.values() });
+  }
+
+  /** Adds a store, or says anew whether one takes new documents. */
+  addStore(store) {
+    checkStore(store);
+    const found = this.stores.get(store.name);
+    if (found !== undefined) found.takesNew = store.new ?? true;
+    else this.#add(store);
+  }
+
+  /** Says anew which pages may connect. */
+  set origins(origins) {
+    checkOrigins(origins);
+    this.#settings.origins = origins;
+  }
+
+  /** A user's rights have changed: his sessions end, and he is judged anew. */
+  closeUser(id) {
+    for (const browser of this.#users.get(id)?.browsers ?? []) browser.close(CODE.rights, "the rights have changed");
+  }
+
+  /** Takes in documents that a store had before. Gives those that have another place. */
+  take(docs, store) {
+    return this.places.take(docs, store);
+  }
+
+  /** Ends it: no new browsers, the replies to what was sent, then the end of all sessions. */
+  async close() {
+    if (this.#isEnding) return;
+    this.#isEnding = true;
+    for (const browser of [...this.#browsers]) browser.finish();
+    for (const end = performance.now() + FAREWELL; this.#browsers.size > 0 && performance.now() < end; ) await new Promise((resolve) => setTimeout(resolve, 20));
+    for (const browser of [...this.#browsers]) browser.close(CODE.ends, "the gateway ends");
+    for (const timer of this.#timers) clearInterval(timer);
+    for (const store of this.stores.values()) {
+      store.end();
+      await store.leases.close();
+    }
+    await this.places?.close();
+    this.#etcd?.close();
+    this.#unlock();
+  }
+
+  // What follows is for browsers.
+
+  /** Whether a user may send a message: a promise where that isn't known at once. Where it can't be found out the promise fails. */
+  judge(user, message) {
+    if (this.#can === undefined && this.#onCommand === undefined) return true;
+    const { do: what, doc } = message;
+    try {
+      const verdict = chain(this.#mayDo(user.given, doc, what), (may) => {
+        if (!may || KIND[what] !== "command" || this.#onCommand === undefined) return may;
+        return chain(this.#onCommand({ user: user.given, doc, message }), (it) => it !== false);
+      });
+      return chain(verdict, Boolean);
+    } catch (error) {
+      return Promise.reject(error);
+    }
+  }
+
+  /** A command was taken. */
+  taken(user, message, rev, isAgain) {
+    if (this.#onTaken === undefined) return;
+    const failed = (error) => this.log("onTaken failed", { error: error.message });
+    try {
+      chain(this.#onTaken({ user: user.given, doc: message.doc, message, rev, isAgain }), () => {})?.catch(failed);
+    } catch (error) {
+      failed(error);
+    }
+  }
+
+  arrive(holder, browser) {
+    const before = this.#holders.get(holder);
+    this.#holders.set(holder, browser);
+    before?.close(CODE.again, "the same token came again");
+  }
+
+  depart(browser, holder, docs) {
+    this.presence.depart(browser);
+    this.#browsers.delete(browser);
+    browser.user.browsers.delete(browser);
+    if (browser.user.browsers.size === 0) this.#users.delete(browser.user.id);
+    if (holder === undefined || this.#holders.get(holder) !== browser) return;
+    this.#holders.delete(holder);
+    for (const { leases } of this.stores.values()) leases.depart(holder, docs);
+  }
+
+  #mayDo(user, doc, what) {
+    if (this.#can === undefined || what === "unsubscribe") return true;
+    if (what !== "lease") return this.#can(user, doc, RIGHT[what]);
+    return chain(this.#can(user, doc, "edit"), (may) => may || this.#can(user, doc, "create"));
+  }
+
+  // Who asks; null where he isn't signed in, undefined where that can't be found out.
+  async #signedIn(request) {
+    try {
+      const given = (await this.#authorize(request)) ?? null;
+      if (given === null || given === false) return null;
+      if (typeof idOf(given) !== "string" || idOf(given) === "") throw new Error("authorize gave no text and no object with an id");
+      return given;
+    } catch (error) {
+      this.log("authorize failed", { error: error.message });
+      return undefined;
+    }
+  }
+
+  #open(webSocket, given) {
+    const { limits } = this.#settings;
+    const id = idOf(given);
+    const user = this.#users.get(id) ?? new User(given, limits.userMessages);
+    if (this.#browsers.size >= limits.sessions || user.browsers.size >= limits.userSessions) {
+      this.log("full", { user: id, sessions: this.#browsers.size, ofUser: user.browsers.size });
+      webSocket.on("error", () => {});
+      webSocket.close(CODE.full, "full");
+      setTimeout(() => webSocket.terminate(), FAREWELL).unref();
+      return;
+    }
+    this.#users.set(id, user);
+    this.#count += 1;
+    const browser = new Browser(this, webSocket, user, this.#count);
+    this.#browsers.add(browser);
+    user.browsers.add(browser);
+  }
+
+  #namesOf(pool) {
+    return Array.from({ length: this.#settings.names }, (_, index) => `${this.#settings.name}-${pool}-${index}`);
+  }
+
+  #add(address) {
+    const { name: prefix, readers, writers: first, guests, term, data } = this.#settings;
+    const onLent = (doc, { name, epoch }) => {
+      this.metrics.lent[epoch === 1 ? 1 : "more"] += 1;
+      if (epoch > 1) this.log("a name is lent anew", { store: address.name, doc, name, epoch });
+    };
+    const leases = this.#etcd === undefined
+      ? new Leases({ file: path.join(data, `leases-${address.name}`), names: this.#pool, first, term, onLent })
+      : new EtcdLeases({ etcd: this.#etcd, store: address.name, pool: async () => this.#poolOrNone(), first, term, onLent });
+    const store = new Store(address, { prefix, readers, guests, leases, metrics: this.metrics, log: this.log });
+    this.stores.set(address.name, store);
+    if (this.#pool !== undefined) store.openWriters(this.#pool.slice(0, first));
+  }
+
+  #poolOrNone() {
+    if (this.#pool === undefined) throw new Error("etcd hasn't told this gateway's pool of names yet");
+    return this.#pool;
+  }
+
+  // The pool's names are kept in etcd, too: a gateway that loses its pool may not lend what it lent before as new.
+  async #findPool() {
+    while (!this.#isEnding && this.#pool === undefined) {
+      try {
+        const { value } = await this.#etcd.create(`pool/${this.#settings.name}`, randomBytes(4).toString("hex"));
+        this.#pool = this.#namesOf(value);
+      } catch {
+        await new Promise((resolve) => setTimeout(resolve, RETRY).unref());
+      }
+    }
+    if (this.#isEnding) return;
+    for (const store of this.stores.values()) store.openWriters(this.#pool.slice(0, this.#settings.writers));
+  }
+
+  async #list(request, query) {
+    const user = await this.#signedIn(request);
+    if (user === null) return [401, { error: "not signed in" }];
+    if (user === undefined) return [503, { error: "later" }];
+    const wanted = Math.min(Number.parseInt(query.get("limit") ?? "100", 10), MOST_LISTED);
+    if (!(wanted > 0)) return [400, { error: "limit is a whole number above 0" }];
+    const docs = [];
+    let after = query.get("after") ?? "";
+    for (let looked = 0; looked < MOST_LOOKED; ) {
+      const found = await this.places.list(after, wanted);
+      looked += found.length;
+      for (const doc of found) {
+        after = doc;
+        if (await this.#mayDo(user, doc, "fetch")) docs.push(doc);
+        if (docs.length === wanted) return [200, { docs, next: after }];
+      }
+      if (found.length < wanted) return [200, { docs, next: null }];
+    }
+    return [200, { docs, next: after }];
+  }
+
+  #look() {
+    for (const browser of [...this.#browsers]) browser.look();
+  }
+
+  #eachSecond() {
+    this.#said.clear();
+    for (const browser of [...this.#browsers]) browser.giveUpWaiting();
+  }
+}
+
+/**
+ * Begins a gateway; throws a reason where its settings can't be used. docs/GATEWAY.md says what they are.
+ * @param {import("./gateway.js").Settings} settings
+ */
+export async function createGateway(settings) {
+  const gateway = new Gateway(checked(settings));
+  try {
+    await gateway.begin();
+  } catch (error) {
+    await gateway.close().catch(() => {}); // what it has taken is given back
+    throw error;
+  }
+  return gateway;
+}

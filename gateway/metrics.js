@@ -1,0 +1,69 @@
+// What is counted, in the text form of Prometheus.
+
+const MOST = 10_000; // of the last times that quantiles are of
+
+/** Times in milliseconds: their quantiles, count and sum. */
+class Times {
+  #last = [];
+  count = 0;
+  sum = 0;
+
+  /** @param {number} milliseconds */
+  add(milliseconds) {
+    this.#last[this.count % MOST] = milliseconds;
+    this.count += 1;
+    this.sum += milliseconds;
+  }
+
+  /** @param {string} name */
+  lines(name) {
+    const sorted = [...this.#last].sort((one, other) => one - other);
+    const at = (part) => (sorted[Math.floor(sorted.length * part)] ?? 0).toFixed(3);
+    const quantiles = [0.5, 0.9, 0.99].map((part) => `${name}{quantile="${part}"} ${at(part)}`);
+    return [`# TYPE ${name} summary`, ...quantiles, `${name}_sum ${this.sum.toFixed(3)}`, `${name}_count ${this.count}`];
+  }
+}
+
+export class Metrics {
+  commands = { taken: 0, again: 0, refused: 0 };
+  /** @type {Map<number, number>} */
+  refusals = new Map();
+  news = 0;
+  replies = new Times();
+  lag = new Times();
+  lent = { 1: 0, more: 0 };
+  cuts = 0;
+  stale = 0;
+  slow = 0;
+
+  /** @param {number} code  of a line that a browser got, 0 where it is no refusal */
+  refused(code) {
+    if (code !== 0) this.refusals.set(code, (this.refusals.get(code) ?? 0) + 1);
+  }
+
+  /**
+   * @param {{ sessions: number, stores: Iterable<{ name: string, open: Record<string, number> }> }} now
+   * @returns {string}
+   */
+  text({ sessions, stores }) {
+    const name = (it) => `richd_gateway_${it}`;
+    const counter = (it, values) => [`# TYPE ${name(it)} counter`, ...values.map(([labels, value]) => `${name(it)}${labels} ${value}`)];
+    const open = [...stores].flatMap((store) => Object.entries(store.open).map(([kind, count]) => `${name("store_sessions")}{store="${store.name}",kind="${kind}"} ${count}`));
+    const { user, system } = process.cpuUsage();
+    return [
+      `# TYPE ${name("sessions")} gauge`, `${name("sessions")} ${sessions}`,
+      `# TYPE ${name("store_sessions")} gauge`, ...open,
+      ...counter("commands_total", Object.entries(this.commands).map(([result, count]) => [`{result="${result}"}`, count])),
+      ...counter("refusals_total", [...this.refusals].map(([code, count]) => [`{code="${code}"}`, count])),
+      ...counter("news_total", [["", this.news]]),
+      ...this.replies.lines(name("reply_milliseconds")),
+      ...this.lag.lines(name("news_lag_milliseconds")),
+      ...counter("leases_lent_total", Object.entries(this.lent).map(([epoch, count]) => [`{epoch="${epoch}"}`, count])),
+      ...counter("cuts_total", [["", this.cuts]]),
+      ...counter("stale_total", [["", this.stale]]),
+      ...counter("slow_total", [["", this.slow]]),
+      "# TYPE process_resident_memory_bytes gauge", `process_resident_memory_bytes ${process.memoryUsage().rss}`,
+      "# TYPE process_cpu_seconds_total counter", `process_cpu_seconds_total ${((user + system) / 1e6).toFixed(3)}`,
+    ].join("\n") + "\n";
+  }
+}

@@ -1,0 +1,169 @@
+// In which store a document is.
+
+import path from "node:path";
+import { Journal, readLines } from "./journal.js";
+
+const FULL = 600_000; // milliseconds that a store counts as full which refused a new document for that
+const AT_ONCE = 20; // places that an import writes at the same time
+const MOST_TRIES = 10; // of a transaction that others were faster than
+const ordered = (one, other) => (one < other ? -1 : one > other ? 1 : 0);
+
+/**
+ * Without etcd: the one store, or a rule by the beginnings of names. The documents that were created here, or imported, are listed in a file.
+ */
+export class RuledPlaces {
+  #rule;
+  #docs;
+  #journal;
+  #sorted = null;
+
+  /** @param {{ rule: { prefix: string, store: string }[], folder: string }} options */
+  constructor({ rule, folder }) {
+    this.#rule = [...rule].sort((one, other) => other.prefix.length - one.prefix.length);
+    const file = path.join(folder, "documents");
+    this.#docs = new Set(readLines(file));
+    this.#journal = new Journal(file, [...this.#docs]);
+  }
+
+  /** The store's name; null where there is none, undefined where it has to be found first. */
+  cached(doc) {
+    return this.#rule.find(({ prefix }) => doc.startsWith(prefix))?.store ?? null;
+  }
+
+  async find(doc) {
+    return this.cached(doc);
+  }
+
+  /** Where a creation goes that a store refused as it is full of documents; null: nowhere. */
+  async move() {
+    return null;
+  }
+
+  /** Where a document is that its store hasn't. */
+  async again(doc) {
+    return this.cached(doc);
+  }
+
+  created(doc) {
+    if (this.#docs.has(doc)) return;
+    this.#docs.add(doc);
+    this.#sorted = null;
+    this.#journal.add(doc).catch(() => {}); // it isn't listed after the next start
+  }
+
+  /** Names behind one, in order, at most so many. */
+  async list(after, limit) {
+    this.#sorted ??= [...this.#docs].sort(ordered);
+    const from = this.#sorted.findIndex((doc) => doc > after);
+    return from === -1 ? [] : this.#sorted.slice(from, from + limit);
+  }
+
+  /** Takes in documents that a store had. Gives those whose place is another. */
+  async take(docs, store) {
+    const elsewhere = docs.filter((doc) => this.cached(doc) !== store);
+    for (const doc of docs) if (this.cached(doc) === store) this.created(doc);
+    return elsewhere;
+  }
+
+  close() {
+    return this.#journal.close();
+  }
+}
+
+/** With etcd: a place is written once, by a creation, in one transaction. */
+export class EtcdPlaces {
+  #etcd;
+  #stores;
+  #now;
+  /** @type {Map<string, string>} */
+  #known = new Map();
+  /** @type {Map<string, Promise<string | null>>} */
+  #asked = new Map();
+  /** @type {Map<string, number>} store -> until when it counts as full */
+  #full = new Map();
+  #turn = 0;
+
+  /**
+   * @param {{ etcd: import("./etcd.js").Etcd, stores: () => { name: string, takesNew: boolean, isOpen: boolean }[], now?: () => number }} options
+   */
+  constructor({ etcd, stores, now = Date.now }) {
+    this.#etcd = etcd;
+    this.#stores = stores;
+    this.#now = now;
+  }
+
+  cached(doc) {
+    return this.#known.get(doc);
+  }
+
+  /**
+   * A place; null where there is none and none is to be made. Those who ask at the same time ask once.
+   * @param {string} doc
+   * @param {boolean} isNew  it is to be created
+   */
+  find(doc, isNew) {
+    const key = `${isNew} ${doc}`;
+    if (!this.#asked.has(key)) this.#asked.set(key, this.#ask(doc, isNew).finally(() => this.#asked.delete(key)));
+    return this.#asked.get(key);
+  }
+
+  async move(doc, from) {
+    this.#full.set(from, this.#now() + FULL);
+    for (let tries = 0; tries < MOST_TRIES; tries += 1) {
+      const found = await this.#etcd.get(`place/${doc}`);
+      if (found !== undefined && found.value !== from) return this.#know(doc, found.value); // another gateway has moved it
+      const next = this.#choose();
+      if (found === undefined || next === undefined || next === from) return null;
+      if (await this.#etcd.transact([{ key: found.key, mod: found.mod }], [{ key: found.key, value: next }])) return this.#know(doc, next);
+    }
+    throw new Error(`${doc} can't be placed: others were faster each time`);
+  }
+
+  async again(doc) {
+    const found = await this.#etcd.get(`place/${doc}`);
+    if (found === undefined) this.#known.delete(doc);
+    return found === undefined ? null : this.#know(doc, found.value);
+  }
+
+  created() {}
+
+  async list(after, limit) {
+    const found = await this.#etcd.under("place/", { after, limit, keysOnly: true });
+    return found.map(({ key }) => key.slice("place/".length));
+  }
+
+  async take(docs, store) {
+    const elsewhere = [];
+    for (let from = 0; from < docs.length; from += AT_ONCE) {
+      await Promise.all(docs.slice(from, from + AT_ONCE).map(async (doc) => {
+        if ((await this.#etcd.create(`place/${doc}`, store)).value !== store) elsewhere.push(doc);
+      }));
+    }
+    return elsewhere;
+  }
+
+  async close() {}
+
+  async #ask(doc, isNew) {
+    const key = `place/${doc}`;
+    if (!isNew) return this.again(doc);
+    const found = await this.#etcd.get(key);
+    if (found !== undefined) return this.#know(doc, found.value);
+    const store = this.#choose() ?? this.#stores()[0].name; // where all are full, one of them says so
+    return this.#know(doc, (await this.#etcd.create(key, store)).value);
+  }
+
+  #know(doc, store) {
+    this.#known.set(doc, store);
+    return store;
+  }
+
+  // The next store in turn that takes new documents; one that is there, if there is one.
+  #choose() {
+    const taking = this.#stores().filter(({ name, takesNew }) => takesNew && !(this.#full.get(name) > this.#now()));
+    const open = taking.filter(({ isOpen }) => isOpen);
+    const from = open.length > 0 ? open : taking;
+    this.#turn += 1;
+    return from[this.#turn % from.length]?.name;
+  }
+}

@@ -1,0 +1,202 @@
+// One store: a fixed share of its sessions, over which the messages of all browsers go.
+
+import { codeOf, revOf, REFUSAL } from "./messages.js";
+import { News } from "./news.js";
+import { Command, Upstream } from "./upstream.js";
+
+const MOST_SINCE = 1_000; // revisions that are asked for at once: a reply is held whole
+const IDLE = 60_000; // milliseconds after which a guest's session is closed
+const NO_DOCUMENT = 6;
+const FUTURE = 12;
+const DELETED = 40;
+const MOST_STALE = 100; // times that a read is asked again which is older than an own command
+const STALE_PAUSE = 10; // milliseconds
+
+/**
+ * The sessions of one store:
+ * - readers: one for fetches, and where there are two another for `since`, which may be slow;
+ * - news: one that follows;
+ * - writers: one for each of the first names of the pool, always open;
+ * - guests: at most so many, for the pool's other names and for those that other gateways have lent. One is opened as it is needed, and closed
+ *   where another name needs its place, or after a minute.
+ */
+export class Store {
+  #address;
+  #prefix;
+  #most;
+  #metrics;
+  #readers;
+  /** @type {Map<string, Upstream>} */
+  #writers = new Map();
+  /** @type {Map<string, { session: Upstream, used: number }>} in the order in which they were used last */
+  #guests = new Map();
+  /** @type {{ name: string, command: Command }[]} */
+  #queue = []; // commands that wait for a guest's place
+  #timer;
+
+  /**
+   * @param {{ name: string, host: string, port: number, new?: boolean }} address
+   * @param {{ prefix: string, readers: number, guests: number, leases: any, metrics: import("./metrics.js").Metrics,
+   *   log: (event: string, about?: object) => void }} options  `prefix` is that of this gateway's own sessions
+   */
+  constructor({ name, host, port, new: takesNew = true }, { prefix, readers, guests, leases, metrics, log }) {
+    this.name = name;
+    this.takesNew = takesNew;
+    this.leases = leases;
+    this.#address = { host, port };
+    this.#prefix = prefix;
+    this.#most = guests;
+    this.#metrics = metrics;
+    const onOpen = () => log("a store is there", { store: name });
+    const onCut = () => {
+      this.#onCut();
+      log("a store is away", { store: name });
+    };
+    const first = new Upstream(this.#address, `${prefix}-reader`, { onOpen, onCut });
+    this.#readers = [first, ...Array.from({ length: readers - 1 }, () => new Upstream(this.#address, `${prefix}-reader2`, { onCut: this.#onCut }))];
+    const since = (doc, rev, settle, wanted) => this.since(doc, rev, settle, wanted);
+    this.news = new News(this.#address, `${prefix}-news`, since, { onCut: this.#onCut, onLag: (lag) => metrics.lag.add(lag) });
+    this.#timer = setInterval(() => this.#closeIdle(), IDLE / 4);
+    this.#timer.unref();
+  }
+
+  get isOpen() {
+    return this.#readers[0].isOpen;
+  }
+
+  /** Opens the sessions that write, once their names are known. @param {string[]} names */
+  openWriters(names) {
+    for (const name of names) this.#writers.set(name, new Upstream(this.#address, name, { onCut: this.#onCut }));
+  }
+
+  /** How many sessions of each kind are open. */
+  get open() {
+    const count = (sessions) => sessions.filter(({ isOpen }) => isOpen).length;
+    const guests = [...this.#guests.values()].map(({ session }) => session);
+    return { reader: count(this.#readers), news: count([this.news]), writer: count([...this.#writers.values()]), guest: count(guests) };
+  }
+
+  /**
+   * Fetches; again where what comes is older than what this browser has changed.
+   * @param {string} line
+   * @param {number} least  the revision that it has to have, 0 where it may have any
+   * @param {(line: Buffer) => void} settle
+   * @param {() => boolean} wanted
+   */
+  fetch(line, least, settle, wanted) {
+    this.#askUpTo(this.#readers[0], line, least, settle, wanted);
+  }
+
+  /**
+   * What came after a revision, where that are a thousand revisions at most. Whether it is more is asked first, by a fetch of one that isn't
+   * there yet: it is refused by Future.
+   * @param {string} doc
+   * @param {number} rev
+   * @param {(line: Buffer) => void} settle
+   * @param {() => boolean} [wanted]
+   * @param {number} [least]
+   */
+  since(doc, rev, settle, wanted, least = 0) {
+    const reader = this.#readers.at(-1);
+    const beyond = rev + MOST_SINCE + 1;
+    const line = JSON.stringify({ do: "since", doc, rev }) + "\n";
+    if (!Number.isSafeInteger(beyond)) return reader.ask(line, settle, wanted);
+    reader.ask(JSON.stringify({ do: "fetch", doc, rev: beyond }) + "\n", (answer) => {
+      const code = codeOf(answer);
+      if (code === 0) settle(REFUSAL.TooOld);
+      else if (code !== FUTURE) settle(answer);
+      else this.#askUpTo(reader, line, least, settle, wanted);
+    }, wanted);
+  }
+
+  /**
+   * Whether a document is there. A `since` of the last revision that may be asked for is refused in any case, and says so.
+   * @param {string} doc
+   * @param {() => boolean} wanted
+   * @returns {Promise<"there" | "deleted" | "nowhere">}
+   */
+  async standing(doc, wanted) {
+    const line = JSON.stringify({ do: "since", doc, rev: Number.MAX_SAFE_INTEGER }) + "\n";
+    const code = await new Promise((resolve) => this.#readers.at(-1).ask(line, (answer) => resolve(codeOf(answer)), wanted));
+    if (code === FUTURE || code === 0) return "there";
+    if (code === DELETED) return "deleted";
+    if (code === NO_DOCUMENT) return "nowhere";
+    throw new Error(`the store answers ${code}`);
+  }
+
+  #askUpTo(reader, line, least, settle, wanted, tries = 0) {
+    reader.ask(line, (answer) => {
+      if (!(revOf(answer) < least) || codeOf(answer) !== 0 || tries === MOST_STALE) return settle(answer);
+      this.#metrics.stale += 1;
+      setTimeout(() => this.#askUpTo(reader, line, least, settle, wanted, tries + 1), STALE_PAUSE);
+    }, wanted);
+  }
+
+  /**
+   * Sends a command under a name. It may still wait then; `settle` is told as by a `Command`.
+   * @param {string} name
+   * @param {string} line
+   * @param {(line: Buffer | null | undefined) => void} settle
+   */
+  command(name, line, settle) {
+    const command = new Command(line, settle);
+    const writer = this.#writers.get(name);
+    if (writer !== undefined) {
+      writer.command(command);
+      return command;
+    }
+    this.#queue.push({ name, command });
+    this.#serveGuests();
+    return command;
+  }
+
+  end() {
+    clearInterval(this.#timer);
+    this.#queue = [];
+    this.news.end();
+    for (const session of [...this.#readers, ...this.#writers.values()]) session.end();
+    for (const { session } of this.#guests.values()) session.end();
+  }
+
+  #onCut = () => (this.#metrics.cuts += 1);
+
+  // Gives what waits to the sessions of its names, as far as there is room for them.
+  #serveGuests() {
+    const full = new Set(); // names that have to wait
+    const queue = this.#queue;
+    this.#queue = [];
+    for (const item of queue) {
+      const session = !item.command.isWanted || full.has(item.name) ? undefined : this.#guest(item.name);
+      if (!item.command.isWanted) item.command.settle(undefined);
+      else if (session !== undefined) session.command(item.command);
+      else if (full.add(item.name)) this.#queue.push(item);
+    }
+  }
+
+  #guest(name) {
+    const found = this.#guests.get(name);
+    if (found !== undefined) {
+      this.#guests.delete(name);
+    } else if (this.#guests.size >= this.#most) {
+      const idle = [...this.#guests].find(([, { session }]) => session.isIdle);
+      if (idle === undefined) return undefined;
+      this.#close(idle[0]);
+    }
+    const session = found?.session ?? new Upstream(this.#address, name, { onCut: this.#onCut, onIdle: () => this.#onIdle() });
+    this.#guests.set(name, { session, used: performance.now() });
+    return session;
+  }
+
+  #onIdle() {
+    if (this.#queue.length > 0) setImmediate(() => this.#serveGuests());
+  }
+
+  #close(name) {
+    this.#guests.get(name).session.end();
+    this.#guests.delete(name);
+  }
+
+  #closeIdle() {
+    for (const [name, { session, used }] of this.#guests) if (session.isIdle && performance.now() - used > IDLE) this.#close(name);
+  }
+}

@@ -1,0 +1,150 @@
+// Who connects, and what he may do.
+
+import assert from "node:assert/strict";
+import test from "node:test";
+import { isAllowedOrigin } from "../origins.js";
+import { FakeStore, Talk, gatewayFor, pause, taken, until } from "./talk.js";
+
+async function begun(t, settings) {
+  const store = await FakeStore.begin(t);
+  return { store, ...(await gatewayFor(t, { stores: [{ name: "s1", ...store.address }], ...settings })) };
+}
+
+const NOT_ALLOWED = { code: 60, error: "NotAllowed" };
+const MESSAGES = {
+  read: [{ do: "fetch", doc: "d" }, { do: "since", doc: "d", rev: 1 }, { do: "subscribe", doc: "d", rev: 1 }, { at: [0, 0], do: "presence", doc: "d", rev: 1 }],
+  edit: [{ do: "edit", doc: "d", n: 1, base: 1, ops: [] }, { do: "undo", doc: "d", n: 1 }],
+  create: [{ do: "create", doc: "d", n: 1, ops: [] }],
+  delete: [{ do: "delete", doc: "d", n: 1 }],
+};
+
+test("each message needs its right, and is refused by 60 without it, before any store hears of it", async (t) => {
+  const asked = [];
+  const can = (user, doc, action) => (asked.push([user, doc, action]), false);
+  const { store, url } = await begun(t, { authorize: () => "ann", can });
+  const ann = await Talk.begin(t, url, "token");
+  for (const [right, messages] of Object.entries(MESSAGES)) {
+    for (const message of messages) {
+      assert.deepEqual(await ann.ask(message), NOT_ALLOWED, JSON.stringify(message));
+      assert.deepEqual(asked.at(-1), ["ann", "d", right]);
+    }
+  }
+  assert.deepEqual(await ann.ask({ do: "lease", doc: "d" }), NOT_ALLOWED);
+  assert.deepEqual(asked.slice(-2).map(([, , action]) => action), ["edit", "create"]);
+  assert.deepEqual(await ann.ask({ do: "unsubscribe", doc: "d" }), { doc: "d", ok: "unsubscribed" });
+  assert.equal(store.asked.length, 0);
+});
+
+test("rights that come later are waited for, in order; where they can't be found out it is to be sent again", async (t) => {
+  const verdicts = [];
+  const can = () => new Promise((resolve, reject) => verdicts.push({ resolve, reject }));
+  const { store, url } = await begun(t, { can });
+  const ann = await Talk.begin(t, url, "token");
+  ann.send(MESSAGES.edit[0], { ...MESSAGES.edit[0], n: 2 }, { ...MESSAGES.edit[0], n: 3 });
+  await until(() => verdicts.length === 3);
+  verdicts[1].resolve(true);
+  await pause(50);
+  assert.equal(store.asked.length, 0);
+  verdicts[0].resolve(true);
+  const [one, other] = [await store.next(), await store.next()];
+  assert.deepEqual([one.message.n, other.message.n], [1, 2]);
+  for (const { message, reply } of [one, other]) reply(taken(message, message.n));
+  verdicts[2].reject(new Error("no database"));
+  await until(() => ann.replies.length === 4);
+  assert.equal(ann.replies[3].code, 22);
+});
+
+test("onCommand refuses, onTaken is told what was taken, and probes aren't told", async (t) => {
+  const told = [];
+  const onCommand = ({ user, doc, message }) => user.id === "ann" && doc === "d" && message.n !== 2;
+  const { store, url } = await begun(t, { authorize: () => ({ id: "ann", name: "Ann" }), onCommand, onTaken: (it) => told.push(it) });
+  const ann = await Talk.begin(t, url, "token");
+  const [message] = MESSAGES.edit;
+  assert.deepEqual(await ann.ask({ ...message, n: 2 }), NOT_ALLOWED);
+  ann.send(message, { ...message, base: 2 ** 53 - 1 });
+  const [first, probe] = [await store.next(), await store.next()];
+  first.reply(taken(first.message, 7));
+  probe.reply(taken(probe.message, 7, "again"));
+  await until(() => ann.replies.length === 4);
+  assert.deepEqual(told, [{ user: { id: "ann", name: "Ann" }, doc: "d", message, rev: 7, isAgain: false }]);
+});
+
+test("a hook that throws ends nothing", async (t) => {
+  const { store, url, events } = await begun(t, { onTaken: () => { throw new Error("a fault"); }, can: (user, doc) => { if (doc === "e") throw new Error("b fault"); return true; } });
+  const ann = await Talk.begin(t, url, "token");
+  assert.equal((await ann.ask({ do: "fetch", doc: "e" })).code, 22);
+  ann.send(MESSAGES.edit[0]);
+  const { message, reply } = await store.next();
+  reply(taken(message, 2));
+  await until(() => ann.replies.length === 3);
+  await until(() => events.some(({ event, error }) => event === "onTaken failed" && error === "a fault"));
+});
+
+test("a user's sessions are closed where his rights change, and nobody else's", async (t) => {
+  const { gateway, url } = await begun(t, { authorize: ({ headers }) => headers["x-user"] });
+  const as = (user) => ({ headers: { "x-user": user } });
+  const [one, other, bob] = [await Talk.begin(t, url, "a", as("ann")), await Talk.begin(t, url, "b", as("ann")), await Talk.begin(t, url, "c", as("bob"))];
+  gateway.closeUser("ann");
+  assert.deepEqual([await one.closed(), await other.closed(), bob.code], [4403, 4403, null]);
+});
+
+const status = async (talk) => {
+  await until(() => talk.error !== undefined);
+  return Number(/(\d{3})$/.exec(talk.error.message)[1]);
+};
+
+test("whoever isn't signed in gets 401, and 503 where that can't be found out", async (t) => {
+  const authorize = ({ url }) => { if (url === "/later") throw new Error("no database"); return url === "/ann" ? "ann" : null; };
+  const { url, port } = await begun(t, { authorize });
+  assert.equal(await status(new Talk(url)), 401);
+  assert.equal(await status(new Talk(`${url}later`)), 503);
+  await Talk.begin(t, `${url}ann`, "token");
+  assert.equal((await fetch(`http://127.0.0.1:${port}/docs`)).status, 401);
+});
+
+test("a page from elsewhere is refused by 403", async (t) => {
+  const { url, port } = await begun(t);
+  assert.equal(await status(new Talk(url, { origin: "https://evil.example" })), 403);
+  assert.equal(await status(new Talk(url, { origin: `http://evil.example:${port}`, headers: { host: `evil.example:${port}` } })), 403, "a name that leads here");
+  assert.equal(await status(new Talk(url, { origin: `http://localhost:${port + 1}` })), 403);
+  await Talk.begin(t, url, "token", { origin: `http://127.0.0.1:${port}` });
+});
+
+test("a list of origins alone says who may connect, also behind TLS", () => {
+  const from = (origin, host = "notes.example") => ({ headers: { origin, host } });
+  const origins = ["https://notes.example"];
+  assert.ok(isAllowedOrigin(from("https://notes.example"), origins));
+  assert.ok(isAllowedOrigin(from(undefined), origins), "a program");
+  assert.ok(!isAllowedOrigin(from("http://notes.example"), origins));
+  assert.ok(!isAllowedOrigin(from("http://localhost:8080", "localhost:8080"), origins));
+  assert.ok(!isAllowedOrigin(from("https://notes.example")), "without a list");
+  assert.ok(isAllowedOrigin(from("http://[::1]:8080", "[::1]:8080")));
+  assert.ok(isAllowedOrigin(from("http://localhost", "LOCALHOST")) === false, "not the same text");
+  assert.ok(!isAllowedOrigin({ headers: { origin: "http://localhost" } }));
+});
+
+test("where the gateway or a user has too many sessions the next one is closed by 4503", async (t) => {
+  const { url, events } = await begun(t, { authorize: ({ headers }) => headers["x-user"], limits: { sessions: 3, userSessions: 2 } });
+  const as = (user) => ({ headers: { "x-user": user } });
+  await Talk.begin(t, url, "a", as("ann"));
+  const second = await Talk.begin(t, url, "b", as("ann"));
+  assert.equal(await new Talk(url, as("ann")).closed(), 4503);
+  await Talk.begin(t, url, "c", as("bob"));
+  assert.equal(await new Talk(url, as("eve")).closed(), 4503);
+  assert.deepEqual(events.filter(({ event }) => event === "full").map(({ user }) => user), ["ann", "eve"]);
+  second.socket.terminate();
+  await pause(50);
+  await Talk.begin(t, url, "d", as("eve"));
+});
+
+test("a user who sends too much is read more slowly, and nobody else is", async (t) => {
+  const { url } = await begun(t, { authorize: ({ headers }) => headers["x-user"], limits: { userMessages: 100 } });
+  const as = (user) => ({ headers: { "x-user": user } });
+  const [ann, bob] = [await Talk.begin(t, url, "a", as("ann")), await Talk.begin(t, url, "b", as("bob"))];
+  const began = performance.now();
+  const many = ann.ask(...Array(200).fill({ do: "unsubscribe", doc: "d" }));
+  await bob.ask({ do: "unsubscribe", doc: "d" });
+  assert.ok(performance.now() - began < 500);
+  await many;
+  assert.ok(performance.now() - began > 800, "200 messages at 100 a second, after a first hundred");
+});

@@ -1,0 +1,37 @@
+// Who is signed in, and how much he may do at once.
+
+const MOST_NAME = 64; // characters of a name that others see
+
+/** A user with a session at least. */
+export class User {
+  /** @type {Set<import("./browser.js").Browser>} */
+  browsers = new Set();
+  #perSecond;
+  #turns;
+  #countedAt = performance.now();
+
+  /**
+   * @param {string | { id: string, name?: string }} given  as `authorize` gave him
+   * @param {number} perSecond  messages that he may send a second
+   */
+  constructor(given, perSecond) {
+    this.given = given;
+    this.id = idOf(given);
+    const name = typeof given === "object" && typeof given.name === "string" ? given.name : this.id;
+    this.name = [...name].slice(0, MOST_NAME).join("");
+    this.#perSecond = this.#turns = perSecond;
+  }
+
+  /** Whether one more message of his is read now. */
+  takesTurn() {
+    const now = performance.now();
+    this.#turns = Math.min(this.#perSecond, this.#turns + ((now - this.#countedAt) / 1_000) * this.#perSecond);
+    this.#countedAt = now;
+    if (this.#turns < 1) return false;
+    this.#turns -= 1;
+    return true;
+  }
+}
+
+/** @param {any} given @returns {string} */
+export const idOf = (given) => (typeof given === "object" && given !== null ? given.id : given);

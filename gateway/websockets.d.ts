@@ -1,0 +1,2 @@
+/** @returns {any} */
+export function webSockets(): any;
