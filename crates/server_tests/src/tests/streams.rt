@@ -3,6 +3,7 @@ use server::{Patient, run};
 use std::fs::File;
 use std::io::{self, ErrorKind, Read, Write};
 use std::net::{Net, TcpListener, TcpStream};
+use std::os::fd::AsRawFd;
 use std::process::Abort;
 use std::rt::Files;
 use std::sync::Wait;
@@ -166,15 +167,24 @@ fn is_filled<W: Write>(stream: &mut W, pieces: usize) -> bool {
     false
 }
 
+/// What is written over a pipe while it has no room, once it has some, and once nobody reads it.
+fn holds_up_nobody<R: Net + AllocGlobal + Abort, I: Drop + Read, W: Drop + Write + AsRawFd>(
+    rt: &R,
+    mut reader: I,
+    writer: W,
+) {
+    let mut stream = Patient::new(rt, writer);
+    assert!(rt; is_filled(&mut stream, 1_000));
+    assert!(rt; stream.write_all(b"y").is_err());
+    let mut taken = [0; 8192];
+    assert!(rt; reader.read(&mut taken).expect(rt, "what was written") > 0);
+    assert!(rt; stream.write_all(b"y").is_ok());
+    drop(reader);
+    assert!(rt; stream.write_all(b"y").is_err());
+}
+
 #[test]
 fn a_stream_without_room_is_not_waited_for(rt: HostRuntime) {
-    let (mut reader, writer) = io::pipe(&rt).expect(&rt, "a pipe");
-    let mut stream = Patient::new(&rt, writer);
-    assert!(&rt; is_filled(&mut stream, 1_000));
-    assert!(&rt; stream.write_all(b"y").is_err());
-    let mut taken = [0; 8192];
-    assert!(&rt; reader.read(&mut taken).expect(&rt, "what was written") > 0);
-    assert!(&rt; stream.write_all(b"y").is_ok());
-    drop(reader);
-    assert!(&rt; stream.write_all(b"y").is_err());
+    let (reader, writer) = io::pipe(&rt).expect(&rt, "a pipe");
+    holds_up_nobody(&rt, reader, writer);
 }
