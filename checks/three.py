@@ -1,7 +1,9 @@
 """Three sessions at once over TCP, played to their end though one request of the program is refused: no_memory.py and faults.py play it.
 And how many sessions find a place at once where a thread is refused."""
 import json
+import os
 import re
+import select
 import socket
 import subprocess
 import threading
@@ -78,13 +80,25 @@ class Server:
             except subprocess.TimeoutExpired:
                 raise Disagreement("a session was closed, and the server goes on") from None
 
+    def cause(self):
+        """What a server has written whose store fails: both lines, which its writer may be slow to write."""
+        errors, end = b"", time.monotonic() + PATIENCE
+        if self.refusal.is_of_the_file() and self.refusal.is_seen() and self.refusal.begins[-1] < self.refusal.at <= self.refusal.count():
+            while errors.count(b"\n") < 2 and select.select([self.process.stderr], [], [], max(0, end - time.monotonic()))[0]:
+                piece = os.read(self.process.stderr.fileno(), 4096)
+                if not piece:
+                    break
+                errors += piece
+        return errors
+
     def stop(self):
         """Ends the server. How many sessions it had threads for: with fewer than it has places for it has said so. Where its store has
         failed it has said that too, once."""
         if self.process is None:
             return PLACES
+        errors = self.cause()
         self.process.terminate()
-        _, errors = self.process.communicate()
+        errors += self.process.communicate()[1]
         self.process = None
         found = re.fullmatch(FEWER + b"(%s)?" % FAULT, refusals_of(errors))
         agree(found and (errors == b"" or self.refusal.met() and self.refusal.is_seen()), f"the server says {errors[:300]!r}")
