@@ -1,5 +1,5 @@
 //! What a flusher does for its store between batches: milestones, and the retirement of what nothing needs any more.
-ghost use Rattle.std.specs.Prelude.{◌≡◌, ◌≢◌, ◌⊎◌, ◌↔◌, ◌≤◌, ℕ, true, false, Some, None, slice_get, Contains, OnOk, OnErr, IfOk, IfErr, IsErrOf};
+ghost use Rattle.std.specs.Prelude.{◌≡◌, ◌≢◌, ◌⊎◌, ◌↔◌, ◌≤◌, ℕ, [], true, false, Some, None, length, take, slice_get, Contains, OnOk, OnErr, IfOk, IfErr, IsErrOf};
 ghost use Rattle.refusal.specs.declared.Refusal.{Refusal as Why};
 ghost use Rattle.refusal.specs.declared.Refusal.TheVariants.{NoDocument, Future, TooOld, StillNeeded, Stranger, NoMemory, Fault};
 ghost use Rattle.history.specs.Cell.{cells_at};
@@ -10,6 +10,7 @@ ghost use Rattle.recovery.specs.Faults.{FailsAtFaults};
 ghost use Rattle.recovery.specs.Found.{FoundAs};
 ghost use Rattle.recovery.specs.Jobs.{IsJobTo, highest, last_job, no_job_for, with_job, without_job};
 ghost use Rattle.recovery.specs.Open.{IsOpen, IsPutNow, IsUnchanged, device_of, state_of, has_failed, known_cells, kept_jobs};
+ghost use Rattle.recovery.specs.PutJobs.{ArePut, CostsTogether};
 ghost use Rattle.recovery.specs.Cells.{highest_known};
 ghost use Rattle.recovery.specs.Unwritten.{IsUnchangedButJobs};
 ghost use Rattle.recovery.specs.Run.{IsTaken, IsWhy};
@@ -137,6 +138,26 @@ impl<D: Disk, J: Site> Flusher<D, J> {
         ensures waiting { waiting_of self.new ≡ waiting_of self.old }
     {
         self.store.put_milestone(alloc, composed)
+    }
+
+    /// Puts the milestones of composed jobs as one step, as `Store::put_milestones` does, and returns how many of the first ones it took. What is held,
+    /// and what is published, stays.
+    pub fn put_milestones(&mut self, alloc: Global, composed: &[Composed]) -> Result<usize, Refusal>
+        ensures faults { FailsAtFaults result (store_of self.old) (store_of self.new) }
+        ensures goes { Goes (λ content. FoundAs content (state_of (store_of self.old))) (store_of self.old)
+            (store_of self.new) }
+        ensures state { state_of (store_of self.new) ≡ state_of (store_of self.old) }
+        ensures count { IfOk result (λ count. (count ≤ length composed.now) × (composed.now ≢ [] → 1 ≤ count)) }
+        ensures put { IfOk result (λ count. ArePut (take count composed.now) (store_of self.old) (store_of self.new)) }
+        ensures untouched { IsErrOf result NoMemory → IsUnchanged (store_of self.old) (store_of self.new) }
+        ensures jobs { OnErr result (kept_jobs (store_of self.new) ≡ kept_jobs (store_of self.old)) }
+        ensures costs { CostsTogether composed.now (store_of self.old) (store_of self.new) }
+        ensures only { IfErr result (λ e. (e ≡ NoMemory) ⊎ (e ≡ Fault)) }
+        ensures told { told_of self.new ≡ told_of self.old }
+        ensures committed { committed_of self.new ≡ committed_of self.old }
+        ensures waiting { waiting_of self.new ≡ waiting_of self.old }
+    {
+        self.store.put_milestones(alloc, composed)
     }
 
     /// Retires the oldest segment of the store, as `Store::retire` does. It takes no memory. What is held, and what is published, stays.

@@ -122,26 +122,25 @@ fn three_calls_of_one_thread_are_a_run(rt: HostRuntime) {
     let _ = found(&rt, disk.bytes(), Pick::Newer, 1);
 }
 
-// Both cells and both slots are open then, and slot 0 has the third segment. The third edit's turn makes 20 calls: a milestone is put into
-// each of the document's cells (five calls each: no cell is to be closed before, but that is synced all the same), the first slot is closed
-// (two) and opened again (four), and the record is appended (four). The last two open the record's gate, and where it stands open the third
-// edit is there.
+// Both cells and both slots are open then, and slot 0 has the third segment. The third edit's turn makes 18 calls: a milestone is put into
+// each of the document's cells (four calls each: no cell is to be closed before), the first slot is closed (two) and opened again (four), and
+// the record is appended (four). The last two open the record's gate, and where it stands open the third edit is there.
 #[test]
 fn a_full_journal_is_freed_for_the_next_batch(rt: HostRuntime) {
     let device = new_device(rt.alloc(), SHAPE).expect(&rt, "a device");
     let before = EDITS.get(..6).expect(&rt, "six rows");
     let first = edited(&rt, device.bytes(), before).calls().len() as u64;
     let disk = edited(&rt, device.bytes(), &EDITS);
-    assert_eq!(rt; disk.calls().len() as u64, first.saturating_add(20));
+    assert_eq!(rt; disk.calls().len() as u64, first.saturating_add(18));
     for at in &[64, 320, 1_088, 1_344] {
         is_byte(&rt, disk.bytes(), *at, 0xa5);
     }
     is_byte(&rt, disk.bytes(), 1_089, 3);
     let _ = found(&rt, disk.bytes(), Pick::Newer, 3);
     let _ = found(&rt, disk.bytes(), Pick::Older, 3);
-    for call in 0..20 {
+    for call in 0..18 {
         for (left, opens) in &LEFT {
-            let revision = if call >= 18 && *opens { 3 } else { 2 };
+            let revision = if call >= 16 && *opens { 3 } else { 2 };
             let plan = FaultPlan::stop(first.saturating_add(call), *left);
             is_stopped(&rt, device.bytes(), plan, revision);
         }

@@ -170,8 +170,8 @@ pub const RICH_TEXT: Script = Script {
     gates: &[(1_088, true), (1_344, false)],
 };
 
-/// A full journal: the third command finds both slots taken. A slot and a batch, twice; then a milestone in each cell, of five calls each
-/// as the journal puts them, the retirement of slot 0, the slot again and the batch. The last turn retires slot 1, whose only entry both cells cover.
+/// A full journal: the third command finds both slots taken. A slot and a batch, twice; then a milestone in each cell, the retirement of slot 0,
+/// the slot again and the batch. The last turn retires slot 1, whose only entry both cells cover.
 pub const FULL_JOURNAL: Script = Script {
     name: "a full journal",
     every: Some(256),
@@ -182,7 +182,7 @@ pub const FULL_JOURNAL: Script = Script {
         r#"d 2 {"ops":[{"insert":"z"}]} 2 1 2"#,
         r#"d 3 {"ops":[{"insert":"z"}]} 3 1 2 3"#,
     ],
-    calls: 38,
+    calls: 36,
     gates: &[(64, true), (1_088, true), (1_344, false)],
 };
 

@@ -1,6 +1,6 @@
 //! Milestones of many documents put as one step: what each of its three steps writes to the cells of one document. No step syncs: a caller makes
 //! a step for each document, each once, and then one sync for all of them.
-ghost use Rattle.std.specs.Prelude.{◌≡◌, ◌+◌, ◌*◌, ◌≤◌, ℕ, Some, length, OnOk, OnErr, IfOk, IfErr};
+ghost use Rattle.std.specs.Prelude.{◌≡◌, ◌+◌, ◌*◌, ◌≤◌, ℕ, true, false, Some, length, OnOk, OnErr, IfOk, IfErr};
 ghost use Rattle.disk.specs.Calls.{CountsFaults};
 ghost use Rattle.disk.specs.Crash.{LeavesOnly, history_of};
 ghost use Rattle.history.specs.Cell.{Cell, Pair, freed};
@@ -26,6 +26,18 @@ impl Cells {
         ensures only { IfErr result (λ e. e ≡ Refusal.NoMemory) }
     {
         framed(alloc, self.number, milestone)
+    }
+
+    /// Whether both cells are open, so that the first step closes one.
+    pub fn are_both_open(&self) -> bool
+        ensures closed { result ≡ false → HasClosed (revisions_of self.now) }
+        ensures both { result ≡ true → ¬ HasClosed (revisions_of self.now) }
+    {
+        match (self.first, self.second) {
+            (None, _) => false,
+            (Some(_), None) => false,
+            (Some(_), Some(_)) => true,
+        }
     }
 
     /// The first step: closes the gate of the older one of two open cells. Where not both are open it makes no call of the device, and

@@ -48,6 +48,11 @@ none_pass : {X : Type 0} (xs : List X) → filter (λ (x : X). false) xs ≡ []
 none_pass [] = refl
 none_pass (x ∷ xs) = none_pass xs
 
+-- none are dropped with no jobs
+pub none_dropped : (jobs : List Job) → filter (λ (job : Job). true) jobs ≡ jobs
+none_dropped [] = refl
+none_dropped (job ∷ jobs) = ap (λ (l : List Job). job ∷ l) (none_dropped jobs)
+
 pub outside_none : (jobs : List Job) → outside_jobs [] jobs ≡ jobs
 outside_none [] = refl
 outside_none (job ∷ jobs) = ap (λ (l : List Job). job ∷ l) (outside_none jobs)

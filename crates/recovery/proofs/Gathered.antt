@@ -11,10 +11,13 @@ use Rattle.refusal.specs.declared.Refusal.TheVariants.{StillNeeded, NoMemory, Fa
 use Rattle.recovery.specs.declared.group.Member.{Member}
 use Rattle.recovery.specs.declared.marks.Mark.{Mark}
 use Rattle.recovery.specs.declared.store.Store.{Store}
+use Rattle.recovery.specs.Freed.{bytes_at}
+use Rattle.recovery.specs.Open.{state_of}
 use Rattle.recovery.specs.Marks.{is_of, within_segment, greatest_marked}
 use Rattle.recovery.specs.steps.Freeing.{count_marked, IsGathered}
 use Rattle.recovery.specs.steps.Group.{is_in, AreDistinct, Each, IsNewestOf, IsGroup}
 use Rattle.recovery.proofs.Covering.{low_or_above, next_mark, marks_more, own_revision, no_revision}
+use Rattle.recovery.proofs.FullGroups.{bytes_next, bytes_push, newest_bytes}
 use Rattle.recovery.proofs.Members.{is_in_push}
 use Rattle.recovery.proofs.Refusals.{refusal_or}
 
@@ -58,6 +61,7 @@ module _ {D : Type 0} {disk : Ghosts D} (store : Store D disk) (marked : List �
     each = λ n behind below some. absurd (omega (arith, behind, below));
     only = λ n is. absurd (false≢true is);
     count = omega arith;
+    bytes = omega arith;
   }
 
   module _ (document : ℕ) (ms : List Member) (inside : document < length marked) (so_far : IsGathered marked from document ms store) where
@@ -71,6 +75,12 @@ module _ {D : Type 0} {disk : Ghosts D} (store : Store D disk) (marked : List �
       ];
       only = λ n is. let one = so_far.only n is in (one.0, omega (arith, one.1), one.2);
       count = omega (arith, so_far.count, count_next marked document inside, ap {B = ℕ} (λ n. cond (nat_lt 0 n) 1 0) none);
+      bytes = omega (
+        arith,
+        so_far.bytes,
+        bytes_next marked (state_of store) document,
+        ap {B = ℕ} (λ n. cond (nat_lt 0 n) (bytes_at (state_of store) document) 0) none,
+      );
     }
 
     -- and the milestone of another one comes to them
@@ -90,6 +100,15 @@ module _ {D : Type 0} {disk : Ghosts D} (store : Store D disk) (marked : List �
             let one = so_far.only n (first n apart own) in (one.0, omega (arith, one.1), one.2)
       ];
       count = omega (arith, so_far.count, count_next marked document inside, length-append ms (m ∷ []), ap {B = ℕ} (λ (b : Bool). cond b 1 0) marked_one);
+      bytes = omega (
+        arith,
+        so_far.bytes,
+        bytes_next marked (state_of store) document,
+        bytes_push ms m,
+        newest_bytes store m newest,
+        ap (λ k. bytes_at (state_of store) k) is,
+        ap {B = ℕ} (λ (b : Bool). cond b (bytes_at (state_of store) document) 0) marked_one,
+      );
     }
       where
         away : is_in ms m.document ≡ false

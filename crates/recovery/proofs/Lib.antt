@@ -28,6 +28,10 @@ pub mod OneRound
 pub mod Mixed
 pub mod DroppedJobs
 pub mod PutGroups
+pub mod ClosedBefore
+pub mod FullGroups
+pub mod PutOnce
+pub mod KeptMembers
 pub mod CoveredDocuments
 pub mod Gathered
 pub mod Spelled

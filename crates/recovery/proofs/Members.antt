@@ -16,15 +16,15 @@ or_none : (a : Bool) → (a || false) ≡ a
 or_none true = refl
 or_none false = refl
 
-or_all : (a : Bool) → (a || true) ≡ true
+pub or_all : (a : Bool) → (a || true) ≡ true
 or_all true = refl
 or_all false = refl
 
-or_first : (a b : Bool) → (a || b) ≡ false → a ≡ false
+pub or_first : (a b : Bool) → (a || b) ≡ false → a ≡ false
 or_first true b is = is
 or_first false b is = refl
 
-or_second : (a b : Bool) → (a || b) ≡ false → b ≡ false
+pub or_second : (a b : Bool) → (a || b) ≡ false → b ≡ false
 or_second true b is = absurd (false≢true (sym is))
 or_second false b is = is
 

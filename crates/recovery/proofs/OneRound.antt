@@ -1,10 +1,11 @@
 -- The three steps of a round, one after another, and one round after another.
-use Rattle.std.proofs.Common.{◌≡◌, ◌⊎◌, inl, inr, ℕ, ◌≤◌, true, false, Bool, Some, None, List, [], length, refl, sym, ◌∙◌, ap, subst, arith}
+use Rattle.std.proofs.Common.{◌≡◌, ◌⊎◌, inl, inr, ℕ, ◌+◌, ◌≤◌, true, false, Bool, Some, None, List, [], length, refl, sym, ◌∙◌, ap, subst, arith}
 use Rattle.std.specs.Prelude.{nat_lt, cond, slice_get, Result, Ok, Err, OnOk, OnErr}
 use Rattle.std.proofs.lemmas.Bool.{cond_both}
 use Rattle.disk.specs.declared.device.Disk.{Ghosts}
 use Rattle.disk.specs.Calls.{CountsFaults}
-use Rattle.disk.specs.Crash.{LeavesOnly}
+use Rattle.disk.specs.Counted.{Costs, synced_moments}
+use Rattle.disk.specs.Crash.{LeavesOnly, history_of}
 use Rattle.disk.specs.Device.{Rose}
 use Rattle.disk.proofs.CallerLemmas.{goes_on_run, leaves_map}
 use Rattle.history.specs.Cell.{Cell, Pair, freed}
@@ -100,3 +101,18 @@ module _ {D : Type 0} (disk : Ghosts D) where
     good = subst (λ n. OnOk result (disk.faults new ≡ n)) same counts.good;
     failed = subst (λ n. OnErr result (Rose n (disk.faults new))) same counts.failed;
   }
+
+  -- what no call costs, and calls behind none
+  pub costs_still : (a s : ℕ) (old new : D) → new ≡ old → Costs disk a s old new
+  costs_still a s old new same = record {
+    calls = omega (arith, ap (λ d. length (disk.past d)) same);
+    syncs = omega (arith, ap (λ d. synced_moments (history_of disk d)) same);
+    faults = omega (arith, ap disk.faults same);
+  }
+
+  pub costs_before : (a s : ℕ) (old mid new : D) → mid ≡ old → Costs disk a s mid new → Costs disk a s old new
+  costs_before a s old mid new same costs = subst (λ d. Costs disk a s d new) same costs
+
+  pub costs_wider : (a b s t : ℕ) (old new : D) → a ≤ b → s ≤ t → Costs disk a s old new → Costs disk b t old new
+  costs_wider a b s t old new calls syncs costs =
+      record { calls = omega (arith, calls, costs.calls); syncs = omega (arith, syncs, costs.syncs); faults = costs.faults }

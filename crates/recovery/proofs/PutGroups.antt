@@ -51,7 +51,7 @@ member_of (first ∷ others) n P each is = elim (cases_eq first.document n) [
       member_of others n P (λ k m inside at. each (suc k) m (omega (arith, inside)) at) (sym (ap (λ (b : Bool). b || is_in others n) away) ∙ is)
 ]
 
-length-framed : (body : List ℕ) → length (frame body) ≡ 4 + length body
+pub length-framed : (body : List ℕ) → length (frame body) ≡ 4 + length body
 length-framed body = omega arith
 
 module _ {D : Type 0} {disk : Ghosts D} (store : Store D disk) (ms : List Member) (group : IsGroup ms store) where

@@ -1,19 +1,43 @@
 -- What a commit for which room may be made in a full journal comes to, and what making room leaves where it is refused.
-use Rattle.std.specs.Prelude.{◌≡◌, ◌⊎◌, ◌+◌, ◌*◌, ◌≤◌, ◌<◌, ◌-◌, ◌^◌, ℕ, true, false, List, length}
+use Rattle.std.specs.Prelude.{◌≡◌, ◌⊎◌, ◌+◌, ◌*◌, ◌≤◌, ◌<◌, ◌-◌, ◌/◌, ◌^◌, ℕ, zero, suc, nat_lt, if◌then◌else◌, true, false, Option, Some, None, List, length, slice_get}
 use Rattle.disk.specs.declared.device.Disk.{Ghosts}
+use Rattle.disk.specs.Counted.{syncs_of}
+use Rattle.journal.specs.Area.{frame}
+use Rattle.milestone.specs.CellSpelling.{cell_body}
 use Rattle.refusal.specs.declared.Refusal.{Refusal}
 use Rattle.refusal.specs.declared.Refusal.TheVariants.{JournalFull, StillNeeded, Stranger, NoMemory, Fault}
 use Rattle.revision.specs.Command.{Taken}
-use Rattle.revision.specs.State.{fold, all_grow, first_grows}
+use Rattle.revision.specs.State.{State, DocumentRecord, fold, all_grow, first_grows}
 use Rattle.segments.specs.Numbers.{IsOldest, newest_number, open_count}
 use Rattle.segments.specs.Ring.{known_numbers}
 use Rattle.recovery.specs.declared.store.Store.{Store}
 use Rattle.recovery.specs.Found.{FoundAs}
 use Rattle.recovery.specs.Goes.{Goes}
-use Rattle.recovery.specs.Marks.{within_segment, without_segment}
-use Rattle.recovery.specs.Open.{IsOpen, IsUnchanged, IsCommittedNow, IsCommittedBehind, IsFreedNow, IsHalfFreed, KeepsJobs, device_of, ring_of, state_of, known_cells, known_marks, kept_jobs, has_room, fits_newest_segment}
+use Rattle.recovery.specs.Marks.{within_segment, without_segment, greatest_marked}
+use Rattle.recovery.specs.Open.{IsOpen, newest_cell, IsUnchanged, IsCommittedNow, IsCommittedBehind, IsFreedNow, IsHalfFreed, KeepsJobs, device_of, ring_of, state_of, known_cells, known_marks, kept_jobs, has_room, fits_newest_segment}
+
+-- how many bytes a cell has behind its gate that holds a document at its newest revision, and 0 where there is no document
+abbrev pub bytes_in : ℕ → Option DocumentRecord → ℕ
+bytes_in document None = 0
+bytes_in document (Some found) = length (frame (cell_body document (newest_cell found)))
+
+abbrev pub bytes_at : State → ℕ → ℕ
+bytes_at state document = bytes_in document (slice_get state.documents document)
+
+-- the bytes of those documents of numbers below a bound of which something is marked
+abbrev pub bytes_below : State → (ℕ → ℕ) → ℕ → ℕ
+bytes_below state marked zero = 0
+bytes_below state marked (suc document) = bytes_below state marked document + (if nat_lt 0 (marked document) then bytes_at state document else 0)
+
+-- from so many bytes on a group of milestones that are put together is full
+abbrev pub most_bytes : ℕ
+most_bytes = 4194304
 
 module _ {D : Type 0} {disk : Ghosts D} where
+  -- the bytes of all documents that have an entry in a segment, at their newest revisions
+  abbrev pub bytes_for : ℕ → Store D disk → ℕ
+  bytes_for segment store = bytes_below (state_of store) (λ document. greatest_marked segment document (known_marks store)) (length (known_cells store))
+
   -- fewer than two slots are open
   abbrev pub HasFew : Store D disk → Type 0
   HasFew store = open_count (known_numbers (ring_of store)) < 2
@@ -32,6 +56,12 @@ module _ {D : Type 0} {disk : Ghosts D} where
     pub by_segment : (slot segment : ℕ) → IsOldest (known_numbers (ring_of old)) slot segment
         → length (disk.past (device_of new)) ≤ length (disk.past (device_of old)) + (12 * length (within_segment segment (known_marks old)) + more)
     pub by_marks : length (disk.past (device_of new)) ≤ length (disk.past (device_of old)) + (12 * length (known_marks old) + more)
+
+  -- Making room takes six syncs for each four megabytes of what the documents hold that have an entry in the oldest segment, and for what is left of
+  -- these bytes, and so many more. A call that fails is counted as a sync.
+  pub record SyncsAtMost (more : ℕ) (old new : Store D disk) : Type 0 where
+    pub by_bytes : (slot segment : ℕ) → IsOldest (known_numbers (ring_of old)) slot segment
+        → syncs_of disk (device_of new) ≤ syncs_of disk (device_of old) + (6 * (1 + bytes_for segment old / most_bytes) + more)
 
   -- Room was made: the oldest segment is closed, and its marks are gone.
   pub record IsFreed (old new : Store D disk) : Type 0 where

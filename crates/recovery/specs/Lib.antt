@@ -16,5 +16,6 @@ pub mod Run
 pub mod Begun
 pub mod Due
 pub mod Freed
+pub mod PutJobs
 pub mod Formatting
 pub mod steps

@@ -1,17 +1,17 @@
 //! Making room in a journal that is full.
-ghost use Rattle.std.specs.Prelude.{◌≡◌, ◌≢◌, ◌⊎◌, ◌<◌, ◌≤◌, ◌+◌, ◌*◌, ◌^◌, ℕ, true, false, None, max, length, get_or, OnOk, IfOk, IfErr, IfSome, IsErrOf, IsOkUnless};
+ghost use Rattle.std.specs.Prelude.{◌≡◌, ◌≢◌, ◌⊎◌, ◌<◌, ◌≤◌, ◌+◌, ◌-◌, ◌*◌, ◌^◌, ℕ, true, false, None, max, length, get_or, OnOk, IfOk, IfErr, IfSome, IsErrOf, IsOkUnless};
 ghost use Rattle.revision.specs.Made.{AreMade};
 ghost use Rattle.revision.specs.State.{all_grow};
 ghost use Rattle.segments.specs.Numbers.{IsOldest};
 ghost use Rattle.segments.specs.Ring.{known_numbers};
 ghost use Rattle.recovery.specs.Faults.{FailsAtFaults};
 ghost use Rattle.recovery.specs.Found.{FoundAs};
-ghost use Rattle.recovery.specs.Freed.{HasFew, IsFreed, IsUnfreed, IsPlain, IsCommittedFreeing, IsUncommitted, KeepsOthers, CostsAtMost};
+ghost use Rattle.recovery.specs.Freed.{HasFew, IsFreed, IsUnfreed, IsPlain, IsCommittedFreeing, IsUncommitted, KeepsOthers, CostsAtMost, SyncsAtMost, bytes_for, most_bytes};
 ghost use Rattle.recovery.specs.Goes.{Goes};
 ghost use Rattle.recovery.specs.Jobs.{jobs_for};
 ghost use Rattle.recovery.specs.Marks.{within_segment, greatest_marked};
 ghost use Rattle.recovery.specs.Open.{FitsSlot, IsOpen, IsUnchanged, IsHalfFreed, IsWithOrWithout, KeepsJobs, device_of, ring_of, state_of, known_cells, known_marks, kept_jobs, has_failed, has_room};
-ghost use Rattle.recovery.specs.steps.Freeing.{reached_in, count_marked, AreReached, KeepsSegments, AreCovered, AreCoveredTo, IsHalfCovered};
+ghost use Rattle.recovery.specs.steps.Freeing.{reached_in, count_marked, bytes_to, AreReached, SyncsBy, KeepsSegments, AreCovered, AreCoveredTo, IsHalfCovered};
 
 use crate::marks::Mark;
 use crate::receipt::Receipt;
@@ -40,6 +40,7 @@ impl<D: Disk> Store<D> {
         ensures no_more_marks { length (known_marks self.new) ≤ length (known_marks self.old) }
         ensures others { KeepsOthers self.old self.new }
         ensures costs { CostsAtMost 2 self.old self.new }
+        ensures syncs { SyncsAtMost 2 self.old self.new }
 
         // A crash at any moment leaves the state.
         ensures goes { Goes (λ content. FoundAs content (state_of self.old)) self.old self.new }
@@ -87,6 +88,7 @@ impl<D: Disk> Store<D> {
         ensures plain { has_room self.old batch.now ≡ true → IsPlain batch.now self.old self.new }
         ensures others { KeepsOthers self.old self.new }
         ensures costs { CostsAtMost 10 self.old self.new }
+        ensures syncs { SyncsAtMost 6 self.old self.new }
 
         // A crash at any moment of the call leaves the state before it, or the one with the batch.
         ensures goes { Goes (IsWithOrWithout (state_of self.old) batch.now) self.old self.new }
@@ -116,6 +118,8 @@ impl<D: Disk> Store<D> {
             + 12 * length (within_segment segment (known_marks self.old)) }
         ensures calls_by_marks { length (D.past (device_of self.new))
             ≤ length (D.past (device_of self.old)) + 12 * length (known_marks self.old) }
+        ensures syncs { (groups : ℕ) × (most_bytes * (groups - 1) ≤ bytes_for segment self.old)
+            × SyncsBy groups self.old self.new }
         ensures keeps { KeepsSegments self.old self.new }
         ensures jobs { IsOpen self.old → KeepsJobs segment self.old self.new }
         ensures no_more_jobs { length (kept_jobs self.new) ≤ length (kept_jobs self.old) }
@@ -170,6 +174,9 @@ impl<D: Disk> Store<D> {
             → IsHalfCovered (λ document. get_or marked.now document 0) self.old is_open self.new) }
         ensures calls { length (D.past (device_of self.new)) ≤ length (D.past (device_of self.old))
             + 12 * count_marked marked.now }
+        ensures syncs { (groups : ℕ)
+            × (most_bytes * (groups - 1) ≤ bytes_to marked.now (state_of self.old) (length marked.now))
+            × SyncsBy groups self.old self.new }
         ensures keeps { KeepsSegments self.old self.new }
         ensures jobs { (document : ℕ) → get_or marked.now document 0 ≡ 0
             → jobs_for document (kept_jobs self.new) ≡ jobs_for document (kept_jobs self.old) }

@@ -3,10 +3,11 @@ ghost use Rattle.std.specs.Prelude.{◌≡◌, ◌≢◌, ◌⊎◌, ◌+◌, �
 ghost use Rattle.recovery.specs.declared.group.Member.{Member as Newest};
 ghost use Rattle.recovery.specs.Faults.{FailsAtFaults};
 ghost use Rattle.recovery.specs.Found.{FoundAs};
+ghost use Rattle.recovery.specs.Freed.{most_bytes};
 ghost use Rattle.recovery.specs.Goes.{Goes};
 ghost use Rattle.recovery.specs.Jobs.{jobs_of};
 ghost use Rattle.recovery.specs.Open.{IsOpen, device_of, state_of, has_failed, kept_jobs};
-ghost use Rattle.recovery.specs.steps.Freeing.{reached_in, AreReached, KeepsSegments, IsGathered};
+ghost use Rattle.recovery.specs.steps.Freeing.{reached_in, bytes_of, AreReached, SyncsBy, KeepsSegments, IsGathered};
 ghost use Rattle.recovery.specs.steps.Group.{outside_jobs, IsNewestOf, IsGroup, IsGroupPut};
 
 use crate::jobs::Jobs;
@@ -19,7 +20,7 @@ use revision::State;
 use std::alloc::Global;
 
 /// A group is full from so many bytes on, so that the last of its milestones may pass them.
-const MOST_BYTES: usize = 4_194_304;
+pub(crate) const MOST_BYTES: usize = 4_194_304;
 
 /// The newest milestone of a document, as its cells spell it behind their gates.
 #[derive(Drop)]
@@ -57,6 +58,7 @@ impl<D: Disk> Store<D> {
 
         ensures goes_on { IfOk result (λ group. (from < group.end) × (group.end ≤ length marked.now)) }
         ensures gathered { IfOk result (λ group. IsGathered marked.now from group.end group.members.items self.now) }
+        ensures full { IfOk result (λ group. group.end < length marked.now → most_bytes ≤ bytes_of group.members.items) }
         ensures needs { IfErr result (λ back. (from ≤ back.document) × (1 ≤ get_or marked.now back.document 0)) }
         ensures only { IfErr result (λ back. (back.refusal ≡ Refusal.StillNeeded) ⊎ (back.refusal ≡ Refusal.NoMemory)) }
         ensures needed { IfErr result (λ back. back.refusal ≡ Refusal.StillNeeded → IsOpen self.now
@@ -101,8 +103,8 @@ impl<D: Disk> Store<D> {
     ) -> Result<usize, Refusal>
         requires some { 1 ≤ revision }
 
-        ensures added { OnOk result ((member : Newest) × (members.new.items ≡ members.old.items ++ member ∷ [])
-            × IsNewestOf self.now member × (member.document ≡ document)) }
+        ensures added { IfOk result (λ len. (member : Newest) × (members.new.items ≡ members.old.items ++ member ∷ [])
+            × IsNewestOf self.now member × (member.document ≡ document) × (len ≡ length member.bytes.items)) }
         ensures only { IfErr result (λ e. (e ≡ Refusal.StillNeeded) ⊎ (e ≡ Refusal.NoMemory)) }
         ensures needed { IsErrOf result Refusal.StillNeeded → IsOpen self.now
             → reached_in (state_of self.now) document < revision }
@@ -162,6 +164,7 @@ impl<D: Disk> Store<D> {
         ensures dropped { kept_jobs self.new ≡ outside_jobs members.now (kept_jobs self.old) }
         ensures calls { length (D.past (device_of self.new))
             ≤ length (D.past (device_of self.old)) + 12 * length members.now }
+        ensures syncs { SyncsBy 1 self.old self.new }
         ensures keeps { KeepsSegments self.old self.new }
         ensures faults { FailsAtFaults result self.old self.new }
         ensures goes { Goes (λ content. FoundAs content (state_of self.old)) self.old self.new }
@@ -196,7 +199,7 @@ fn or_needed(refusal: Refusal) -> Refusal
 }
 
 // Drops the job of each member's document.
-fn drop_jobs(jobs: &mut Jobs, members: &[Member])
+pub(crate) fn drop_jobs(jobs: &mut Jobs, members: &[Member])
     ensures { jobs_of jobs.new ≡ outside_jobs members.now (jobs_of jobs.old) }
 {
     for member in members {
@@ -205,7 +208,7 @@ fn drop_jobs(jobs: &mut Jobs, members: &[Member])
 }
 
 // Lets go of what each member's document holds from below its floor.
-fn let_go_each(alloc: Global, state: &mut State, members: &[Member])
+pub(crate) fn let_go_each(alloc: Global, state: &mut State, members: &[Member])
     ensures { state.new ≡ state.old }
 {
     for member in members {

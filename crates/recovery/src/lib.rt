@@ -37,6 +37,7 @@
 //! ```
 #![tactic(auto)]
 
+mod composed;
 mod due;
 mod formatting;
 mod freeing;

@@ -1,5 +1,6 @@
 //! Retiring the oldest segment of a store.
 ghost use Rattle.std.specs.Prelude.{◌≡◌, ◌⊎◌, ◌↔◌, ◌+◌, ◌≤◌, ◌<◌, ℕ, true, false, length, OnOk, OnErr, IfErr, IsErrOf};
+ghost use Rattle.disk.specs.Counted.{syncs_of};
 ghost use Rattle.disk.specs.Crash.{LeavesOnly};
 ghost use Rattle.segments.specs.Numbers.{IsOldest};
 ghost use Rattle.segments.specs.Ring.{known_numbers};
@@ -50,8 +51,10 @@ impl<D: Disk> Store<D> {
             (device_of self.new) }
         ensures done { OnOk result ((is_open : IsOpen self.old) → IsRetiredNow is_open.cells is_open.table self.new) }
 
-        // Two calls of the device at most.
+        // Two calls of the device at most. A call that fails is counted as a sync too.
         ensures calls { length (D.past (device_of self.new)) ≤ length (D.past (device_of self.old)) + 2 }
+        ensures syncs { syncs_of ⟦<D as Disk>⟧ (device_of self.new)
+            ≤ syncs_of ⟦<D as Disk>⟧ (device_of self.old) + 2 }
     {
         if self.failed {
             return Err(Refusal::Fault);

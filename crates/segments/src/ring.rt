@@ -319,8 +319,9 @@ impl Ring {
             × FitsNow (D.seen disk.old) self.old (D.seen disk.new) self.new after) }
         ensures synced { OnOk result (D.unsynced disk.new ≡ []) }
 
-        // Two calls of the device at most.
+        // Two calls of the device at most. A call that fails is counted as a sync too.
         ensures calls { length (D.past disk.new) ≤ length (D.past disk.old) + 2 }
+        ensures syncs { syncs_of ⟦<D as Disk>⟧ disk.new ≤ syncs_of ⟦<D as Disk>⟧ disk.old + 2 }
         ensures only_written { HasOnlyWritten ⟦<D as Disk>⟧ disk.old disk.new }
         ensures faults { CountsFaultsAs ⟦<D as Disk>⟧ Refusal.Fault result disk.old disk.new }
     {

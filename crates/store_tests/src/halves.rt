@@ -236,3 +236,34 @@ fn a_job_below_the_floor_is_out_no_more(rt: HostRuntime) {
     is_answer(&rt, store.put_milestone(rt.alloc(), &made), Ok(()));
     assert!(rt; store.job_due(0, 3) == Some(6));
 }
+
+// The bytes of a device and how many calls it had: of a store that was given what came of a replaced job and of the later one, together or one by one.
+fn after_both(rt: &(impl Abort + AllocGlobal), together: bool) -> (Vec<u8>, usize) {
+    let mut store = edited(rt);
+    let early = by_halves(rt, job(rt, &mut store, 4));
+    let late = by_halves(rt, job(rt, &mut store, 7));
+    if together {
+        let mut both = Vec::new(rt.alloc());
+        both.push(early).expect(rt, "memory");
+        both.push(late).expect(rt, "memory");
+        for _ in 0..2 {
+            let taken = store.put_milestones(rt.alloc(), &both);
+            assert_eq!(rt; taken.expect(rt, "milestones"), 2);
+        }
+    } else {
+        let first = store.put_milestone(rt.alloc(), &early);
+        is_answer(rt, first, Err(Refusal::Stranger));
+        is_answer(rt, store.put_milestone(rt.alloc(), &late), Ok(()));
+    }
+    let disk = store.close();
+    let bytes = disk.bytes().to_vec(rt.alloc()).expect(rt, "memory");
+    (bytes, disk.calls().len())
+}
+
+#[test]
+fn what_comes_together_is_put_as_one_by_one(rt: HostRuntime) {
+    let (together, calls) = after_both(&rt, true);
+    let (wanted, others) = after_both(&rt, false);
+    assert!(rt; together == wanted);
+    assert_eq!(rt; calls, others);
+}

@@ -1,5 +1,5 @@
 -- What becomes of a job that comes back, and of a document that is looked at.
-use Rattle.std.specs.Prelude.{◌≡◌, ◌⊎◌, ℕ, Option, None, List, [], ◌∷◌, Result, Ok, Err, Contains, slice_get}
+use Rattle.std.specs.Prelude.{◌≡◌, ◌≢◌, ◌⊎◌, ◌≤◌, ℕ, Option, None, List, [], ◌∷◌, length, take, drop, Result, Ok, Err, Contains, slice_get}
 use Rattle.disk.specs.declared.device.Disk.{Ghosts}
 use Rattle.milestone.specs.Job.{Job}
 use Rattle.milestone.specs.declared.composing.Uncomposed.{Uncomposed}
@@ -7,7 +7,8 @@ use Rattle.recovery.specs.declared.store.Store.{Store}
 use Rattle.recovery.specs.Cells.{highest_known}
 use Rattle.recovery.specs.Due.{job_due_for}
 use Rattle.recovery.specs.Jobs.{last_job, with_job}
-use Rattle.recovery.specs.Open.{state_of, known_cells, kept_jobs}
+use Rattle.recovery.specs.Open.{IsUnchanged, state_of, known_cells, kept_jobs}
+use Rattle.recovery.specs.PutJobs.{ArePut}
 
 -- the document whose job was done, or came back undone
 abbrev pub document_of : Result Job Uncomposed → ℕ
@@ -30,3 +31,9 @@ module _ {D : Type 0} {disk : Ghosts D} where
   abbrev pub IsFirstLookedAt : ℕ → Store D disk → List ℕ → Store D disk → List ℕ → Type 0
   IsFirstLookedAt every old [] new waiting = Unit {0}
   IsFirstLookedAt every old (first ∷ others) new waiting = IsLookedAt every old first new waiting
+
+  -- Of what was to be put the first ones were put, and the others are still to be put; or there was no memory for the first, and all is unchanged.
+  abbrev pub ArePutFirst : List Job → List Job → Store D disk → Store D disk → Type 0
+  ArePutFirst unput rest old new =
+      ((count : ℕ) × (count ≤ length unput) × (unput ≢ [] → 1 ≤ count) × (rest ≡ drop count unput) × ArePut (take count unput) old new)
+      ⊎ ((rest ≡ unput) × IsUnchanged old new)

@@ -1,9 +1,10 @@
 //! The composers, as the thread that writes has them.
-ghost use Rattle.std.specs.Prelude.{◌≡◌, ◌≤◌, ◌<◌, ℕ, false, Some, None, length, All, Contains, OnErr, IfOk, IfErr, IfSome, IfNone};
+ghost use Rattle.std.specs.Prelude.{◌≡◌, ◌≤◌, ◌<◌, ◌+◌, ◌++◌, ◌∷◌, ℕ, [], false, Some, None, length, drop, All, Contains, OnOk, OnErr, IfOk, IfErr, IfSome, IfNone};
+ghost use Rattle.std.specs.Vec.{vec_len, vec_capacity};
 ghost use Rattle.recovery.specs.Jobs.{with_job, without_job};
 ghost use Rattle.recovery.specs.Open.{kept_jobs};
 ghost use Rattle.flusher.specs.Holding.{store_of};
-ghost use Rattle.turns.specs.Exchanging.{document_of, due_in, IsFirstLookedAt};
+ghost use Rattle.turns.specs.Exchanging.{document_of, due_in, ArePutFirst, IsFirstLookedAt};
 ghost use Rattle.turns.specs.Waiting.{StaysIn, behind_first};
 ghost use Rattle.turns.specs.Writing.{IsUpkeep, IsUnrefused};
 
@@ -18,19 +19,20 @@ use revision::{State, Taken};
 use std::alloc::Global;
 use std::sync::Wait;
 
-/// So many milestones are put in a turn at most.
-const MOST_PUT: u32 = 64;
+/// So many of the jobs that come back are taken in a turn at most, and so many milestones wait to be put.
+const MOST_PUT: usize = 64;
 
 /// How often a milestone is due, the ends of the channels to the composers, the documents that are looked at next, one job at most that found
-/// no place in the channel, and one at most that is done and for whose putting memory ran out.
+/// no place in the channel, and those that are done and are still to be put, for which there is room.
 #[derive(Drop)]
 pub(crate) struct Exchange {
     every: u32,
     composers: Composers,
     queue: Queue,
     unsent: Option<Job>,
-    unput: Option<Composed>,
+    unput: Vec<Composed>,
     ghost some: { 1 ≤ every },
+    ghost place: { 64 ≤ vec_capacity unput },
 }
 
 /// The composers, where there are some and there is memory, with all documents of a state to be looked at. `None` where `every` is 0.
@@ -51,6 +53,9 @@ pub(crate) fn exchange_with(
     let Ok(mut queue) = Queue::new(alloc, state.limits().docs()) else {
         return None;
     };
+    let Ok(unput) = Vec::with_capacity(alloc, MOST_PUT) else {
+        return None;
+    };
     for document in 0..state.limits().docs() {
         if (document as usize) < state.documents().len() {
             queue.add(document);
@@ -61,7 +66,7 @@ pub(crate) fn exchange_with(
         composers,
         queue,
         unsent: None,
-        unput: None,
+        unput,
     })
 }
 
@@ -93,7 +98,7 @@ impl Exchange {
         Ok(())
     }
 
-    // Puts what the composers have done. Refused with `Fault` alone.
+    // Takes in what the composers have done, and puts it. Refused with `Fault` alone.
     fn put_done<D: Disk, J: Site, R: Wait>(
         &mut self,
         rt: &R,
@@ -102,8 +107,9 @@ impl Exchange {
     ) -> Result<(), Refusal>
         ensures { IsUpkeep result flusher.old flusher.new }
     {
+        self.take_back(rt, flusher);
         for _ in 0..MOST_PUT {
-            let more = match self.put_next(rt, alloc, flusher) {
+            let more = match self.put_first(alloc, flusher) {
                 Ok(more) => more,
                 Err(refusal) => return Err(refusal),
             };
@@ -114,49 +120,40 @@ impl Exchange {
         Ok(())
     }
 
-    // Puts what was done next, and tells whether there may be more. Refused with `Fault` alone.
-    fn put_next<D: Disk, J: Site, R: Wait>(
-        &mut self,
-        rt: &R,
-        alloc: Global,
-        flusher: &mut Flusher<D, J>,
-    ) -> Result<bool, Refusal>
-        ensures { IsUpkeep result flusher.old flusher.new }
+    // Takes in what the composers have done, as far as there is a place for it among what is to be put.
+    fn take_back<D: Disk, J: Site, R: Wait>(&mut self, rt: &R, flusher: &mut Flusher<D, J>)
+        ensures { IsUnrefused flusher.old flusher.new }
     {
-        match self.next_done(rt) {
-            None => Ok(false),
-            Some(done) => self.take_in(alloc, flusher, done),
+        for _ in 0..MOST_PUT {
+            if self.unput.len() >= MOST_PUT {
+                return;
+            }
+            let Some(done) = self.composers.take_back(rt) else {
+                return;
+            };
+            self.take_in(flusher, done);
         }
     }
 
-    // What is done next: what is still to be put, or what comes.
-    fn next_done<R: Wait>(&mut self, rt: &R) -> Option<Done> {
-        match self.unput.take() {
-            Some(composed) => Some(Ok(composed)),
-            None => self.composers.take_back(rt),
-        }
-    }
-
-    // Takes in what was done: puts the milestone that came of a job, and gives a job up that came back undone. The document is looked at
-    // again. It tells whether there may be more to put. Refused with `Fault` alone.
+    // Takes in what was done: what comes of a job is to be put, and a job that came back undone is given up. The document is looked at again.
     #[tactic(auto, using(crate::proofs::Writing::upkeep_none, crate::proofs::Writing::upkeep_as))]
-    fn take_in<D: Disk, J: Site>(
-        &mut self,
-        alloc: Global,
-        flusher: &mut Flusher<D, J>,
-        done: Done,
-    ) -> Result<bool, Refusal>
-        ensures upkeep { IsUpkeep result flusher.old flusher.new }
+    fn take_in<D: Disk, J: Site>(&mut self, flusher: &mut Flusher<D, J>, done: Done)
+        requires place { vec_len self.old.unput < 64 }
+
+        ensures upkeep { IsUnrefused flusher.old flusher.new }
         ensures given_up { IfErr done (λ back. Contains (kept_jobs (store_of flusher.old)) back.job
             → kept_jobs (store_of flusher.new) ≡ without_job back.job.document (kept_jobs (store_of flusher.old))) }
+        ensures kept { IfOk done (λ composed. self.new.unput.items ≡ self.old.unput.items ++ composed ∷ []) }
         ensures waits { document_of done < self.old.queue.room → Contains self.new.queue.numbers (document_of done) }
         ensures stays { StaysIn self.old.queue self.new.queue }
     {
         match done {
-            Ok(composed) => self.put(alloc, flusher, composed),
+            Ok(composed) => {
+                self.queue.add(composed.job().document_number());
+                push_in_room(&mut self.unput, composed);
+            }
             Err(back) => {
                 self.give_up(flusher, &back.job);
-                Ok(true)
             }
         }
     }
@@ -173,32 +170,33 @@ impl Exchange {
         self.queue.add(job.document_number());
     }
 
-    // Puts the milestone that came of a job, and tells whether there was memory for it. It puts none where the job isn't the one that is
-    // kept of its document any more. The document is looked at again. Refused with `Fault` alone.
+    // Puts the first ones of the milestones that are to be put as one step, and tells whether there are more and there was memory. It passes those whose
+    // job isn't the one that is kept of its document any more. What found no memory is still to be put. The documents are looked at again. Refused with
+    // `Fault` alone.
     #[tactic(auto, using(crate::proofs::Writing::keeps_call, crate::proofs::Writing::upkeep_fault, crate::proofs::Writing::upkeep_but))]
-    fn put<D: Disk, J: Site>(
+    fn put_first<D: Disk, J: Site>(
         &mut self,
         alloc: Global,
         flusher: &mut Flusher<D, J>,
-        composed: Composed,
     ) -> Result<bool, Refusal>
         ensures upkeep { IsUpkeep result flusher.old flusher.new }
-        ensures kept { IfOk result (λ more. more ≡ false → self.new.unput ≡ Some composed) }
-        ensures waits { composed.document < self.old.queue.room → Contains self.new.queue.numbers composed.document }
+        ensures kept { OnOk result (ArePutFirst self.old.unput.items self.new.unput.items (store_of flusher.old)
+            (store_of flusher.new)) }
+        ensures waits { All (λ job. job.document < self.old.queue.room
+            → Contains self.new.queue.numbers job.document) self.old.unput.items }
         ensures stays { StaysIn self.old.queue self.new.queue }
     {
-        self.queue.add(composed.job().document_number());
-        match flusher.put_milestone(alloc, &composed) {
-            Ok(()) => Ok(true),
+        look_at(&mut self.queue, &self.unput);
+        match flusher.put_milestones(alloc, &self.unput) {
+            Ok(count) => {
+                drop_first(&mut self.unput, count);
+                Ok(!self.unput.is_empty())
+            }
             Err(refusal) => {
                 if refusal == Refusal::Fault {
                     return Err(refusal);
                 }
-                if refusal == Refusal::NoMemory {
-                    self.unput = Some(composed);
-                    return Ok(false);
-                }
-                Ok(true)
+                Ok(false)
             }
         }
     }
@@ -312,4 +310,35 @@ fn due_job<D: Disk, J: Site>(
             Err(refusal) => Err(refusal),
         },
     }
+}
+
+// The documents of what is to be put are looked at again.
+fn look_at(queue: &mut Queue, composed: &[Composed])
+    ensures waits { All (λ job. job.document < queue.old.room → Contains queue.new.numbers job.document) composed.now }
+    ensures stays { StaysIn queue.old queue.new }
+{
+    for one in composed {
+        queue.add(one.job().document_number());
+    }
+}
+
+// Puts what was done behind the others, for which there is room.
+fn push_in_room(unput: &mut Vec<Composed>, composed: Composed)
+    requires { vec_len unput.old < vec_capacity unput.old }
+    ensures items { unput.new.items ≡ unput.old.items ++ composed ∷ [] }
+    ensures len { vec_len unput.new ≡ vec_len unput.old + 1 }
+    ensures room { vec_capacity unput.old ≤ vec_capacity unput.new }
+{
+    if let Err(_) = unput.push(composed) {
+        unreachable!()
+    }
+}
+
+// Drops the first ones of what was to be put.
+fn drop_first(unput: &mut Vec<Composed>, count: usize)
+    requires { count ≤ length unput.old.items }
+    ensures items { unput.new.items ≡ drop count unput.old.items }
+    ensures room { vec_capacity unput.old ≤ vec_capacity unput.new }
+{
+    drop(unput.drain(..count));
 }

@@ -1,6 +1,8 @@
 -- Making room in a full journal: the steps on the way to where nothing needs the oldest segment.
-use Rattle.std.specs.Prelude.{◌≡◌, ◌≢◌, ◌⊎◌, ℕ, ◌+◌, ◌≤◌, ◌<◌, nat_lt, true, Option, List, [], length, take, get_or, filter, slice_get}
+use Rattle.std.specs.Prelude.{◌≡◌, ◌≢◌, ◌⊎◌, ℕ, ◌+◌, ◌-◌, ◌*◌, ◌≤◌, ◌<◌, nat_lt, true, Option, List, [], ◌∷◌, length, take, get_or, filter, slice_get}
 use Rattle.disk.specs.declared.device.Disk.{Ghosts}
+use Rattle.disk.specs.Counted.{synced_moments}
+use Rattle.disk.specs.Crash.{history_of}
 use Rattle.revision.specs.State.{State, newest_revision}
 use Rattle.history.specs.Cell.{Pair, cells_at}
 use Rattle.segments.specs.Slot.{Segment}
@@ -8,10 +10,11 @@ use Rattle.segments.specs.Table.{IsRetired}
 use Rattle.recovery.specs.declared.group.Member.{Member}
 use Rattle.recovery.specs.declared.marks.Mark.{Mark}
 use Rattle.recovery.specs.declared.store.Store.{Store}
+use Rattle.recovery.specs.Freed.{bytes_below, most_bytes}
 use Rattle.recovery.specs.Jobs.{jobs_for}
 use Rattle.recovery.specs.Marked.{MayRetire}
 use Rattle.recovery.specs.Marks.{greatest_marked}
-use Rattle.recovery.specs.Open.{IsOpen, IsLeft, IsRaised, AreBothNewest, state_of, ring_of, known_marks, kept_jobs}
+use Rattle.recovery.specs.Open.{IsOpen, IsLeft, IsRaised, AreBothNewest, device_of, state_of, ring_of, known_marks, kept_jobs}
 use Rattle.recovery.specs.steps.Group.{is_in, IsGroup}
 
 -- the newest revision of a document, by its number
@@ -26,7 +29,27 @@ count_marked marked = length (filter (nat_lt 0) marked)
 abbrev pub AreReached : List ℕ → State → Type 0
 AreReached marked state = (document : ℕ) → get_or marked document 0 ≤ reached_in state document
 
+-- the bytes of the newest milestones of those that are marked below a number
+abbrev pub bytes_to : List ℕ → State → ℕ → ℕ
+bytes_to marked state bound = bytes_below state (λ document. get_or marked document 0) bound
+
+-- the bytes of members
+abbrev pub bytes_of : List Member → ℕ
+bytes_of [] = 0
+bytes_of (member ∷ members) = length member.bytes.items + bytes_of members
+
+-- So many groups were put of the milestones below a number: of all of them but the last each was full, and while some documents are left, the last
+-- one too.
+pub record AreFull (marked : List ℕ) (state : State) (from groups : ℕ) : Type 0 where
+  pub before : most_bytes * (groups - 1) ≤ bytes_to marked state from
+  pub last : from < length marked → most_bytes * groups ≤ bytes_to marked state from
+
 module _ {D : Type 0} {disk : Ghosts D} where
+  -- calls that make six syncs at most for each of so many groups, and end with the first one that fails
+  pub record SyncsBy (groups : ℕ) (old new : Store D disk) : Type 0 where
+    pub syncs : synced_moments (history_of disk (device_of new)) ≤ synced_moments (history_of disk (device_of old)) + 6 * groups
+    pub faults : disk.faults (device_of new) ≤ disk.faults (device_of old) + 1
+
   -- the documents stay, and so do the segments and what is known of them
   pub record KeepsSegments (old new : Store D disk) : Type 0 where
     pub state : state_of new ≡ state_of old
@@ -39,6 +62,7 @@ module _ {D : Type 0} {disk : Ghosts D} where
     pub each : (document : ℕ) → from ≤ document → document < end → 1 ≤ get_or marked document 0 → is_in members document ≡ true
     pub only : (document : ℕ) → is_in members document ≡ true → (from ≤ document) × (document < end) × (1 ≤ get_or marked document 0)
     pub count : count_marked (take from marked) + length members ≡ count_marked (take end marked)
+    pub bytes : bytes_to marked (state_of store) from + bytes_of members ≡ bytes_to marked (state_of store) end
 
   -- The marked documents of numbers below a bound are covered: the store goes on over the same slots, and both cells of each of them hold it at its
   -- newest revision, and no job of it is kept. The other documents are left unchanged.

@@ -1,5 +1,5 @@
 -- Milestones of many documents put together: the steps on the way to where both cells of each of the documents hold its own.
-use Rattle.std.specs.Prelude.{◌≡◌, ◌⊎◌, ℕ, ◌+◌, ◌*◌, ◌≤◌, ◌<◌, ◌==◌, ◌||◌, not, if◌then◌else◌, Bool, true, false, Option, Some, None, List, [], ◌∷◌, length, take, get_or, filter, slice_get}
+use Rattle.std.specs.Prelude.{◌≡◌, ◌⊎◌, ℕ, ◌+◌, ◌*◌, ◌≤◌, ◌<◌, ◌==◌, ◌||◌, not, if◌then◌else◌, Bool, true, false, Option, Some, None, List, [], ◌∷◌, length, take, get_or, filter, slice_get, Contains}
 use Rattle.disk.specs.declared.device.Disk.{Ghosts}
 use Rattle.disk.specs.Apart.{IsApart}
 use Rattle.disk.specs.Calls.{HasOnlyWritten}
@@ -12,8 +12,8 @@ use Rattle.revision.specs.State.{State, DocumentRecord, revision_of}
 use Rattle.history.specs.Cell.{Cell, Pair, cells_at, freed}
 use Rattle.milestone.specs.CellSpelling.{IsCell, cell_body}
 use Rattle.milestone.specs.declared.cells.Cells.{Cells}
-use Rattle.milestone.specs.Cells.{Fits, HasClosed, with_cell}
-use Rattle.milestone.specs.Job.{Job}
+use Rattle.milestone.specs.Cells.{Fits, HasClosed, revisions_of, with_cell}
+use Rattle.milestone.specs.Job.{Job, cell_of_job}
 use Rattle.milestone.specs.OneCell.{HoldsPair}
 use Rattle.milestone.specs.Revisions.{revisions_in}
 use Rattle.milestone.specs.Together.{IsReady}
@@ -22,7 +22,7 @@ use Rattle.recovery.specs.declared.shape.Shape.{Shape}
 use Rattle.recovery.specs.declared.store.Store.{Store}
 use Rattle.recovery.specs.Shape.{cells_place, slots_place}
 use Rattle.recovery.specs.Cells.{AreCellsOf, highest_known}
-use Rattle.recovery.specs.Open.{IsOpen, AreBothNewest, newest_cell, state_of, known_cells}
+use Rattle.recovery.specs.Open.{IsOpen, AreBothNewest, newest_cell, state_of, known_cells, kept_jobs}
 
 -- a document is one of members
 abbrev pub is_in : List Member → ℕ → Bool
@@ -109,6 +109,10 @@ AreWaiting members k cells known content =
 abbrev pub AreHalf : List Member → (ℕ → Pair) → Type 0
 AreHalf members held = (number : ℕ) → is_in members number ≡ true → HasClosed (revisions_in (held number))
 
+-- one cell of each member's document is known to be closed, so that none is to be closed for it
+abbrev pub HaveClosed : List Member → List Cells → Type 0
+HaveClosed members known = Each members (λ member. (one : Cells) → slice_get known member.document ≡ Some one → HasClosed (revisions_of one))
+
 -- The cells that are known lie as a shape says, within so many bytes, and the documents and the bytes of members are such as they may be there.
 pub record HasPlaces (members : List Member) (known : List Cells) (count : ℕ) : Type 0 where
   pub shape : Shape
@@ -170,3 +174,17 @@ module _ {D : Type 0} {disk : Ghosts D} where
     pub same_table : goes_on.table ≡ is_open.table
     pub others : (number : ℕ) → is_in members number ≡ false → cells_at goes_on.cells number ≡ cells_at is_open.cells number
     pub own : (number : ℕ) → is_in members number ≡ true → AreBothNewest (state_of old) number (cells_at goes_on.cells number)
+
+  -- A member is what comes of a composed job that the store keeps.
+  pub record IsMadeOfKept (composed : List Job) (store : Store D disk) (member : Member) : Type 0 where
+    pub job : Job
+    pub among : Contains composed job
+    pub kept : Contains (kept_jobs store) job
+    pub of : member.document ≡ job.document
+    pub spells : Spells store.shape (cell_of_job job) member
+
+  -- What comes of those of composed jobs that the store keeps, each document once.
+  pub record AreKept (composed : List Job) (members : List Member) (store : Store D disk) : Type 0 where
+    pub distinct : AreDistinct members
+    pub made : Each members (IsMadeOfKept composed store)
+    pub all : (job : Job) → Contains composed job → Contains (kept_jobs store) job → is_in members job.document ≡ true

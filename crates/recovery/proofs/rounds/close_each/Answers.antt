@@ -1,4 +1,4 @@
-use Rattle.std.proofs.Common.{◌≡◌, ◌⊎◌, inl, inr, List, ℕ, ◌+◌, ◌*◌, ◌≤◌, ◌<◌, length, get_or, take, refl, sym, ◌∙◌, ap, subst, arith}
+use Rattle.std.proofs.Common.{◌≡◌, ◌⊎◌, inl, inr, List, ℕ, ◌+◌, ◌*◌, ◌≤◌, ◌<◌, length, get_or, take, refl, sym, ◌∙◌, ap, subst, arith, rules}
 use Rattle.std.specs.Prelude.{slice_get, Some, OnOk}
 use Rattle.std.proofs.lemmas.List.{take_all}
 use Rattle.std.proofs.lemmas.Option.{slice_get-get_or}
@@ -9,7 +9,8 @@ use Rattle.milestone.specs.declared.cells.Cells.{Cells}
 use Rattle.milestone.specs.Together.{IsFreedOr}
 use Rattle.recovery.specs.declared.group.Member.{Member}
 use Rattle.recovery.specs.declared.shape.Shape.{Shape}
-use Rattle.recovery.specs.steps.Group.{MayBeFreed, Stand, WriteCells, part, is_in}
+use Rattle.recovery.specs.steps.Group.{HaveClosed, MayBeFreed, Stand, WriteCells, part, is_in}
+use Rattle.recovery.proofs.ClosedBefore.{none_freed}
 use Rattle.recovery.proofs.Members.{part_next, part_still, part_before}
 use Rattle.recovery.proofs.Together.{writes_none, writes_one, writes_then, writes_wider, way_begins, way_left, way_more, stands_apart, within_here, on_ok}
 use Rattle.recovery.proofs.rounds.close_each.Goals as goal
@@ -113,3 +114,22 @@ returns-clause-done g c =
     on_ok c.sync.result (λ shape held together.
     subst (Stand (part ms (λ n. freed (held n)) held) c.loop-member.cells) (sym c.sync.ensures.seen)
     (subst (λ (l : List Member). Stand (part l (λ n. freed (held n)) held) c.loop-member.cells (g.D.Disk.seen c.loop-member.device)) all (c.loop-member.invariant.way shape held together).stand))
+
+-- no cell is to be closed
+pub is_one_full-requires : goal.is_one_full-requires
+is_one_full-requires g c =
+    record { inside = λ k m inside is. omega (arith, c.requires.places.inside k m inside is, c.requires.places.placed.count) }
+
+pub returns-then-not-is_one_full-clause-any_moment : goal.returns-then-not-is_one_full-clause-any_moment
+returns-then-not-is_one_full-clause-any_moment g c shape held together =
+    (way_begins g.D.Disk shape c.args.members.now (MayBeFreed held) held c.args.device.now c.args.cells.now together (λ n. inl refl)).left
+
+pub returns-then-not-is_one_full-clause-done : goal.returns-then-not-is_one_full-clause-done
+returns-then-not-is_one_full-clause-done g c shape held together =
+    let none : HaveClosed c.args.members.now c.args.cells.now = search rules in
+    none_freed c.args.members.now held c.args.cells.now (g.D.Disk.seen c.args.device.now) none together.stand
+
+pub returns-then-not-is_one_full-clause-writes : goal.returns-then-not-is_one_full-clause-writes
+returns-then-not-is_one_full-clause-writes g c =
+    writes_wider g.D.Disk 0 (length c.args.members.now + 1) 0 1 c.args.cells.now c.args.cells.now c.args.device.now c.args.device.now (omega arith) (omega arith)
+    (writes_none g.D.Disk c.args.cells.now c.args.device.now)

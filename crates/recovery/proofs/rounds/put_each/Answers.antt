@@ -3,8 +3,8 @@ use Rattle.history.specs.Cell.{Cell, Pair, freed}
 use Rattle.milestone.specs.Cells.{with_cell}
 use Rattle.recovery.specs.declared.shape.Shape.{Shape}
 use Rattle.recovery.specs.steps.Group.{MayBeFreed, MayBePut, MayBeReplaced, StandTogether, part, put_in}
-use Rattle.recovery.proofs.OneRound.{closed_half, less_may, put_may, put_same, places_on, stands_on, stand_same, left_map, left_then, counts_on, if_ok}
-use Rattle.recovery.proofs.Together.{writes_then, writes_wider}
+use Rattle.recovery.proofs.OneRound.{costs_still, costs_before, costs_wider, closed_half, less_may, put_may, put_same, places_on, stands_on, stand_same, left_map, left_then, counts_on, if_ok}
+use Rattle.recovery.proofs.Together.{costs_then, writes_then, writes_wider}
 use Rattle.recovery.proofs.rounds.put_each.Goals as goal
 
 pub write_each-requires : goal.write_each-requires
@@ -36,7 +36,7 @@ returns-in_err-write_each-clause-any_moment g c shape held put together spelled 
     let less : ℕ → Pair = part ms (λ n. freed (held n)) held in
     let mid : StandTogether g.D.Disk shape ms less c.close_each.new.cells c.close_each.new.device =
     stands_on g.D.Disk (length ms + 1) 1 shape ms held less c.args.cells.now c.close_each.new.cells c.args.device.now c.close_each.new.device together c.close_each.ensures.writes
-    c.in_ok-close_each.ensures.synced (c.in_ok-close_each.ensures.done shape held together) in
+    (c.in_ok-close_each.ensures.synced together.synced) (c.in_ok-close_each.ensures.done shape held together) in
     left_then g.D.Disk shape (λ n pair. pair ≡ less n) (MayBeReplaced ms put held) c.args.device.now c.close_each.new.device c.write_each.new.device
     (c.close_each.ensures.writes.outside shape together.placed) (less_may ms put held)
     (left_map g.D.Disk shape (MayBeFreed held) (MayBeReplaced ms put held) c.args.device.now c.args.device.now c.close_each.new.device (λ n pair may. inl may)
@@ -56,7 +56,7 @@ returns-clause-any_moment g c shape held put together spelled =
     let less : ℕ → Pair = part ms (λ n. freed (held n)) held in
     let mid : StandTogether g.D.Disk shape ms less c.close_each.new.cells c.close_each.new.device =
     stands_on g.D.Disk (length ms + 1) 1 shape ms held less c.args.cells.now c.close_each.new.cells c.args.device.now c.close_each.new.device together c.close_each.ensures.writes
-    c.in_ok-close_each.ensures.synced (c.in_ok-close_each.ensures.done shape held together) in
+    (c.in_ok-close_each.ensures.synced together.synced) (c.in_ok-close_each.ensures.done shape held together) in
     let later : StandTogether g.D.Disk shape ms less c.close_each.new.cells c.write_each.new.device =
     stands_on g.D.Disk (length ms + 1) 1 shape ms less less c.close_each.new.cells c.close_each.new.cells c.close_each.new.device c.write_each.new.device mid c.write_each.ensures.writes
     c.in_ok-write_each.ensures.synced (c.in_ok-write_each.ensures.done shape less mid) in
@@ -78,7 +78,7 @@ returns-clause-done g c =
     let less : ℕ → Pair = part ms (λ n. freed (held n)) held in
     let mid : StandTogether g.D.Disk shape ms less c.close_each.new.cells c.close_each.new.device =
     stands_on g.D.Disk (length ms + 1) 1 shape ms held less c.args.cells.now c.close_each.new.cells c.args.device.now c.close_each.new.device together c.close_each.ensures.writes
-    c.in_ok-close_each.ensures.synced (c.in_ok-close_each.ensures.done shape held together) in
+    (c.in_ok-close_each.ensures.synced together.synced) (c.in_ok-close_each.ensures.done shape held together) in
     let later : StandTogether g.D.Disk shape ms less c.close_each.new.cells c.write_each.new.device =
     stands_on g.D.Disk (length ms + 1) 1 shape ms less less c.close_each.new.cells c.close_each.new.cells c.close_each.new.device c.write_each.new.device mid c.write_each.ensures.writes
     c.in_ok-write_each.ensures.synced (c.in_ok-write_each.ensures.done shape less mid) in
@@ -93,3 +93,21 @@ returns-clause-writes g c =
     writes_wider g.D.Disk (((k + 1) + (k + 1)) + (k + 1)) (3 * k + 3) 3 3 c.args.cells.now c.open_each.new.cells c.args.device.now c.open_each.new.device (omega arith) (omega arith)
     (writes_then g.D.Disk ((k + 1) + (k + 1)) (k + 1) 2 1 c.args.cells.now c.close_each.new.cells c.open_each.new.cells c.args.device.now c.write_each.new.device c.open_each.new.device
     (c.in_ok-write_each.ensures.faults.good ∙ c.in_ok-close_each.ensures.faults.good) two c.open_each.ensures.writes)
+
+-- where no cell is to be closed, nothing is done for that
+pub returns-in_err-close_each-clause-fewer : goal.returns-in_err-close_each-clause-fewer
+returns-in_err-close_each-clause-fewer g c closed =
+    costs_still g.D.Disk (2 * length c.args.members.now + 2) 2 c.args.device.now c.close_each.new.device (c.close_each.ensures.untouched closed).0
+
+pub returns-in_err-write_each-clause-fewer : goal.returns-in_err-write_each-clause-fewer
+returns-in_err-write_each-clause-fewer g c closed =
+    let k = length c.args.members.now in
+    costs_before g.D.Disk (2 * k + 2) 2 c.args.device.now c.close_each.new.device c.write_each.new.device (c.close_each.ensures.untouched closed).0
+    (costs_wider g.D.Disk (k + 1) (2 * k + 2) 1 2 c.close_each.new.device c.write_each.new.device (omega arith) (omega arith) c.write_each.ensures.writes.costs)
+
+pub returns-clause-fewer : goal.returns-clause-fewer
+returns-clause-fewer g c closed =
+    let k = length c.args.members.now in
+    costs_before g.D.Disk (2 * k + 2) 2 c.args.device.now c.close_each.new.device c.open_each.new.device (c.close_each.ensures.untouched closed).0
+    (costs_wider g.D.Disk ((k + 1) + (k + 1)) (2 * k + 2) 2 2 c.close_each.new.device c.open_each.new.device (omega arith) (omega arith)
+    (costs_then g.D.Disk (k + 1) (k + 1) 1 1 c.in_ok-write_each.ensures.faults.good c.write_each.ensures.writes.costs c.open_each.ensures.writes.costs))

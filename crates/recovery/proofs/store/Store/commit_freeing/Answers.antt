@@ -18,6 +18,7 @@ use Rattle.recovery.proofs.Going.{goes_map, goes_on}
 use Rattle.recovery.proofs.Faults.{faults_on, goes_by}
 use Rattle.recovery.proofs.Covering.{freed_still}
 use Rattle.recovery.proofs.Freed.{OfCommit, no_needed, no_full, no_stranger_freed, not_full, of_commit, of_freeing, keeps_others_same, costs_few, costs_more, costs_on}
+use Rattle.recovery.proofs.FullGroups.{syncs_few, syncs_more, syncs_on}
 use Rattle.recovery.proofs.Refusals.{if_err, on_ok_by, of_err, of_if_err, of_ok}
 use Rattle.recovery.proofs.Rooms.{freed_up, few_up}
 use Rattle.recovery.proofs.SparedJobs.{spared_then}
@@ -75,6 +76,9 @@ returns-then-has_room-clause-others g c = keeps_others_same c.args.self.now c.co
 pub returns-then-has_room-clause-costs : goal.returns-then-has_room-clause-costs
 returns-then-has_room-clause-costs g c = costs_few 10 c.args.self.now c.commit.new.self (omega (arith, c.commit.ensures.calls))
 
+pub returns-then-has_room-clause-syncs : goal.returns-then-has_room-clause-syncs
+returns-then-has_room-clause-syncs g c = syncs_few 6 c.args.self.now c.commit.new.self (omega (arith, c.commit.ensures.syncs))
+
 pub returns-then-has_room-clause-goes : goal.returns-then-has_room-clause-goes
 returns-then-has_room-clause-goes g c =
     goes_by c.commit.result c.commit.ensures.faults c.commit.ensures.any_moment c.commit.ensures.done c.commit.ensures.kept
@@ -109,6 +113,9 @@ returns-in-Err-clause-plain g c room =
 
 pub returns-in-Err-clause-costs : goal.returns-in-Err-clause-costs
 returns-in-Err-clause-costs g c = costs_more 2 10 c.args.self.now c.free_oldest.new.self (omega arith) c.free_oldest.ensures.costs
+
+pub returns-in-Err-clause-syncs : goal.returns-in-Err-clause-syncs
+returns-in-Err-clause-syncs g c = syncs_more 2 6 c.args.self.now c.free_oldest.new.self (omega arith) c.free_oldest.ensures.syncs
 
 pub returns-in-Err-clause-goes : goal.returns-in-Err-clause-goes
 returns-in-Err-clause-goes g c = goes_map (λ content found. inl found) c.free_oldest.ensures.goes
@@ -192,6 +199,9 @@ returns-clause-others g c = record {
 
 pub returns-clause-costs : goal.returns-clause-costs
 returns-clause-costs g c = costs_on 2 8 c.args.self.now c.free_oldest.new.self c.commit-2.new.self c.free_oldest.ensures.costs c.commit-2.ensures.calls
+
+pub returns-clause-syncs : goal.returns-clause-syncs
+returns-clause-syncs g c = syncs_on 2 4 c.args.self.now c.free_oldest.new.self c.commit-2.new.self c.free_oldest.ensures.syncs c.commit-2.ensures.syncs
 
 pub returns-clause-goes : goal.returns-clause-goes
 returns-clause-goes g c =

@@ -8,10 +8,12 @@ use Rattle.milestone.specs.Job.{Job}
 use Rattle.recovery.specs.Jobs.{jobs_for}
 use Rattle.recovery.specs.Open.{IsOpen, device_of, kept_jobs, state_of}
 use Rattle.recovery.specs.declared.group.Member.{Member}
-use Rattle.recovery.specs.steps.Freeing.{AreReached, AreCoveredTo, IsGathered, count_marked}
+use Rattle.recovery.specs.Freed.{most_bytes}
+use Rattle.recovery.specs.steps.Freeing.{bytes_to, bytes_of, AreReached, AreCoveredTo, IsGathered, count_marked}
 use Rattle.recovery.proofs.CoveredDocuments.{covered_none, covered_more, half_covered, jobs_more, jobs_without, count_to}
 use Rattle.recovery.proofs.DroppedJobs.{fewer_outside}
 use Rattle.recovery.proofs.Faults.{faults_none, faults_on, faults_ok, faults_but_jobs, goes_but_jobs}
+use Rattle.recovery.proofs.FullGroups.{full_none, full_more, full_before, bytes_within, by_none, by_more, by_same}
 use Rattle.recovery.proofs.Going.{goes_nowhere, goes_same}
 use Rattle.recovery.proofs.OtherJobs.{fewer_without}
 use Rattle.recovery.proofs.Raising.{keeps_on}
@@ -27,6 +29,7 @@ loop-from-init g c = record {
   goes = goes_nowhere c.args.self.now;
   covered = covered_none (λ n. get_or c.args.marked.now n 0) c.args.self.now;
   calls = omega arith;
+  syncs = (0, full_none c.args.marked.now (state_of c.args.self.now), by_none c.args.self.now);
   jobs = λ document none. refl;
   few_jobs = omega arith;
 }
@@ -51,6 +54,15 @@ loop-from-preserved g c =
           covered_more marked from group.end ms start store new is_open (omega (arith, c.in-Ok.ensures.goes_on.0)) (before.covered is_open) gathered before.keeps.state
           (c.in_default.ensures.put (before.covered is_open).goes_on) c.put_group.ensures.dropped;
       calls = omega (arith, before.calls, c.put_group.ensures.calls, gathered.count);
+      syncs =
+          let sum : bytes_to marked (state_of start) from + bytes_of ms ≡ bytes_to marked (state_of start) group.end =
+          subst (λ (s : State). bytes_to marked s from + bytes_of ms ≡ bytes_to marked s group.end) before.keeps.state gathered.bytes in
+          let full : group.end < length marked → most_bytes ≤ bytes_of ms =
+          subst (λ (l : List Member). group.end < length marked → most_bytes ≤ bytes_of l) (sym c.deref.ensures.value) c.in-Ok.ensures.full in (
+            before.syncs.0 + 1,
+            full_more marked (state_of start) from group.end before.syncs.0 ms c.loop-from-test.true sum before.syncs.1 full,
+            by_more before.syncs.0 start store new before.faults.good before.syncs.2 c.put_group.ensures.syncs,
+          );
       jobs = λ document none. jobs_more marked from group.end ms start store new gathered c.put_group.ensures.dropped document none ∙ before.jobs document none;
       few_jobs = omega (arith, before.few_jobs, ap (λ (l : List Job). length l) c.put_group.ensures.dropped, fewer_outside ms (kept_jobs store));
     }
@@ -70,6 +82,14 @@ returns-in-Err-clause-half g c other is_open =
 pub returns-in-Err-clause-calls : goal.returns-in-Err-clause-calls
 returns-in-Err-clause-calls g c =
     omega (arith, c.loop-from.invariant.calls, count_to c.args.marked.now c.loop-from.from, ap (λ d. length (g.D.Disk.past d)) c.drop_job.ensures.same.device)
+
+pub returns-in-Err-clause-syncs : goal.returns-in-Err-clause-syncs
+returns-in-Err-clause-syncs g c =
+    let start = c.args.self.now in
+    let marked = c.args.marked.now in
+    let before = c.loop-from.invariant.syncs in
+    let up = bytes_within (state_of start) (λ n. get_or marked n 0) c.loop-from.from (length marked) c.loop-from.invariant.within in
+    (before.0, omega (arith, before.1.before, up), by_same before.0 start c.loop-from.self c.drop_job.new.self c.drop_job.ensures.same.device before.2)
 
 pub returns-in-Err-clause-keeps : goal.returns-in-Err-clause-keeps
 returns-in-Err-clause-keeps g c =
@@ -103,6 +123,23 @@ pub returns-in-Err-put_group-clause-calls : goal.returns-in-Err-put_group-clause
 returns-in-Err-put_group-clause-calls g c =
     omega (arith, c.loop-from.invariant.calls, c.put_group.ensures.calls, c.in-Ok.ensures.gathered.count, count_to c.args.marked.now c.in-Ok.group.end)
 
+pub returns-in-Err-put_group-clause-syncs : goal.returns-in-Err-put_group-clause-syncs
+returns-in-Err-put_group-clause-syncs g c =
+    let start = c.args.self.now in
+    let marked = c.args.marked.now in
+    let from = c.loop-from.from in
+    let end = c.in-Ok.group.end in
+    let ms : List Member = c.in-Ok.group.members.items in
+    let before = c.loop-from.invariant in
+    let sum : bytes_to marked (state_of start) from + bytes_of ms ≡ bytes_to marked (state_of start) end =
+    subst (λ (s : State). bytes_to marked s from + bytes_of ms ≡ bytes_to marked s end) before.keeps.state c.in-Ok.ensures.gathered.bytes in
+    let full = full_before marked (state_of start) from end before.syncs.0 ms c.loop-from-test.true sum before.syncs.1 in
+    let up = bytes_within (state_of start) (λ n. get_or marked n 0) end (length marked) c.in-Ok.ensures.goes_on.1 in (
+      before.syncs.0 + 1,
+      omega (arith, full, up),
+      by_more before.syncs.0 start c.loop-from.self c.put_group.new.self before.faults.good before.syncs.2 c.put_group.ensures.syncs,
+    )
+
 pub returns-in-Err-put_group-clause-keeps : goal.returns-in-Err-put_group-clause-keeps
 returns-in-Err-put_group-clause-keeps g c = keeps_on c.loop-from.invariant.keeps c.put_group.ensures.keeps
 
@@ -135,3 +172,11 @@ returns-clause-covered g c is_open =
 
 pub returns-clause-calls : goal.returns-clause-calls
 returns-clause-calls g c = omega (arith, c.loop-from.invariant.calls, count_to c.args.marked.now c.loop-from.from)
+
+pub returns-clause-syncs : goal.returns-clause-syncs
+returns-clause-syncs g c =
+    let start = c.args.self.now in
+    let marked = c.args.marked.now in
+    let before = c.loop-from.invariant.syncs in
+    let up = bytes_within (state_of start) (λ n. get_or marked n 0) c.loop-from.from (length marked) c.loop-from.invariant.within in
+    (before.0, omega (arith, before.1.before, up), before.2)

@@ -4,11 +4,13 @@ use Rattle.std.proofs.lemmas.List.{get_or_past}
 use Rattle.refusal.specs.declared.Refusal.{Refusal}
 use Rattle.refusal.specs.declared.Refusal.TheVariants.{StillNeeded, NoMemory, Fault}
 use Rattle.milestone.specs.Job.{Job}
+use Rattle.recovery.specs.Freed.{bytes_below}
 use Rattle.recovery.specs.Marks.{greatest_marked, within_segment}
 use Rattle.recovery.specs.Open.{IsOpen, IsHalfFreed, device_of, kept_jobs, known_marks, state_of}
 use Rattle.recovery.specs.steps.Freeing.{IsHalfCovered, count_marked}
 use Rattle.recovery.proofs.CoveredDocuments.{covered_none, half_covered, half_freed, all_covered, table_all, jobs_without, fewer_marks, err_map, memory_needs}
 use Rattle.recovery.proofs.Faults.{faults_none, faults_but_jobs, goes_but_jobs}
+use Rattle.recovery.proofs.FullGroups.{bytes_same, by_none, by_same}
 use Rattle.recovery.proofs.Gathered.{told_fault}
 use Rattle.recovery.proofs.Going.{goes_nowhere}
 use Rattle.recovery.proofs.OneRound.{if_ok}
@@ -29,6 +31,9 @@ returns-in_default-clause-goes g c = goes_nowhere c.args.self.now
 
 pub returns-in_default-clause-faults : goal.returns-in_default-clause-faults
 returns-in_default-clause-faults g c = faults_none c.args.self.now (Ok tt) c.requires.working (ok≢err tt Fault)
+
+pub returns-in_default-clause-syncs : goal.returns-in_default-clause-syncs
+returns-in_default-clause-syncs g c = (0, omega arith, by_none c.args.self.now)
 
 -- the documents of the table are covered
 pub returns-in-Ok-clause-needed : goal.returns-in-Ok-clause-needed
@@ -76,6 +81,17 @@ returns-in-Ok-clause-half g c =
 pub returns-in-Ok-clause-calls : goal.returns-in-Ok-clause-calls
 returns-in-Ok-clause-calls g c = omega (arith, c.cover_documents.ensures.calls, c.in-Ok.ensures.few, ap (λ (l : List ℕ). count_marked l) c.deref.ensures.value)
 
+pub returns-in-Ok-clause-syncs : goal.returns-in-Ok-clause-syncs
+returns-in-Ok-clause-syncs g c =
+    let store = c.args.self.now in
+    let marked : List ℕ = c.deref.result.now in
+    let from = c.deref.ensures.value in
+    let count : length marked ≡ length store.cells.items = ap (λ (l : List ℕ). length l) from ∙ c.in-Ok.ensures.count in
+    let each = λ (k : ℕ) (below : k < length store.cells.items). ap (λ (l : List ℕ). get_or l k 0) from ∙ c.in-Ok.ensures.marked k below in
+    let syncs = c.cover_documents.ensures.syncs in
+    let same = bytes_same (state_of store) (λ n. get_or marked n 0) (λ n. greatest_marked c.args.segment n (known_marks store)) (length store.cells.items) each in
+    (syncs.0, omega (arith, syncs.1, same, ap (λ n. bytes_below (state_of store) (λ k. get_or marked k 0) n) count), syncs.2)
+
 pub returns-in-Ok-clause-calls_by_marks : goal.returns-in-Ok-clause-calls_by_marks
 returns-in-Ok-clause-calls_by_marks g c =
     omega (arith, c.cover_documents.ensures.calls, c.in-Ok.ensures.few, ap (λ (l : List ℕ). count_marked l) c.deref.ensures.value, fewer_marks c.args.segment (known_marks c.args.self.now))
@@ -105,6 +121,9 @@ returns-in-Err-clause-half g c other is_open =
 
 pub returns-in-Err-clause-calls : goal.returns-in-Err-clause-calls
 returns-in-Err-clause-calls g c = omega (arith, ap (λ d. length (g.D.Disk.past d)) c.drop_job.ensures.same.device)
+
+pub returns-in-Err-clause-syncs : goal.returns-in-Err-clause-syncs
+returns-in-Err-clause-syncs g c = (0, omega arith, by_same 0 c.args.self.now c.args.self.now c.drop_job.new.self c.drop_job.ensures.same.device (by_none c.args.self.now))
 
 pub returns-in-Err-clause-calls_by_marks : goal.returns-in-Err-clause-calls_by_marks
 returns-in-Err-clause-calls_by_marks g c = omega (arith, ap (λ d. length (g.D.Disk.past d)) c.drop_job.ensures.same.device)

@@ -1,4 +1,4 @@
-use Rattle.std.proofs.Common.{◌≡◌, ◌⊎◌, ◌≤◌, ◌∙◌, inl, inr, List, length, refl, sym, ap, rules, arith}
+use Rattle.std.proofs.Common.{◌≡◌, ◌⊎◌, ◌≤◌, ◌/◌, ◌∙◌, inl, inr, List, length, refl, sym, ap, rules, arith}
 use Rattle.std.specs.Prelude.{Err}
 use Rattle.refusal.specs.declared.Refusal.{Refusal}
 use Rattle.refusal.specs.declared.Refusal.TheVariants.{StillNeeded, NoMemory, Fault}
@@ -6,9 +6,10 @@ use Rattle.segments.specs.Numbers.{open_count}
 use Rattle.segments.specs.Ring.{known_numbers}
 use Rattle.milestone.specs.Job.{Job}
 use Rattle.recovery.specs.declared.marks.Mark.{Mark}
-use Rattle.recovery.specs.Freed.{HasFew, IsUnfreed}
+use Rattle.recovery.specs.Freed.{HasFew, IsUnfreed, bytes_for, most_bytes}
 use Rattle.recovery.specs.Marks.{within_segment}
 use Rattle.recovery.specs.Open.{known_marks}
+use Rattle.recovery.proofs.FullGroups.{syncs_none, syncs_half, syncs_all}
 use Rattle.recovery.proofs.Going.{goes_nowhere, goes_same}
 use Rattle.recovery.proofs.Faults.{faults_on, retire_goes}
 use Rattle.recovery.proofs.Covering.{may_go, freed_by}
@@ -30,6 +31,9 @@ returns-then-self-clause-others g c = keeps_others_none c.args.self.now
 pub returns-then-self-clause-costs : goal.returns-then-self-clause-costs
 returns-then-self-clause-costs g c = costs_none 2 c.args.self.now
 
+pub returns-then-self-clause-syncs : goal.returns-then-self-clause-syncs
+returns-then-self-clause-syncs g c = syncs_none 2 c.args.self.now
+
 pub returns-then-self-clause-goes : goal.returns-then-self-clause-goes
 returns-then-self-clause-goes g c = goes_nowhere c.args.self.now
 
@@ -44,6 +48,9 @@ returns-in_default-clause-others g c = keeps_others_none c.args.self.now
 
 pub returns-in_default-clause-costs : goal.returns-in_default-clause-costs
 returns-in_default-clause-costs g c = costs_none 2 c.args.self.now
+
+pub returns-in_default-clause-syncs : goal.returns-in_default-clause-syncs
+returns-in_default-clause-syncs g c = syncs_none 2 c.args.self.now
 
 pub returns-in_default-clause-goes : goal.returns-in_default-clause-goes
 returns-in_default-clause-goes g c = goes_nowhere c.args.self.now
@@ -77,6 +84,21 @@ returns-in-Err-clause-costs g c =
           let same = one_oldest (known_numbers store.ring) found.0 slot c.in-Some.oldest segment found.1 oldest in
           omega (arith, c.cover_segment.ensures.calls, ap (λ n. length (within_segment n (known_marks store))) same);
       by_marks = omega (arith, c.cover_segment.ensures.calls_by_marks);
+    }
+
+pub returns-in-Err-clause-syncs : goal.returns-in-Err-clause-syncs
+returns-in-Err-clause-syncs g c =
+    let store = c.args.self.now in
+    let found = c.in-Some.ensures.oldest in
+    let syncs = c.cover_segment.ensures.syncs in
+    record {
+      by_bytes = λ slot segment oldest.
+          let same = one_oldest (known_numbers store.ring) found.0 slot c.in-Some.oldest segment found.1 oldest in
+          omega (
+            arith,
+            syncs_half store c.cover_segment.new.self c.in-Some.oldest syncs.0 syncs.1 syncs.2,
+            ap (λ n. bytes_for n store / most_bytes) same,
+          );
     }
 
 pub returns-in-Err-clause-no_more_marks : goal.returns-in-Err-clause-no_more_marks
@@ -137,6 +159,21 @@ returns-clause-costs g c =
           let same = one_oldest (known_numbers store.ring) found.0 slot c.in-Some.oldest segment found.1 oldest in
           omega (arith, c.cover_segment.ensures.calls, c.retire.ensures.calls, ap (λ n. length (within_segment n (known_marks store))) same);
       by_marks = omega (arith, c.cover_segment.ensures.calls_by_marks, c.retire.ensures.calls);
+    }
+
+pub returns-clause-syncs : goal.returns-clause-syncs
+returns-clause-syncs g c =
+    let store = c.args.self.now in
+    let found = c.in-Some.ensures.oldest in
+    let syncs = c.cover_segment.ensures.syncs in
+    record {
+      by_bytes = λ slot segment oldest.
+          let same = one_oldest (known_numbers store.ring) found.0 slot c.in-Some.oldest segment found.1 oldest in
+          omega (
+            arith,
+            syncs_all store c.cover_segment.new.self c.retire.new.self c.in-Some.oldest syncs.0 syncs.1 syncs.2 c.in_default-cover_segment.ensures.faults.good c.retire.ensures.syncs,
+            ap (λ n. bytes_for n store / most_bytes) same,
+          );
     }
 
 pub returns-clause-no_more_marks : goal.returns-clause-no_more_marks

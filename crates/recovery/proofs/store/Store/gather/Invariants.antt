@@ -1,9 +1,10 @@
 use Rattle.std.proofs.Common.{◌≤◌}
-use Rattle.recovery.specs.steps.Freeing.{IsGathered}
+use Rattle.recovery.specs.steps.Freeing.{bytes_of, IsGathered}
 use Rattle.recovery.proofs.store.Store.gather.Given as goal
 
 abbrev pub invariant-loop-document : goal.invariant-loop-document
 invariant-loop-document g l = record {
   behind : l.from ≤ l.document;
+  bytes : l.bytes ≤ bytes_of l.members.items;
   gathered : IsGathered l.marked l.from l.document l.members.items l.self;
 }

@@ -44,6 +44,9 @@ returns-then-is_empty-clause-dropped g c =
 pub returns-then-is_empty-clause-goes : goal.returns-then-is_empty-clause-goes
 returns-then-is_empty-clause-goes g c = goes_nowhere c.args.self.now
 
+pub returns-then-is_empty-clause-syncs : goal.returns-then-is_empty-clause-syncs
+returns-then-is_empty-clause-syncs g c = record { syncs = omega arith; faults = omega arith }
+
 -- what the store keeps
 pub invariant_of-self : goal.invariant_of-self
 invariant_of-self g c =
@@ -119,6 +122,9 @@ returns-in-Ok-clause-calls g c =
 pub returns-in-Ok-clause-keeps : goal.returns-in-Ok-clause-keeps
 returns-in-Ok-clause-keeps g c = record { state = c.let_go_each.ensures; ring = refl; marks = refl }
 
+pub returns-in-Ok-clause-syncs : goal.returns-in-Ok-clause-syncs
+returns-in-Ok-clause-syncs g c = record { syncs = omega (arith, c.put_both.ensures.writes.costs.syncs); faults = c.put_both.ensures.writes.costs.faults }
+
 pub returns-in-Ok-clause-faults : goal.returns-in-Ok-clause-faults
 returns-in-Ok-clause-faults g c = good_here c.args.self.now _ c.requires.working tt c.requires.working c.in-Ok.ensures.faults.good c.put_both.ensures.writes.only_written.honest
 
@@ -141,6 +147,9 @@ pub returns-in-Err-clause-calls : goal.returns-in-Err-clause-calls
 returns-in-Err-clause-calls g c =
     let some : 1 ≤ length c.args.members.now = search rules in
     omega (arith, c.put_both.ensures.writes.costs.calls, some)
+
+pub returns-in-Err-clause-syncs : goal.returns-in-Err-clause-syncs
+returns-in-Err-clause-syncs g c = record { syncs = omega (arith, c.put_both.ensures.writes.costs.syncs); faults = c.put_both.ensures.writes.costs.faults }
 
 pub returns-in-Err-clause-faults : goal.returns-in-Err-clause-faults
 returns-in-Err-clause-faults g c = fault_here c.args.self.now _ c.requires.working c.in-Err.field-0 refl c.in-Err.ensures.faults c.put_both.ensures.writes.only_written.honest

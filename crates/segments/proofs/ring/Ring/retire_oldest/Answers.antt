@@ -1,7 +1,7 @@
-use Rattle.std.proofs.Common.{◌≡◌, ◌≤◌, ◌+◌, ◌*◌, ◌∷◌, [], inl, ℕ, refl, ap, subst, rules, ◌∙◌}
+use Rattle.std.proofs.Common.{◌≡◌, ◌≤◌, ◌+◌, ◌*◌, ◌∷◌, [], inl, ℕ, refl, ap, subst, rules, ◌∙◌, arith}
 use Rattle.disk.specs.Device.{overwritten, SameOutside}
 use Rattle.disk.specs.Crash.{history_of}
-use Rattle.disk.proofs.CallerLemmas.{begins, goes_on_first_write, goes_on_sync}
+use Rattle.disk.proofs.CallerLemmas.{begins, goes_on_first_write, goes_on_sync, costs_write, costs_sync}
 use Rattle.segments.specs.Numbers.{IsOldest, open_count}
 use Rattle.segments.specs.Ring.{known_numbers}
 use Rattle.segments.proofs.Rings.{same_ring}
@@ -55,3 +55,15 @@ returns-clause-done g c table fits =
     let two : 2 ≤ open_count (known_numbers ring) = search rules in
     let seen : new ≡ overwritten old (ring.at + slot * ring.size) (0 ∷ []) = c.sync.ensures.seen ∙ c.in_ok-write_at.ensures.written ∙ ap (λ k. overwritten old k (0 ∷ [])) c.place-place.ensures.place in
     retired_ring old ring table fits c.requires.within slot oldest.0 oldest.1 two new _ seen refl refl refl refl
+
+-- how many syncs it makes
+pub returns-in_err-write_at-clause-syncs : goal.returns-in_err-write_at-clause-syncs
+returns-in_err-write_at-clause-syncs g c = omega (arith, (costs_write _ _ _ _ c.write_at.ensures.time).1, c.in_err-write_at.ensures.failed)
+
+pub returns-in_err-sync-clause-syncs : goal.returns-in_err-sync-clause-syncs
+returns-in_err-sync-clause-syncs g c =
+    omega (arith, (costs_write _ _ _ _ c.write_at.ensures.time).1, (costs_sync _ _ c.sync.ensures.time).1, c.in_ok-write_at.ensures.good.0, c.in_err-sync.ensures.failed)
+
+pub returns-clause-syncs : goal.returns-clause-syncs
+returns-clause-syncs g c =
+    omega (arith, (costs_write _ _ _ _ c.write_at.ensures.time).1, (costs_sync _ _ c.sync.ensures.time).1, c.in_ok-write_at.ensures.good.0, c.in_ok-sync.ensures.good.0)

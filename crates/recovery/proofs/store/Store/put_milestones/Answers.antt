@@ -1,0 +1,74 @@
+use Rattle.std.proofs.Common.{◌≡◌, ◌≢◌, ◌⊎◌, inl, inr, ◌≤◌, ◌+◌, ◌*◌, List, ℕ, length, take, refl, sym, ◌∙◌, ap, subst, arith, rules}
+use Rattle.std.specs.Prelude.{Ok, Err}
+use Rattle.std.proofs.lemmas.List.{length-take-le}
+use Rattle.refusal.specs.declared.Refusal.TheVariants.{Fault}
+use Rattle.milestone.specs.Job.{Job}
+use Rattle.recovery.specs.declared.group.Member.{Member}
+use Rattle.recovery.specs.Open.{has_failed}
+use Rattle.recovery.specs.steps.Group.{AreKept}
+use Rattle.recovery.proofs.Faults.{faults_none, faults_ok, faults_told}
+use Rattle.recovery.proofs.Gathered.{told_fault}
+use Rattle.recovery.proofs.Going.{goes_nowhere}
+use Rattle.recovery.proofs.KeptMembers.{costs_together_none, costs_longer}
+use Rattle.recovery.proofs.store.Store.put_milestones.Goals as goal
+
+-- the store had failed
+pub returns-then-self-clause-keeps : goal.returns-then-self-clause-keeps
+returns-then-self-clause-keeps g c = record { state = refl; ring = refl; marks = refl }
+
+pub returns-then-self-clause-costs : goal.returns-then-self-clause-costs
+returns-then-self-clause-costs g c = costs_together_none c.args.self.now c.args.composed.now
+
+pub returns-then-self-clause-goes : goal.returns-then-self-clause-goes
+returns-then-self-clause-goes g c = goes_nowhere c.args.self.now
+
+-- there was no memory for the first one
+pub returns-in-Err-clause-faults : goal.returns-in-Err-clause-faults
+returns-in-Err-clause-faults g c =
+    let works : has_failed c.args.self.now ≡ false = search rules in
+    faults_none c.args.self.now (Err c.in-Err.refusal) works (told_fault c.in-Err.refusal (inr c.in-Err.ensures.only))
+
+pub returns-in-Err-clause-keeps : goal.returns-in-Err-clause-keeps
+returns-in-Err-clause-keeps g c = record { state = refl; ring = refl; marks = refl }
+
+pub returns-in-Err-clause-costs : goal.returns-in-Err-clause-costs
+returns-in-Err-clause-costs g c = costs_together_none c.args.self.now c.args.composed.now
+
+pub returns-in-Err-clause-goes : goal.returns-in-Err-clause-goes
+returns-in-Err-clause-goes g c = goes_nowhere c.args.self.now
+
+-- what comes of the first ones is put
+pub put_once-requires-clause-kept : goal.put_once-requires-clause-kept
+put_once-requires-clause-kept g c = (
+  take c.in-Ok.group.end c.args.composed.now,
+  subst (λ (l : List Member). AreKept (take c.in-Ok.group.end c.args.composed.now) l c.args.self.now) (sym c.deref.ensures.value) c.in-Ok.ensures.kept,
+)
+
+pub returns-in-Ok-put_once-clause-put : goal.returns-in-Ok-put_once-clause-put
+returns-in-Ok-put_once-clause-put g c =
+    let first : List Job = take c.in-Ok.group.end c.args.composed.now in
+    c.in-Ok-put_once.ensures.put first (subst (λ (l : List Member). AreKept first l c.args.self.now) (sym c.deref.ensures.value) c.in-Ok.ensures.kept)
+
+pub returns-in-Ok-put_once-clause-faults : goal.returns-in-Ok-put_once-clause-faults
+returns-in-Ok-put_once-clause-faults g c = faults_ok tt c.in-Ok.group.end c.in-Ok-put_once.ensures.faults
+
+pub returns-in-Ok-put_once-clause-costs : goal.returns-in-Ok-put_once-clause-costs
+returns-in-Ok-put_once-clause-costs g c =
+    let composed : List Job = c.args.composed.now in
+    let count = c.in-Ok.group.end in
+    let kept = subst (λ (l : List Member). AreKept (take count composed) l c.args.self.now) (sym c.deref.ensures.value) c.in-Ok.ensures.kept in
+    let few : length c.deref.result.now ≤ length (take count composed) =
+    omega (arith, c.in-Ok.ensures.few, length-take-le count composed c.in-Ok.ensures.count.0, ap (λ (l : List Member). length l) c.deref.ensures.value) in
+    costs_longer c.args.self.now c.put_once.new.self composed count (c.put_once.ensures.costs (take count composed) kept few)
+
+pub returns-in-Err-put_once-clause-costs : goal.returns-in-Err-put_once-clause-costs
+returns-in-Err-put_once-clause-costs g c =
+    let composed : List Job = c.args.composed.now in
+    let count = c.in-Ok.group.end in
+    let kept = subst (λ (l : List Member). AreKept (take count composed) l c.args.self.now) (sym c.deref.ensures.value) c.in-Ok.ensures.kept in
+    let few : length c.deref.result.now ≤ length (take count composed) =
+    omega (arith, c.in-Ok.ensures.few, length-take-le count composed c.in-Ok.ensures.count.0, ap (λ (l : List Member). length l) c.deref.ensures.value) in
+    costs_longer c.args.self.now c.put_once.new.self composed count (c.put_once.ensures.costs (take count composed) kept few)
+
+pub returns-in-Err-put_once-clause-faults : goal.returns-in-Err-put_once-clause-faults
+returns-in-Err-put_once-clause-faults g c = faults_told c.in-Err-put_once.refusal c.in-Err-put_once.ensures.faults

@@ -1,0 +1,73 @@
+use Rattle.std.proofs.Common.{◌≡◌, ◌≢◌, ◌⊎◌, inl, inr, ◌≤◌, ◌<◌, ◌+◌, List, ℕ, [], ◌∷◌, ◌++◌, length, take, get_or, refl, sym, ◌∙◌, ap, subst, arith}
+use Rattle.std.proofs.lemmas.List.{take_more, take_all, length-append}
+use Rattle.milestone.specs.Job.{Job}
+use Rattle.recovery.specs.declared.group.Member.{Member}
+use Rattle.recovery.specs.steps.Group.{AreKept}
+use Rattle.recovery.proofs.KeptMembers.{kept_none, kept_next, few_next, some_length, no_jobs}
+use Rattle.recovery.proofs.store.Store.spell_kept.Goals as goal
+
+pub loop-place-init : goal.loop-place-init
+loop-place-init g c = record {
+  kept = subst (λ (l : List Member). AreKept [] l c.args.self.now) (sym c.new-members.ensures.items) (kept_none c.args.self.now);
+  none = λ first. refl;
+  few = omega (arith, ap (λ (l : List Member). length l) c.new-members.ensures.items);
+}
+
+-- there are enough
+pub returns-then-bytes-ge-MOST_BYTES-clause-count : goal.returns-then-bytes-ge-MOST_BYTES-clause-count
+returns-then-bytes-ge-MOST_BYTES-clause-count g c = (
+  omega (arith, c.loop-place-test.true),
+  λ some. elim (some_length c.loop-place.place) [
+    | inr more ↦ more
+    | inl first ↦ absurd (omega (arith, c.if-bytes-ge-MOST_BYTES.true, c.loop-place.invariant.none first))
+  ],
+)
+
+-- there was no memory for the next one
+pub returns-in-Err-clause-count : goal.returns-in-Err-clause-count
+returns-in-Err-clause-count g c = (
+  omega (arith, c.loop-place-test.true),
+  λ some. elim (some_length c.loop-place.place) [
+    | inr more ↦ more
+    | inl first ↦ absurd (c.if-place-eq0.false first)
+  ],
+)
+
+pub returns-in-Err-clause-kept : goal.returns-in-Err-clause-kept
+returns-in-Err-clause-kept g c =
+    subst (λ (l : List Member). AreKept (take c.loop-place.place c.args.composed.now) l c.args.self.now) (sym c.in-Err.ensures.refused) c.loop-place.invariant.kept
+
+pub returns-in-Err-clause-few : goal.returns-in-Err-clause-few
+returns-in-Err-clause-few g c = omega (arith, c.loop-place.invariant.few, ap (λ (l : List Member). length l) c.in-Err.ensures.refused)
+
+-- the next one was added, or passed
+pub loop-place-preserved : goal.loop-place-preserved
+loop-place-preserved g c =
+    let store = c.args.self.now in
+    let composed : List Job = c.args.composed.now in
+    let k = c.loop-place.place in
+    let job : Job = get_or composed k c.index-composed-place.result in
+    let all : take (k + 1) composed ≡ take k composed ++ job ∷ [] = take_more composed k c.index-composed-place.result c.loop-place-test.true in
+    let before : List Member = c.loop-place.members.items in
+    record {
+      kept = subst (λ (l : List Job). AreKept l c.add_kept.new.members.items store) (sym all)
+          (kept_next store (take k composed) job before c.add_kept.new.members.items c.loop-place.invariant.kept c.in-Ok.ensures.added);
+      none = λ first. absurd (omega (arith, first));
+      few = few_next store job before c.add_kept.new.members.items k c.loop-place.invariant.few c.in-Ok.ensures.added;
+    }
+
+-- behind the last one
+pub returns-clause-count : goal.returns-clause-count
+returns-clause-count g c = (
+  omega arith,
+  λ some. elim (some_length (length c.args.composed.now)) [
+    | inr more ↦ more
+    | inl none ↦ absurd (some (no_jobs c.args.composed.now none))
+  ],
+)
+
+pub returns-clause-kept : goal.returns-clause-kept
+returns-clause-kept g c =
+    let composed : List Job = c.args.composed.now in
+    subst (λ (l : List Job). AreKept l c.loop-place.members.items c.args.self.now)
+    (take_all c.loop-place.place composed (omega (arith, c.loop-place-test.false)) ∙ sym (take_all (length composed) composed (omega arith))) c.loop-place.invariant.kept
