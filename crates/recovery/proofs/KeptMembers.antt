@@ -252,6 +252,15 @@ module _ {D : Type 0} {disk : Ghosts D} (store : Store D disk) where
     all = λ job given kept. absurd (omega (arith, given.1));
   }
 
+  -- no members put nothing
+  pub nothing_put : (composed : List Job) → AreKept composed [] store → ArePut composed store store
+  nothing_put composed are = record {
+    put = [];
+    are = record { among = All-nil (λ job. Contains composed job × Contains (kept_jobs store) job); each = are.all; once = tt };
+    dropped = sym (none_dropped (kept_jobs store));
+    now = λ is_open. record { goes_on = is_open; same_table = refl; cells = refl };
+  }
+
   made_wider : (given wider : List Job) → ((job : Job) → Contains given job → Contains wider job) → (m : Member) → IsMadeOfKept given store m → IsMadeOfKept wider store m
   made_wider given wider into m made = record { job = made.job; among = into made.job made.among; kept = made.kept; of = made.of; spells = made.spells }
 
