@@ -53,7 +53,7 @@ same_filter f g (job ∷ jobs) same = ap (λ (b : Bool). cond b (job ∷ filter 
 
 module _ {D : Type 0} {disk : Ghosts D} (store : Store D disk) (composed : List Job) where
   -- the jobs that members come of
-  pub jobs_put : (ms : List Member) → Each ms (IsMadeOfKept composed store) → List Job
+  abbrev pub jobs_put : (ms : List Member) → Each ms (IsMadeOfKept composed store) → List Job
   jobs_put [] made = []
   jobs_put (m ∷ ms) made = (each_first m ms (IsMadeOfKept composed store) made).job ∷ jobs_put ms (each_behind m ms (IsMadeOfKept composed store) made)
 
@@ -306,7 +306,7 @@ module _ {D : Type 0} {disk : Ghosts D} (store : Store D disk) where
 
   pub few_next : (job : Job) (ms now : List Member) (k : ℕ) → length ms ≤ k → IsAdded job ms now → length now ≤ k + 1
   few_next job ms now k few (inl (same, passed)) = omega (arith, few, ap (λ (l : List Member). length l) same)
-  few_next job ms now k few (inr (m, more, others)) = omega (arith, few, ap (λ (l : List Member). length l) more, length-append ms (m ∷ []))
+  few_next job ms now k few (inr (m, more, away, of, made)) = omega (arith, few, ap (λ (l : List Member). length l) more, length-append ms (m ∷ []))
 
 pub some_length : (n : ℕ) → (n ≡ 0) ⊎ (1 ≤ n)
 some_length zero = inl refl

@@ -50,5 +50,5 @@ returns-clause-made g c =
       of = is;
       spells = kept_spells store (job ∷ []) job c.requires.kept document is one read cell
           (record { document = document; revision = c.revision.result; bytes = c.in-Ok-spelled.bytes }) refl
-          (c.revision.ensures ∙ ap (λ (m : Cell). m.revision) milestone) (c.in-Ok-spelled.ensures.bytes ∙ ap (framed_body one) milestone);
+          (c.revision.ensures.revision ∙ ap (λ (m : Cell). m.revision) milestone) (c.in-Ok-spelled.ensures.bytes ∙ ap (framed_body one) milestone);
     }
