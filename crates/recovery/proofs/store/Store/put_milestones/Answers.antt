@@ -1,7 +1,6 @@
-use Rattle.std.proofs.Common.{◌≡◌, ◌≢◌, ◌⊎◌, inl, inr, ◌≤◌, ◌+◌, ◌*◌, false, List, ℕ, length, take, refl, sym, ◌∙◌, ap, subst, arith, rules}
-use Rattle.std.specs.Prelude.{Ok, Err}
+use Rattle.std.proofs.Common.{◌≡◌, inr, ◌≤◌, false, List, length, take, refl, sym, ◌∙◌, ap, subst, arith, rules}
+use Rattle.std.specs.Prelude.{Err}
 use Rattle.std.proofs.lemmas.List.{length-take-le}
-use Rattle.refusal.specs.declared.Refusal.TheVariants.{Fault}
 use Rattle.milestone.specs.Job.{Job}
 use Rattle.recovery.specs.declared.group.Member.{Member}
 use Rattle.recovery.specs.Open.{has_failed}
@@ -9,7 +8,7 @@ use Rattle.recovery.specs.steps.Group.{AreKept}
 use Rattle.recovery.proofs.Faults.{faults_none, faults_ok}
 use Rattle.recovery.proofs.Gathered.{told_fault}
 use Rattle.recovery.proofs.Going.{goes_nowhere}
-use Rattle.recovery.proofs.KeptMembers.{costs_together_none, costs_longer}
+use Rattle.recovery.proofs.KeptMembers.{none_kept, costs_together_none, costs_longer}
 use Rattle.recovery.proofs.store.Store.put_milestones.Goals as goal
 
 -- the store had failed
@@ -48,6 +47,11 @@ pub returns-in-Ok-put_once-clause-put : goal.returns-in-Ok-put_once-clause-put
 returns-in-Ok-put_once-clause-put g c =
     let first : List Job = take c.in-Ok.group.end c.args.composed.now in
     c.in-Ok-put_once.ensures.put first (subst (λ (l : List Member). AreKept first l c.args.self.now) (sym c.deref.ensures.value) c.in-Ok.ensures.kept)
+
+pub returns-in-Ok-put_once-clause-passed : goal.returns-in-Ok-put_once-clause-passed
+returns-in-Ok-put_once-clause-passed g c none =
+    let first : List Job = take c.in-Ok.group.end c.args.composed.now in
+    c.put_once.ensures.none (c.deref.ensures.value ∙ none_kept c.args.self.now first c.in-Ok.group.members.items c.in-Ok.ensures.kept none)
 
 pub returns-in-Ok-put_once-clause-faults : goal.returns-in-Ok-put_once-clause-faults
 returns-in-Ok-put_once-clause-faults g c = faults_ok tt c.in-Ok.group.end c.in-Ok-put_once.ensures.faults

@@ -1,5 +1,4 @@
-use Rattle.std.proofs.Common.{◌≡◌, ◌<◌, ◌^◌, [], ◌∷◌, List, ℕ, get_or, refl, sym, ◌∙◌, ap, subst, arith, rules}
-use Rattle.std.specs.Prelude.{Contains}
+use Rattle.std.proofs.Common.{◌≡◌, ◌<◌, ◌^◌, [], ◌∷◌, ℕ, refl, sym, ◌∙◌, ap, subst, arith}
 use Rattle.history.specs.Cell.{Cell}
 use Rattle.revision.specs.Sources.{count_of}
 use Rattle.milestone.specs.CellSpelling.{IsCell}
