@@ -6,7 +6,6 @@ use Rattle.std.proofs.lemmas.Bool.Decides.{nat_tests}
 use Rattle.std.proofs.lemmas.List.{length-append}
 use Rattle.std.proofs.lemmas.List.Elements.{All-nil, All-cons, All-head, All-tail, All-contains, Contains-append_left, Contains-append_right, Contains-push_cases}
 use Rattle.disk.specs.declared.device.Disk.{Ghosts}
-use Rattle.disk.specs.Counted.{Costs}
 use Rattle.journal.specs.Area.{frame}
 use Rattle.history.specs.Cell.{Cell, Pair, cells_at, freed}
 use Rattle.history.specs.Running.{IsCellAt}
@@ -20,7 +19,7 @@ use Rattle.recovery.specs.declared.store.Store.{Store}
 use Rattle.recovery.specs.Found.{limits_of}
 use Rattle.recovery.specs.Jobs.{highest, CanBePut, CanAllBePut, KeepsLimits}
 use Rattle.recovery.specs.Open.{IsOpen, device_of, known_cells, kept_jobs}
-use Rattle.recovery.specs.PutJobs.{has_job, without_jobs, with_all_put, AreOfOneEach, ArePut, ArePutOf, CostsTogether, HaveRoom}
+use Rattle.recovery.specs.PutJobs.{has_job, without_jobs, with_all_put, AreOfOneEach, AreNotKept, ArePut, ArePutOf, CostsTogether, HaveRoom}
 use Rattle.recovery.specs.steps.Group.{is_in, put_in, outside_jobs, StandTogether, Each, AreDistinct, Spells, AreSpelled, HaveClosed, HasPlaces, IsMadeOfKept, AreKept}
 use Rattle.recovery.proofs.Covering.{low_or_above}
 use Rattle.recovery.proofs.DroppedJobs.{none_dropped}
@@ -53,7 +52,7 @@ same_filter f g (job ∷ jobs) same = ap (λ (b : Bool). cond b (job ∷ filter 
 
 module _ {D : Type 0} {disk : Ghosts D} (store : Store D disk) (composed : List Job) where
   -- the jobs that members come of
-  pub jobs_put : (ms : List Member) → Each ms (IsMadeOfKept composed store) → List Job
+  abbrev pub jobs_put : (ms : List Member) → Each ms (IsMadeOfKept composed store) → List Job
   jobs_put [] made = []
   jobs_put (m ∷ ms) made = (each_first m ms (IsMadeOfKept composed store) made).job ∷ jobs_put ms (each_behind m ms (IsMadeOfKept composed store) made)
 
@@ -252,6 +251,20 @@ module _ {D : Type 0} {disk : Ghosts D} (store : Store D disk) where
     all = λ job given kept. absurd (omega (arith, given.1));
   }
 
+  -- no members put nothing
+  pub nothing_put : (composed : List Job) → AreKept composed [] store → ArePut composed store store
+  nothing_put composed are = record {
+    put = [];
+    are = record { among = All-nil (λ job. Contains composed job × Contains (kept_jobs store) job); each = are.all; once = tt };
+    dropped = sym (none_dropped (kept_jobs store));
+    now = λ is_open. record { goes_on = is_open; same_table = refl; cells = refl };
+  }
+
+  -- and there is none where no job is kept
+  pub none_kept : (composed : List Job) (ms : List Member) → AreKept composed ms store → AreNotKept composed store → ms ≡ []
+  none_kept composed [] are none = refl
+  none_kept composed (m ∷ ms) are none = let made = are.made 0 m (omega arith) refl in absurd (none made.job made.among made.kept)
+
   made_wider : (given wider : List Job) → ((job : Job) → Contains given job → Contains wider job) → (m : Member) → IsMadeOfKept given store m → IsMadeOfKept wider store m
   made_wider given wider into m made = record { job = made.job; among = into made.job made.among; kept = made.kept; of = made.of; spells = made.spells }
 
@@ -297,7 +310,7 @@ module _ {D : Type 0} {disk : Ghosts D} (store : Store D disk) where
 
   pub few_next : (job : Job) (ms now : List Member) (k : ℕ) → length ms ≤ k → IsAdded job ms now → length now ≤ k + 1
   few_next job ms now k few (inl (same, passed)) = omega (arith, few, ap (λ (l : List Member). length l) same)
-  few_next job ms now k few (inr (m, more, others)) = omega (arith, few, ap (λ (l : List Member). length l) more, length-append ms (m ∷ []))
+  few_next job ms now k few (inr (m, more, away, of, made)) = omega (arith, few, ap (λ (l : List Member). length l) more, length-append ms (m ∷ []))
 
 pub some_length : (n : ℕ) → (n ≡ 0) ⊎ (1 ≤ n)
 some_length zero = inl refl

@@ -1,6 +1,6 @@
 -- Cells that are put once, of many documents at once: what a crash leaves, and what stands then.
-use Rattle.std.proofs.Common.{◌≡◌, ◌≢◌, ◌⊎◌, inl, inr, ℕ, zero, suc, ◌+◌, ◌≤◌, ◌<◌, true, false, Bool, Some, List, [], ◌∷◌, length, refl, sym, ◌∙◌, ap, subst, arith}
-use Rattle.std.specs.Prelude.{◌==◌, ◌||◌, cond, slice_get}
+use Rattle.std.proofs.Common.{◌≡◌, inl, inr, ℕ, ◌≤◌, ◌<◌, true, false, Bool, None, List, [], ◌∷◌, length, refl, sym, ◌∙◌, ap, subst, arith}
+use Rattle.std.specs.Prelude.{◌==◌, ◌||◌, cond}
 use Rattle.std.proofs.lemmas.Bool.{cases_eq, eq-eqb}
 use Rattle.std.proofs.lemmas.Bool.Decides.{nat_tests}
 use Rattle.std.proofs.lemmas.Option.{slice_get_within}
@@ -14,7 +14,6 @@ use Rattle.milestone.specs.Cells.{Fits, with_cell}
 use Rattle.milestone.specs.Job.{Job, cell_of_job}
 use Rattle.milestone.specs.OneCell.{HoldsPair}
 use Rattle.recovery.specs.declared.group.Member.{Member}
-use Rattle.recovery.specs.declared.shape.Shape.{Shape}
 use Rattle.recovery.specs.declared.store.Store.{Store}
 use Rattle.recovery.specs.Shape.{cells_place}
 use Rattle.recovery.specs.Cells.{AreCellsOf}
@@ -46,27 +45,26 @@ Put jobs cells n = cond (has_job n jobs) (with_cell (cell_among jobs n) (freed (
 
 pub all_put_at : (jobs : List Job) (cells : List Pair) (n : ℕ) → AreOfOneEach jobs → n < length cells → cells_at (with_all_put jobs cells) n ≡ Put jobs cells n
 all_put_at [] cells n once inside = refl
-all_put_at (job ∷ jobs) cells n once inside = elim (cases_eq job.document n) [
-  | inl same ↦
-      let test : (job.document == n) ≡ true = eq-eqb job.document n same in
-      let none : has_job n jobs ≡ false = sym (ap (λ k. has_job k jobs) same) ∙ once.0 in
-      let here : cells_at (with_put job cells) n ≡ with_cell (cell_of_job job) (freed (cells_at cells n)) =
-      subst (λ k. cells_at (with_put job cells) k ≡ with_cell (cell_of_job job) (freed (cells_at cells k))) same
-      (pair_own job.document (with_cell (cell_of_job job) (freed (cells_at cells job.document))) cells (omega (arith, same, inside))) in
-      others
-      ∙ (ap (λ (b : Bool). cond b (with_cell (cell_among jobs n) (freed (cells_at (with_put job cells) n))) (cells_at (with_put job cells) n)) none
-      ∙ (here ∙ sym (ap (λ (b : Bool). cond (b || has_job n jobs) (with_cell (cond b (cell_of_job job) (cell_among jobs n)) (freed (cells_at cells n))) (cells_at cells n)) test)))
-  | inr apart ↦
-      let test : (job.document == n) ≡ false = grind (arith, nat_tests) in
-      let still : cells_at (with_put job cells) n ≡ cells_at cells n =
-      pair_other job.document (with_cell (cell_of_job job) (freed (cells_at cells job.document))) cells n apart in
-      others
-      ∙ (ap (λ (p : Pair). cond (has_job n jobs) (with_cell (cell_among jobs n) (freed p)) p) still
-      ∙ sym (ap (λ (b : Bool). cond (b || has_job n jobs) (with_cell (cond b (cell_of_job job) (cell_among jobs n)) (freed (cells_at cells n))) (cells_at cells n)) test))
-]
-  where
-    others : cells_at (with_all_put jobs (with_put job cells)) n ≡ Put jobs (with_put job cells) n
-    others = all_put_at jobs (with_put job cells) n once.1 (omega (arith, inside, length_put job cells))
+all_put_at (job ∷ jobs) cells n once inside =
+    let others : cells_at (with_all_put jobs (with_put job cells)) n ≡ Put jobs (with_put job cells) n = all_put_at jobs (with_put job cells) n once.1 (omega (arith, inside, length_put job cells)) in
+    elim (cases_eq job.document n) [
+      | inl same ↦
+          let test : (job.document == n) ≡ true = eq-eqb job.document n same in
+          let none : has_job n jobs ≡ false = sym (ap (λ k. has_job k jobs) same) ∙ once.0 in
+          let here : cells_at (with_put job cells) n ≡ with_cell (cell_of_job job) (freed (cells_at cells n)) =
+          subst (λ k. cells_at (with_put job cells) k ≡ with_cell (cell_of_job job) (freed (cells_at cells k))) same
+          (pair_own job.document (with_cell (cell_of_job job) (freed (cells_at cells job.document))) cells (omega (arith, same, inside))) in
+          others
+          ∙ (ap (λ (b : Bool). cond b (with_cell (cell_among jobs n) (freed (cells_at (with_put job cells) n))) (cells_at (with_put job cells) n)) none
+          ∙ (here ∙ sym (ap (λ (b : Bool). cond (b || has_job n jobs) (with_cell (cond b (cell_of_job job) (cell_among jobs n)) (freed (cells_at cells n))) (cells_at cells n)) test)))
+      | inr apart ↦
+          let test : (job.document == n) ≡ false = grind (arith, nat_tests) in
+          let still : cells_at (with_put job cells) n ≡ cells_at cells n =
+          pair_other job.document (with_cell (cell_of_job job) (freed (cells_at cells job.document))) cells n apart in
+          others
+          ∙ (ap (λ (p : Pair). cond (has_job n jobs) (with_cell (cell_among jobs n) (freed p)) p) still
+          ∙ sym (ap (λ (b : Bool). cond (b || has_job n jobs) (with_cell (cond b (cell_of_job job) (cell_among jobs n)) (freed (cells_at cells n))) (cells_at cells n)) test))
+    ]
 
 module _ {D : Type 0} {disk : Ghosts D} (store : Store D disk) (is_open : IsOpen store) (ms : List Member) (put : ℕ → Cell)
     (are_cells : (n : ℕ) → is_in ms n ≡ true → IsCellAt is_open.order n (put n))

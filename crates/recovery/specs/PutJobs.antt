@@ -1,12 +1,11 @@
 -- What is put where the milestones of many composed jobs are put as one step.
-use Rattle.std.specs.Prelude.{◌≡◌, ◌≢◌, ℕ, ◌+◌, ◌*◌, ◌≤◌, ◌==◌, ◌||◌, not, Bool, true, false, Option, Some, List, [], ◌∷◌, length, filter, slice_get, All, Contains}
+use Rattle.std.specs.Prelude.{◌≡◌, ℕ, ◌+◌, ◌*◌, ◌==◌, ◌||◌, not, Bool, true, false, Some, List, [], ◌∷◌, length, filter, slice_get, All, Contains}
 use Rattle.disk.specs.declared.device.Disk.{Ghosts}
 use Rattle.disk.specs.Counted.{Costs}
 use Rattle.history.specs.Cell.{Pair, cells_at, freed, with_pair}
 use Rattle.milestone.specs.declared.cells.Cells.{Cells}
 use Rattle.milestone.specs.Cells.{HasClosed, revisions_of, with_cell}
 use Rattle.milestone.specs.Job.{Job, cell_of_job}
-use Rattle.segments.specs.Slot.{Segment}
 use Rattle.recovery.specs.declared.store.Store.{Store}
 use Rattle.recovery.specs.Open.{IsOpen, device_of, known_cells, kept_jobs}
 
@@ -52,6 +51,10 @@ module _ {D : Type 0} {disk : Ghosts D} where
     pub are : ArePutOf composed (kept_jobs old) put
     pub dropped : kept_jobs new ≡ without_jobs put (kept_jobs old)
     pub now : (is_open : IsOpen old) → ArePutNow put old is_open new
+
+  -- none of these jobs is kept
+  abbrev pub AreNotKept : List Job → Store D disk → Type 0
+  AreNotKept jobs store = (job : Job) → Contains jobs job → ¬ Contains (kept_jobs store) job
 
   -- the document of each of these jobs has a cell that is known to be closed
   abbrev pub HaveRoom : List Job → Store D disk → Type 0

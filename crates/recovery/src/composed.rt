@@ -6,7 +6,7 @@ ghost use Rattle.recovery.specs.Faults.{FailsAtFaults};
 ghost use Rattle.recovery.specs.Found.{FoundAs};
 ghost use Rattle.recovery.specs.Goes.{Goes};
 ghost use Rattle.recovery.specs.Open.{IsUnchanged, state_of, has_failed, kept_jobs};
-ghost use Rattle.recovery.specs.PutJobs.{ArePut, CostsTogether};
+ghost use Rattle.recovery.specs.PutJobs.{AreNotKept, ArePut, CostsTogether};
 ghost use Rattle.recovery.specs.steps.Freeing.{KeepsSegments};
 ghost use Rattle.recovery.specs.steps.Group.{is_in, IsMadeOfKept, AreKept};
 
@@ -21,8 +21,9 @@ use std::alloc::Global;
 impl<D: Disk> Store<D> {
     /// Puts the milestones of composed jobs as one step: of each job that is still the one that the store keeps of its document, as
     /// `put_milestone` puts one, and passes the others. It takes the first ones, as many as there is memory for and as four megabytes hold, and
-    /// returns how many it took; at least one, where there is one. All memory is taken before the first call of the device: `NoMemory` comes
-    /// where there was none for the first of them, and leaves all unchanged. After a `Fault` the store has failed. The documents stay.
+    /// returns how many it took; at least one, where there is one. Where it passes all of these, it makes no call of the device, and all is
+    /// unchanged. All memory is taken before the first call of the device: `NoMemory` comes where there was none for the first of them, and
+    /// leaves all unchanged. After a `Fault` the store has failed. The documents stay.
     pub fn put_milestones(&mut self, alloc: Global, composed: &[Composed]) -> Result<usize, Refusal>
         // When each refusal comes.
         ensures faults { FailsAtFaults result self.old self.new }
@@ -31,6 +32,8 @@ impl<D: Disk> Store<D> {
         // What each answer leaves, and what it costs.
         ensures count { IfOk result (λ count. (count ≤ length composed.now) × (composed.now ≢ [] → 1 ≤ count)) }
         ensures put { IfOk result (λ count. ArePut (take count composed.now) self.old self.new) }
+        ensures passed { IfOk result (λ count. AreNotKept (take count composed.now) self.old
+            → IsUnchanged self.old self.new) }
         ensures untouched { IsErrOf result Refusal.NoMemory → IsUnchanged self.old self.new }
         ensures jobs { OnErr result (kept_jobs self.new ≡ kept_jobs self.old) }
         ensures keeps { KeepsSegments self.old self.new }
@@ -153,6 +156,7 @@ impl<D: Disk> Store<D> {
         requires kept { (composed : List JobValue) × AreKept composed members.now self.old }
 
         ensures only { IfErr result (λ e. e ≡ Refusal.Fault) }
+        ensures none { members.now ≡ [] → IsUnchanged self.old self.new }
         ensures put { OnOk result ((composed : List JobValue) → AreKept composed members.now self.old
             → ArePut composed self.old self.new) }
         ensures jobs { OnErr result (kept_jobs self.new ≡ kept_jobs self.old) }

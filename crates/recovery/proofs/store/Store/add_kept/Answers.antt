@@ -1,7 +1,5 @@
-use Rattle.std.proofs.Common.{◌≡◌, ◌⊎◌, inl, inr, true, false, List, [], ◌∷◌, ◌++◌, refl, sym, ◌∙◌, ap, rules}
+use Rattle.std.proofs.Common.{◌≡◌, inl, inr, true, false, [], ◌∷◌, ◌++◌, refl, ◌∙◌, ap, rules}
 use Rattle.std.specs.Prelude.{Contains}
-use Rattle.milestone.specs.Job.{Job}
-use Rattle.recovery.specs.declared.group.Member.{Member}
 use Rattle.recovery.specs.Open.{kept_jobs}
 use Rattle.recovery.specs.steps.Group.{is_in}
 use Rattle.recovery.proofs.store.Store.add_kept.Goals as goal

@@ -1,15 +1,14 @@
-use Rattle.std.proofs.Common.{◌≡◌, ◌≢◌, ◌⊎◌, inl, inr, ◌≤◌, ◌+◌, ◌*◌, List, ℕ, length, take, refl, sym, ◌∙◌, ap, subst, arith, rules}
-use Rattle.std.specs.Prelude.{Ok, Err}
+use Rattle.std.proofs.Common.{◌≡◌, inr, ◌≤◌, false, List, length, take, refl, sym, ◌∙◌, ap, subst, arith, rules}
+use Rattle.std.specs.Prelude.{Err}
 use Rattle.std.proofs.lemmas.List.{length-take-le}
-use Rattle.refusal.specs.declared.Refusal.TheVariants.{Fault}
 use Rattle.milestone.specs.Job.{Job}
 use Rattle.recovery.specs.declared.group.Member.{Member}
 use Rattle.recovery.specs.Open.{has_failed}
 use Rattle.recovery.specs.steps.Group.{AreKept}
-use Rattle.recovery.proofs.Faults.{faults_none, faults_ok, faults_told}
+use Rattle.recovery.proofs.Faults.{faults_none, faults_ok}
 use Rattle.recovery.proofs.Gathered.{told_fault}
 use Rattle.recovery.proofs.Going.{goes_nowhere}
-use Rattle.recovery.proofs.KeptMembers.{costs_together_none, costs_longer}
+use Rattle.recovery.proofs.KeptMembers.{none_kept, costs_together_none, costs_longer}
 use Rattle.recovery.proofs.store.Store.put_milestones.Goals as goal
 
 -- the store had failed
@@ -49,6 +48,11 @@ returns-in-Ok-put_once-clause-put g c =
     let first : List Job = take c.in-Ok.group.end c.args.composed.now in
     c.in-Ok-put_once.ensures.put first (subst (λ (l : List Member). AreKept first l c.args.self.now) (sym c.deref.ensures.value) c.in-Ok.ensures.kept)
 
+pub returns-in-Ok-put_once-clause-passed : goal.returns-in-Ok-put_once-clause-passed
+returns-in-Ok-put_once-clause-passed g c none =
+    let first : List Job = take c.in-Ok.group.end c.args.composed.now in
+    c.put_once.ensures.none (c.deref.ensures.value ∙ none_kept c.args.self.now first c.in-Ok.group.members.items c.in-Ok.ensures.kept none)
+
 pub returns-in-Ok-put_once-clause-faults : goal.returns-in-Ok-put_once-clause-faults
 returns-in-Ok-put_once-clause-faults g c = faults_ok tt c.in-Ok.group.end c.in-Ok-put_once.ensures.faults
 
@@ -61,14 +65,11 @@ returns-in-Ok-put_once-clause-costs g c =
     omega (arith, c.in-Ok.ensures.few, length-take-le count composed c.in-Ok.ensures.count.0, ap (λ (l : List Member). length l) c.deref.ensures.value) in
     costs_longer c.args.self.now c.put_once.new.self composed count (c.put_once.ensures.costs (take count composed) kept few)
 
-pub returns-in-Err-put_once-clause-costs : goal.returns-in-Err-put_once-clause-costs
-returns-in-Err-put_once-clause-costs g c =
+pub returns-clause-costs : goal.returns-clause-costs
+returns-clause-costs g c =
     let composed : List Job = c.args.composed.now in
     let count = c.in-Ok.group.end in
     let kept = subst (λ (l : List Member). AreKept (take count composed) l c.args.self.now) (sym c.deref.ensures.value) c.in-Ok.ensures.kept in
     let few : length c.deref.result.now ≤ length (take count composed) =
     omega (arith, c.in-Ok.ensures.few, length-take-le count composed c.in-Ok.ensures.count.0, ap (λ (l : List Member). length l) c.deref.ensures.value) in
     costs_longer c.args.self.now c.put_once.new.self composed count (c.put_once.ensures.costs (take count composed) kept few)
-
-pub returns-in-Err-put_once-clause-faults : goal.returns-in-Err-put_once-clause-faults
-returns-in-Err-put_once-clause-faults g c = faults_told c.in-Err-put_once.refusal c.in-Err-put_once.ensures.faults

@@ -1,10 +1,8 @@
-use Rattle.std.proofs.Common.{◌≡◌, ◌⊎◌, inl, inr, ℕ, ◌≤◌, ◌<◌, ◌+◌, ◌*◌, true, false, Bool, List, [], length, not, refl, sym, ◌∙◌, ap, subst, arith, rules}
-use Rattle.std.specs.Prelude.{Ok, Err}
+use Rattle.std.proofs.Common.{◌≡◌, ◌≤◌, ℕ, ◌+◌, ◌*◌, true, false, List, length, not, refl, sym, ◌∙◌, ap, subst, arith, rules}
 use Rattle.std.proofs.lemmas.Bool.{false≢true}
 use Rattle.std.proofs.lemmas.List.{with_items_is}
-use Rattle.refusal.specs.declared.Refusal.TheVariants.{Fault}
 use Rattle.revision.specs.State.{State}
-use Rattle.history.specs.Cell.{Pair, cells_at}
+use Rattle.history.specs.Cell.{cells_at}
 use Rattle.history.specs.Running.{Runs}
 use Rattle.milestone.specs.declared.cells.Cells.{Cells}
 use Rattle.milestone.specs.Job.{Job}
@@ -13,9 +11,9 @@ use Rattle.recovery.specs.declared.group.Member.{Member}
 use Rattle.segments.specs.Ring.{size_of}
 use Rattle.recovery.specs.Found.{commands_of, limits_of}
 use Rattle.recovery.specs.Jobs.{AllKeep, KeepsLimits, CanAllBePut}
-use Rattle.recovery.specs.Open.{IsOpen, kept_jobs}
+use Rattle.recovery.specs.Open.{kept_jobs}
 use Rattle.recovery.specs.PutJobs.{with_all_put}
-use Rattle.recovery.specs.steps.Group.{is_in, put_in, HasPlaces, HaveClosed, StandTogether, AreKept}
+use Rattle.recovery.specs.steps.Group.{is_in, HasPlaces, HaveClosed, StandTogether, AreKept}
 use Rattle.recovery.proofs.Going.{goes_nowhere}
 use Rattle.recovery.proofs.KeptJobs.{all_passing}
 use Rattle.recovery.proofs.KeptMembers.{jobs_put, spelled_among, put_of, dropped_jobs, kept_places, kept_cells, kept_below, kept_others, room_closed, kept_pairs, kept_away, kept_stands, nothing_put}
@@ -47,6 +45,17 @@ returns-then-is_empty-clause-costs g c composed are few = record {
 
 pub returns-then-is_empty-clause-goes : goal.returns-then-is_empty-clause-goes
 returns-then-is_empty-clause-goes g c = goes_nowhere c.args.self.now
+
+-- there are some
+pub returns-in-Ok-clause-none : goal.returns-in-Ok-clause-none
+returns-in-Ok-clause-none g c empty =
+    let some : 1 ≤ length c.args.members.now = search rules in
+    absurd (omega (arith, some, ap (λ (l : List Member). length l) empty))
+
+pub returns-in-Err-clause-none : goal.returns-in-Err-clause-none
+returns-in-Err-clause-none g c empty =
+    let some : 1 ≤ length c.args.members.now = search rules in
+    absurd (omega (arith, some, ap (λ (l : List Member). length l) empty))
 
 -- what the store keeps
 pub invariant_of-self : goal.invariant_of-self

@@ -1,5 +1,4 @@
-use Rattle.std.proofs.Common.{◌≡◌, ◌<◌, ◌^◌, [], ◌∷◌, List, ℕ, get_or, refl, sym, ◌∙◌, ap, subst, arith, rules}
-use Rattle.std.specs.Prelude.{Contains}
+use Rattle.std.proofs.Common.{◌≡◌, ◌<◌, ◌^◌, [], ◌∷◌, ℕ, refl, sym, ◌∙◌, ap, subst, arith}
 use Rattle.history.specs.Cell.{Cell}
 use Rattle.revision.specs.Sources.{count_of}
 use Rattle.milestone.specs.CellSpelling.{IsCell}
@@ -50,5 +49,5 @@ returns-clause-made g c =
       of = is;
       spells = kept_spells store (job ∷ []) job c.requires.kept document is one read cell
           (record { document = document; revision = c.revision.result; bytes = c.in-Ok-spelled.bytes }) refl
-          (c.revision.ensures ∙ ap (λ (m : Cell). m.revision) milestone) (c.in-Ok-spelled.ensures.bytes ∙ ap (framed_body one) milestone);
+          (c.revision.ensures.revision ∙ ap (λ (m : Cell). m.revision) milestone) (c.in-Ok-spelled.ensures.bytes ∙ ap (framed_body one) milestone);
     }

@@ -1,5 +1,5 @@
-use Rattle.std.proofs.Common.{◌≡◌, ◌≢◌, ◌⊎◌, inl, inr, ◌≤◌, ◌<◌, ◌+◌, List, ℕ, [], ◌∷◌, ◌++◌, length, take, get_or, refl, sym, ◌∙◌, ap, subst, arith}
-use Rattle.std.proofs.lemmas.List.{take_more, take_all, length-append}
+use Rattle.std.proofs.Common.{◌≡◌, inl, inr, ◌+◌, List, [], ◌∷◌, ◌++◌, length, take, refl, sym, ◌∙◌, ap, subst, arith}
+use Rattle.std.proofs.lemmas.List.{take_more, take_all}
 use Rattle.milestone.specs.Job.{Job}
 use Rattle.recovery.specs.declared.group.Member.{Member}
 use Rattle.recovery.specs.steps.Group.{AreKept}
@@ -46,8 +46,9 @@ loop-place-preserved g c =
     let store = c.args.self.now in
     let composed : List Job = c.args.composed.now in
     let k = c.loop-place.place in
-    let job : Job = get_or composed k c.index-composed-place.result in
-    let all : take (k + 1) composed ≡ take k composed ++ job ∷ [] = take_more composed k c.index-composed-place.result c.loop-place-test.true in
+    let job : Job = c.index-composed-place.result in
+    let all : take (k + 1) composed ≡ take k composed ++ job ∷ [] =
+    take_more composed k job c.loop-place-test.true ∙ ap (λ (j : Job). take k composed ++ j ∷ []) (sym c.index-composed-place.is) in
     let before : List Member = c.loop-place.members.items in
     record {
       kept = subst (λ (l : List Job). AreKept l c.add_kept.new.members.items store) (sym all)
