@@ -11,7 +11,6 @@ use lives::drive;
 use milestone::compose_job;
 use published::{Opened, Site};
 use recovery::Store;
-use refusal::Refusal;
 use revision::Reply::Taken;
 use std::marker::Brand;
 use std::process::Abort;
@@ -29,11 +28,10 @@ fn is_put<D: Disk, J: Site>(rt: &(impl Abort + AllocGlobal), flusher: &mut Flush
     let job = flusher.milestone_job(alloc, 0, 1).expect(rt, "a job");
     match compose_job(alloc, job) {
         Ok(composed) => {
-            assert_eq!(rt; flusher.put_milestone(alloc, &composed), Ok(()));
-            assert_eq!(rt;
-                flusher.put_milestone(alloc, &composed),
-                Err(Refusal::Stranger)
-            );
+            let put = vec![in alloc; composed].expect(rt, "memory");
+            for _ in 0..2 {
+                assert_eq!(rt; flusher.put_milestones(alloc, &put), Ok(1));
+            }
         }
         Err(back) => panic!(rt; "{}", back.refusal),
     }
