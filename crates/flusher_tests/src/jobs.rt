@@ -63,11 +63,12 @@ fn put_after_the_create<J: Site, R: Wait + Abort + AllocGlobal>(
     flusher.end(rt).close()
 }
 
-// The document's first cell is open then.
+// The document's first cell is open then, and its second one isn't.
 #[test]
 fn what_comes_of_a_job_is_put_once(rt: HostRuntime) {
     let store = new_store(rt.alloc(), SHAPE).expect(&rt, "a store");
     let opened = Opened::new().expect(&rt, "logs");
     let disk = put_after_the_create::<Brand, _>(&rt, store, opened, Blank::new(2));
     assert!(rt; disk.bytes().get(64).copied() == Some(0xa5));
+    assert!(rt; disk.bytes().get(320).copied() != Some(0xa5));
 }
