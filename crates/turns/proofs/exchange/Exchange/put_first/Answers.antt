@@ -1,7 +1,4 @@
-use Rattle.std.proofs.Common.{◌≡◌, ◌≢◌, ◌⊎◌, ⊎_elim, inl, inr, ℕ, ◌≤◌, List, [], length, take, drop, refl, sym, ◌∙◌, ap, subst}
-use Rattle.std.specs.Prelude.{Err}
-use Rattle.refusal.specs.declared.Refusal.{Refusal}
-use Rattle.refusal.specs.declared.Refusal.TheVariants.{NoMemory, Fault}
+use Rattle.std.proofs.Common.{◌≤◌, inl, List, length, drop, sym, ◌∙◌, ap, subst}
 use Rattle.milestone.specs.Job.{Job}
 use Rattle.flusher.specs.Holding.{store_of}
 use Rattle.turns.specs.Exchanging.{ArePutFirst}
@@ -20,7 +17,6 @@ drop_first-requires g c = subst (λ (l : List Job). c.in-Ok.count ≤ length l) 
 
 pub returns-in-Ok-clause-kept : goal.returns-in-Ok-clause-kept
 returns-in-Ok-clause-kept g c =
-    let given : List Job = c.deref-2.result.now in
     subst (λ (l : List Job). ArePutFirst l c.drop_first.new.unput.items (store_of c.args.flusher.now) (store_of c.put_milestones.new.self)) c.deref-2.ensures.value
     (inl (
       c.in-Ok.count,
