@@ -6,7 +6,7 @@
 //! under way, as `IsCalm` of specs/Standing.antt says. The crate `lives` says what runs of one thread over both keep.
 //!
 //! Where the journal is full, a write frees its oldest segment first, by milestones of that segment's documents; `commit_held` frees nothing.
-//! `job_due` tells to which revision a milestone of a document is due. `milestone_job` and `put_milestone` let another thread compose it, and
+//! `job_due` tells to which revision a milestone of a document is due. `milestone_job` and `put_milestones` let another thread compose it, and
 //! `give_up_job` drops a job that wasn't composed.
 #![tactic(auto)]
 

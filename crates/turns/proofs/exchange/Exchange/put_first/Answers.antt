@@ -1,7 +1,4 @@
-use Rattle.std.proofs.Common.{◌≡◌, ◌≢◌, ◌⊎◌, ⊎_elim, inl, inr, ℕ, ◌≤◌, List, [], length, take, drop, refl, sym, ◌∙◌, ap, subst}
-use Rattle.std.specs.Prelude.{Err}
-use Rattle.refusal.specs.declared.Refusal.{Refusal}
-use Rattle.refusal.specs.declared.Refusal.TheVariants.{NoMemory, Fault}
+use Rattle.std.proofs.Common.{◌≤◌, inl, List, length, drop, sym, ◌∙◌, ap, subst}
 use Rattle.milestone.specs.Job.{Job}
 use Rattle.flusher.specs.Holding.{store_of}
 use Rattle.turns.specs.Exchanging.{ArePutFirst}
@@ -16,22 +13,15 @@ returns-in-Ok-clause-upkeep g c =
 
 -- the first ones are put
 pub drop_first-requires : goal.drop_first-requires
-drop_first-requires g c = subst (λ (l : List Job). c.in-Ok.count ≤ length l) c.deref.ensures.value c.in-Ok.ensures.count.0
+drop_first-requires g c = subst (λ (l : List Job). c.in-Ok.count ≤ length l) c.deref-2.ensures.value c.in-Ok.ensures.count.0
 
 pub returns-in-Ok-clause-kept : goal.returns-in-Ok-clause-kept
 returns-in-Ok-clause-kept g c =
-    let given : List Job = c.deref.result.now in
-    subst (λ (l : List Job). ArePutFirst l c.drop_first.new.unput.items (store_of c.args.flusher.now) (store_of c.put_milestones.new.self)) c.deref.ensures.value
+    subst (λ (l : List Job). ArePutFirst l c.drop_first.new.unput.items (store_of c.args.flusher.now) (store_of c.put_milestones.new.self)) c.deref-2.ensures.value
     (inl (
       c.in-Ok.count,
       c.in-Ok.ensures.count.0,
       c.in-Ok.ensures.count.1,
-      c.drop_first.ensures.items ∙ ap (λ (l : List Job). drop c.in-Ok.count l) (sym c.deref.ensures.value),
+      c.drop_first.ensures.items ∙ ap (λ (l : List Job). drop c.in-Ok.count l) (sym c.deref-2.ensures.value),
       c.in-Ok.ensures.put,
     ))
-
--- there was no memory
-pub returns-in-Err-clause-kept : goal.returns-in-Err-clause-kept
-returns-in-Err-clause-kept g c =
-    let memory : c.in-Err.refusal ≡ NoMemory = ⊎_elim (λ is. is) (λ fault. absurd (c.if-refusal-Fault.false fault)) c.in-Err.ensures.only in
-    inr (refl, c.in-Err.ensures.untouched (ap (λ (r : Refusal). Err r) memory))
