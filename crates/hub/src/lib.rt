@@ -88,6 +88,7 @@
 
 mod ahead;
 mod board;
+mod found;
 mod hub;
 mod kept;
 mod not_submitted;
@@ -100,6 +101,7 @@ mod waiting;
 
 pub use ahead::Ahead;
 pub use board::Board;
+pub use found::Found;
 pub use hub::Hub;
 pub use kept::{Closer, Writer};
 pub use not_submitted::NotSubmitted;
