@@ -237,15 +237,14 @@ impl<D, J: Site, R: Wait> HubDesk<'_, D, J, R> {
     {
         let commands = commands_of(alloc, sent)?;
         self.move_on(alloc, &commands);
-        self.hub
-            .submit_all_after(
-                self.rt,
-                alloc,
-                &mut self.seat,
-                commands.as_slice(),
-                &self.shown,
-                &mut self.found,
-            )
+        self.hub.submit_all_after(
+            self.rt,
+            alloc,
+            &mut self.seat,
+            commands.as_slice(),
+            &self.shown,
+            &mut self.found,
+        )
     }
 
     // Waits until a ticket is settled, unless the viewer was told of that: for the last of the tickets that were submitted with it,
