@@ -12,9 +12,8 @@ use Rattle.hub.specs.Placed.{StandsFirst}
 use Rattle.session.specs.declared.reply.Reply.{Reply}
 use Rattle.session.specs.Alone.{answered}
 use Rattle.session.specs.Exchange.{Exchange, Answered, Shown}
-use Rattle.session.specs.Replies.{Asks}
 use Rattle.session.specs.Reply.{rev_of}
-use Rattle.hub_desk.specs.AtHub.{Desk, Finds, Submits, IsRefusedAt, PassesAtHub}
+use Rattle.hub_desk.specs.AtHub.{Desk, Finds, Submits, PassesAtHub}
 use Rattle.hub_desk.specs.Laws.{ToldKept, FoundKept, RefusedByBoard, AcknowledgedStand}
 use Rattle.hub_desk.specs.Standing.{StandsIn}
 use Rattle.hub_desk.proofs.Answering.{stands_more}

@@ -1,4 +1,4 @@
-use Rattle.std.proofs.Common.{◌≡◌, ◌<◌, ◌≤◌, ◌∙◌, List, length, take, sym, ap, subst, rules}
+use Rattle.std.proofs.Common.{◌<◌, ◌≤◌, ◌∙◌, length, ap, rules}
 use Rattle.session.specs.Ahead.{commands_of}
 use Rattle.hub_desk.specs.AtHub.{Desk}
 use Rattle.hub_desk.proofs.Tickets.{answered_more, answered_whole, commands_same}
