@@ -13,6 +13,7 @@ use Rattle.world.specs.contracts.board.Board as board
 use Rattle.published.specs.declared.site.Site as site
 use Rattle.published.proofs.Crossing.{delta_send, document_send, entry_send, ordered_send, state_send, told_send}
 use Rattle.hub.specs.contracts.ahead.Ahead as ahead
+use Rattle.hub.specs.contracts.found.Found as found
 use Rattle.hub.specs.contracts.hub.Hub as hub
 use Rattle.hub.specs.contracts.seat.Seat as seat
 use Rattle.hub.specs.contracts.kept.Closer as closer
@@ -27,6 +28,11 @@ pub ahead_send : (T : RattleType) (s : site.Ghosts T.Denot) (l : ledger.Ghosts T
 ahead_send T s l a =
     let order = ordered_send T s l a in
     search (moved_send, sendable, crosses) depth 60 fits 20000
+
+pub found_send : (T : RattleType) (s : site.Ghosts T.Denot) (l : ledger.Ghosts T.Denot) → IsSend T → IsSend (found.the_row T s l)
+found_send T s l a =
+    let order = ordered_send T s l a in
+    search (sendable, crosses) depth 60 fits 20000
 
 pub seat_send : (T : RattleType) (s : site.Ghosts T.Denot) (l : ledger.Ghosts T.Denot) → IsSend T → IsSend (seat.the_row T s l)
 seat_send T s l a =

@@ -1,3 +1,4 @@
+pub mod Found
 pub mod Given
 pub mod Legal
 pub mod Placed

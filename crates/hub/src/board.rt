@@ -8,11 +8,13 @@ ghost use Rattle.recovery.specs.Found.{commands_of};
 ghost use Rattle.recovery.specs.Open.{state_of};
 ghost use Rattle.world.specs.Board.{begun_board, submitted, ticket_of, next_run, taken_more, settled_more, can_ack};
 ghost use Rattle.world.specs.World.{Entry as Kept, entry_of, takens};
+ghost use Rattle.published.specs.Order.{IsLegal};
 ghost use Rattle.hub.specs.Legal.{IsHistory, IsOfRun, IsWithin, counted};
 ghost use Rattle.hub.specs.Placed.{IsPlaced, StandsFirst, WasSubmitted};
 ghost use Rattle.hub.specs.Runs.{AreMadeThere, IsLongest, untaken, MaySettle};
 
 use crate::ahead::moved_in;
+use crate::found::Found;
 use crate::run::{Run, copied, is_beginning, longest};
 use crate::seat::{PLACES, Seat, Tally, Ticket, count};
 use disk::Disk;
@@ -198,6 +200,7 @@ impl<D, J: Site> Board<D, J> {
         ensures ok { OnOk result (self.new
             ≡ record self.old { board = submitted (entry_of command.now) self.old.board command.now }) }
         ensures ticket { IfOk result (λ ticket. Some ticket ≡ ticket_of self.old.board command.now) }
+        ensures placed { IfOk result (λ ticket. IsPlaced J.start self.new.board.order ticket) }
         ensures command { IfOk result (λ ticket. ticket.command ≡ command.now) }
         ensures counts { IfOk result (λ ticket. seat.new ≡ counted seat.old ticket.reply) }
         ensures works { OnOk result (self.old.failed ≡ false) }
@@ -232,6 +235,26 @@ impl<D, J: Site> Board<D, J> {
             }
             Err(refusal) => Err(refusal),
         }
+    }
+
+    // Finds the whole order of it, which has first what was found before and what was told.
+    pub(crate) fn find(&mut self, told: &Told<D, J>, found: &mut Found<J>)
+        ensures same { self.new ≡ self.old }
+        ensures whole { found.new ≡ self.old.board.order }
+        ensures legal { IsLegal J.start found.new }
+        ensures found { IsPrefix found.old found.new }
+        ensures begins { IsPrefix (commands_of told.now) (takens found.new) }
+    {
+        found.find(&mut self.order, told);
+    }
+
+    // What was found begins its order, of which the token has no less then.
+    pub(crate) fn join(&mut self, found: &Found<J>, ordered: &mut Ordered<J>)
+        ensures same { self.new ≡ self.old }
+        ensures found { IsPrefix found.now ordered.new }
+        ensures before { IsPrefix ordered.old ordered.new }
+    {
+        found.join(&mut self.order, ordered);
     }
 
     /// Takes off the longest run of the next commands whose batch has at most `cap` bytes, and gives a copy of it, with the documents that

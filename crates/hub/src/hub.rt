@@ -41,13 +41,16 @@
 ghost use Rattle.std.specs.Prelude.{◌≡◌, ◌⊎◌, ◌≤◌, ◌<◌, [], length, map, IfOk, IfErr, IfSome, OnErr};
 ghost use Rattle.std.specs.Vec.{vec_len};
 ghost use Rattle.journal.specs.BatchSpelling.{batch_width};
+ghost use mathlib.Core.List.{IsPrefix};
 ghost use Rattle.recovery.specs.Found.{commands_of};
+ghost use Rattle.hub.specs.Found.{AreSubmittedAfter, IsSubmittedAfter};
 ghost use Rattle.hub.specs.Given.{WasGiven};
 ghost use Rattle.hub.specs.Legal.{counted, WasOrdered};
 ghost use Rattle.hub.specs.Placed.{StandsFirst};
-ghost use Rattle.hub.specs.Submitted.{AreOf, counted_all};
+ghost use Rattle.hub.specs.Submitted.{counted_all, counted_by};
 
 use crate::board::Board;
+use crate::found::Found;
 use crate::kept::{Closer, Kept, Writer};
 use crate::not_submitted::NotSubmitted;
 use crate::place::Place;
@@ -56,7 +59,7 @@ use crate::seat::{Seat, Ticket};
 use crate::tokens::{Ended, Failed, Idle, Settled, Stopped, Work};
 use crate::unsettled::Unsettled;
 use crate::waiting::Woken;
-use published::{Site, Told};
+use published::{Ordered, Site, Told};
 use recovery::Receipt;
 use refusal::Refusal;
 use revision::Command;
@@ -142,27 +145,58 @@ impl<D, J: Site> Hub<D, J> {
         answer
     }
 
-    /// Submits commands one after another, each as `submit` does, under one hold of the board's lock: the answers are in their order, and the
-    /// seat counts each by its answer. Refused with `NoMemory` where there is none for the list, which is made first, and then nothing is
-    /// submitted.
-    pub fn submit_all<R: Wait>(
+    /// Submits a command, as `submit` does, by one who was told of what is published and has found that much of the order, and finds more of
+    /// it: the order that was behind the command once it was answered. That order has all first that was told and found before. A ticket
+    /// is of just this order, and a refusal is what the rule of acceptance answers after it, or that memory is short where that answer
+    /// rests on what is made in memory. The seat counts the command exactly when it was taken.
+    pub fn submit_after<R: Wait>(
+        &self,
+        rt: &R,
+        alloc: Global,
+        seat: &mut Seat<J>,
+        command: &Command,
+        told: &Told<D, J>,
+        found: &mut Found<J>,
+    ) -> Result<Ticket<J>, NotSubmitted<J>>
+        ensures after { IsSubmittedAfter J.start told.now found.old command.now result found.new }
+        ensures counts { seat.new ≡ counted_by seat.old result }
+    {
+        let place = seat.place();
+        let mut kept = self.held(rt);
+        let was_idle = kept.board().is_idle();
+        let answer = kept.submit_after(alloc, seat, command, told, found);
+        let begins = was_idle && !kept.board().is_idle();
+        let settled = kept.told_of(&answer, None);
+        drop(kept);
+        self.submitted(rt, place, begins, settled);
+        answer
+    }
+
+    /// Submits commands one after another, each as `submit_after` does, under one hold of the board's lock: the answers are in their order,
+    /// and each one's order has first what the one before it found. Refused with `NoMemory` where there is none for the list, which is made
+    /// first, and then nothing is submitted or found.
+    pub fn submit_all_after<R: Wait>(
         &self,
         rt: &R,
         alloc: Global,
         seat: &mut Seat<J>,
         commands: &[&Command],
+        told: &Told<D, J>,
+        found: &mut Found<J>,
     ) -> Result<Vec<Result<Ticket<J>, NotSubmitted<J>>>, Refusal>
-        ensures of_these { IfOk result (λ answers. AreOf J.start (map (λ command. command.now) commands.now) answers.items) }
+        ensures after { IfOk result (λ answers. AreSubmittedAfter J.start told.now found.old
+            (map (λ command. command.now) commands.now) answers.items found.new) }
         ensures as_many { IfOk result (λ answers. vec_len answers ≡ length commands.now) }
         ensures counts { IfOk result (λ answers. seat.new ≡ counted_all seat.old answers.items) }
         ensures only { IfErr result (λ e. e ≡ Refusal.NoMemory) }
         ensures uncounted { OnErr result (seat.new ≡ seat.old) }
+        ensures unfound { OnErr result (found.new ≡ found.old) }
     {
         let mut answers = Vec::with_capacity(alloc, commands.len())?;
         let place = seat.place();
         let mut kept = self.held(rt);
         let was_idle = kept.board().is_idle();
-        let settled = kept.submit_all(alloc, seat, commands, &mut answers);
+        let settled = kept.submit_all_after(alloc, seat, commands, told, found, &mut answers);
         let begins = was_idle && !kept.board().is_idle();
         drop(kept);
         self.submitted(rt, place, begins, settled);
@@ -324,6 +358,14 @@ impl<D, J: Site> Hub<D, J> {
             work: _work,
         } = self;
         kept.into_inner().into_board()
+    }
+
+    /// What was found of the order and what a token has of it begin one order, of which the token has no less then. It takes no memory.
+    pub fn join<R: Wait>(&self, rt: &R, found: &Found<J>, ordered: &mut Ordered<J>)
+        ensures found { IsPrefix found.now ordered.new }
+        ensures before { IsPrefix ordered.old ordered.new }
+    {
+        self.held(rt).join(found, ordered);
     }
 
     /// How many commands the order has: as many as that of a board of this run had at some moment.

@@ -1,25 +1,28 @@
 //! What lies under the hub's lock, and the two rights to change it that a session doesn't have.
 ghost use Rattle.std.specs.Prelude.{◌≡◌, ◌⊎◌, ◌↔◌, ◌<◌, ◌≤◌, ◌+◌, ◌++◌, ◌∷◌, true, false, [], Some, None, Ok, length, map, set, get_or, replicate, IfOk, IfErr, IfSome, IsOk, IsTrue, IsErrOf, OnOk, OnErr};
 ghost use Rattle.std.specs.Vec.{vec_len, vec_capacity};
+ghost use mathlib.Core.List.{IsPrefix};
 ghost use Rattle.recovery.specs.Found.{commands_of};
 ghost use Rattle.revision.specs.Acceptance.{answer, Refuses};
 ghost use Rattle.world.specs.Board.{can_ack, next_run, settled_more, submitted, taken_more};
 ghost use Rattle.world.specs.World.{entry_of, takens};
+ghost use Rattle.hub.specs.Found.{AreSubmittedAfter, IsGivenAt, IsSubmittedAfter};
 ghost use Rattle.hub.specs.Given.{IsStopped, refusal_of, WasGiven};
 ghost use Rattle.hub.specs.Legal.{counted};
 ghost use Rattle.hub.specs.Placed.{StandsFirst};
 ghost use Rattle.hub.specs.Runs.{IsLongest, untaken, MaySettle};
-ghost use Rattle.hub.specs.Submitted.{AreOf, IsOf, counted_all, counted_by};
+ghost use Rattle.hub.specs.Submitted.{counted_all, counted_by};
 ghost use Rattle.hub.specs.Waiting.{AreWoken, NobodyIsForgotten, StillRightly, WaitsRightly, WakesAll, nobody, and_for};
 
 use crate::board::Board;
+use crate::found::Found;
 use crate::not_submitted::NotSubmitted;
 use crate::run::Run;
 use crate::seat::{Seat, Ticket};
 use crate::tokens::{Ended, Failed, Settled, Stopped};
 use crate::unsettled::Unsettled;
 use crate::waiting::{Awaited, Turns, Woken, covered};
-use published::{Site, Told};
+use published::{Ordered, Site, Told};
 use recovery::Receipt;
 use refusal::Refusal;
 use revision::Command;
@@ -179,6 +182,7 @@ impl<D, J: Site> Kept<D, J> {
             }) }
         ensures unchanged { OnErr result (self.new ≡ self.old) }
         ensures given { WasGiven J.start command.now result }
+        ensures there { IsGivenAt J.start self.new.board.board.order command.now result }
         ensures command { IfOk result (λ ticket. ticket.command ≡ command.now) }
         ensures counts { IfOk result (λ ticket. seat.new ≡ counted seat.old ticket.reply) }
         ensures uncounted { OnErr result (seat.new ≡ seat.old) }
@@ -196,18 +200,44 @@ impl<D, J: Site> Kept<D, J> {
         }
     }
 
-    // Submits commands one after another, each as `submit` does, and puts what comes of them into a list, which has room for them. It gives
-    // the token of what is settled, where that holds one of the tickets already.
-    pub(crate) fn submit_all(
+    // Submits a command, as `submit` does, and finds the order that is behind it then, which has first what was found before and what was
+    // told.
+    pub(crate) fn submit_after(
+        &mut self,
+        alloc: Global,
+        seat: &mut Seat<J>,
+        command: &Command,
+        told: &Told<D, J>,
+        found: &mut Found<J>,
+    ) -> Result<Ticket<J>, NotSubmitted<J>>
+        ensures after { IsSubmittedAfter J.start told.now found.old command.now result found.new }
+        ensures whole { found.new ≡ self.new.board.board.order }
+        ensures counts { seat.new ≡ counted_by seat.old result }
+        ensures others { self.new
+            ≡ record self.old {
+              board = record self.old.board { board = self.new.board.board };
+              awaited = self.new.awaited;
+            } }
+    {
+        let answer = self.submit(alloc, seat, command);
+        self.board.find(told, found);
+        answer
+    }
+
+    // Submits commands one after another, each as `submit_after` does, and puts what comes of them into a list, which has room for them. It
+    // gives the token of what is settled, where that holds one of the tickets already.
+    pub(crate) fn submit_all_after(
         &mut self,
         alloc: Global,
         seat: &mut Seat<J>,
         commands: &[&Command],
+        told: &Told<D, J>,
+        found: &mut Found<J>,
         answers: &mut Vec<Result<Ticket<J>, NotSubmitted<J>>>,
     ) -> Option<Told<D, J>>
         requires empty { answers.old.items ≡ [] }
         requires room { length commands.now ≤ vec_capacity answers.old }
-        ensures of_these { AreOf J.start (map (λ command. command.now) commands.now) answers.new.items }
+        ensures after { AreSubmittedAfter J.start told.now found.old (map (λ command. command.now) commands.now) answers.new.items found.new }
         ensures as_many { vec_len answers.new ≡ length commands.now }
         ensures counts { seat.new ≡ counted_all seat.old answers.new.items }
         ensures others { self.new
@@ -218,29 +248,20 @@ impl<D, J: Site> Kept<D, J> {
     {
         let mut settled = None;
         for i in 0..commands.len() {
-            let answer = self.submit_one(alloc, seat, commands[i]);
+            let answer = self.submit_after(alloc, seat, commands[i], told, found);
             settled = self.told_of(&answer, settled);
             push_in_room(answers, answer);
         }
         settled
     }
 
-    // submits a command, as `submit` does, one of several
-    fn submit_one(
-        &mut self,
-        alloc: Global,
-        seat: &mut Seat<J>,
-        command: &Command,
-    ) -> Result<Ticket<J>, NotSubmitted<J>>
-        ensures of_this { IsOf J.start command.now result }
-        ensures counts { seat.new ≡ counted_by seat.old result }
-        ensures others { self.new
-            ≡ record self.old {
-              board = record self.old.board { board = self.new.board.board };
-              awaited = self.new.awaited;
-            } }
+    // as `Board::join` does
+    pub(crate) fn join(&mut self, found: &Found<J>, ordered: &mut Ordered<J>)
+        ensures same { self.new ≡ self.old }
+        ensures found { IsPrefix found.now ordered.new }
+        ensures before { IsPrefix ordered.old ordered.new }
     {
-        self.submit(alloc, seat, command)
+        self.board.join(found, ordered);
     }
 
     // notes that the seat of a ticket waits, and gives the ticket with the turn at which it is woken

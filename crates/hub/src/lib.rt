@@ -10,6 +10,10 @@
 //! A `Ticket` has a token of the order up to its length, in which its command has its place as the rule of acceptance says
 //! (specs/Placed.antt). So by the token of what is published alone, without the board, its order is a prefix of that (`Ticket::stands`).
 //!
+//! A `Found` is what the commands of one who submits have found of the order. `Hub::submit_after` answers a command by an order that has all
+//! that first, and all that was published by the token that it is lent (`IsSubmittedAfter`, specs/Found.antt): a ticket is of just that
+//! order, and a refusal is what the rule of acceptance answers after it.
+//!
 //! What `take` takes off is a `Run`, which nothing else makes and nobody can change: so a flusher can only hold what a board took off. It
 //! isn't `Drop`: it ends by the receipt of its commit, with its store, or against a token that it doesn't follow, be it an old one
 //! (`Run::apart`). Where it follows what is published, it gives the token of the order by which it is published (`Run::goes_on`).
@@ -78,16 +82,17 @@
 //! # What isn't promised
 //!
 //! - What a hub's call did to the board under the lock: no clause can name the board at that moment. The tokens that it moves say
-//!   some of it (a ticket, a seat's count, a `Told`), and tests the rest. That a command has its place in the order a ticket says. Of a
-//!   refusal `Hub::submit` says that it is one that a board gives which some legal history from the run's start makes; that the hub's own
-//!   board stood so no clause says. So it may say that memory is short where it isn't so, or refuse by a history that never was, and tests
-//!   speak of that. That the store has failed it says by a token alone.
+//!   some of it (a ticket, a seat's count, a `Told`, a `Found`), and tests the rest. That a command has its place in the order a ticket says.
+//!   `Hub::submit_after` refuses by a beginning of the run's order which has all that its caller was told and had found; whether more was
+//!   ordered by then no clause says, nor that memory is short where it says so. Of a refusal of `Hub::submit` it is said only that some legal
+//!   history from the run's start makes a board that gives it. That the store has failed both say by a token alone.
 //! - That a thread which waits is ever woken.
 //! - That a ticket is asked for at the board that gave it. A seat and a token are of one run by their types.
 #![tactic(auto)]
 
 mod ahead;
 mod board;
+mod found;
 mod hub;
 mod kept;
 mod not_submitted;
@@ -100,6 +105,7 @@ mod waiting;
 
 pub use ahead::Ahead;
 pub use board::Board;
+pub use found::Found;
 pub use hub::Hub;
 pub use kept::{Closer, Writer};
 pub use not_submitted::NotSubmitted;

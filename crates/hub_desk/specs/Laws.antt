@@ -11,13 +11,14 @@ use Rattle.revision.specs.Agree.{Agree}
 use Rattle.recovery.specs.Found.{commands_of}
 use Rattle.world.specs.Board.{Ticket}
 use Rattle.world.specs.Law.{window_held}
+use Rattle.hub.specs.Given.{WasRefused}
 use Rattle.hub.specs.Placed.{StandsFirst}
 use Rattle.session.specs.declared.reply.Reply.{Reply}
 use Rattle.session.specs.Alone.{answered}
 use Rattle.session.specs.Exchange.{Exchange}
 use Rattle.session.specs.Replies.{Asks}
 use Rattle.session.specs.Reply.{rev_of}
-use Rattle.hub_desk.specs.AtHub.{Desk, PassesAtHub}
+use Rattle.hub_desk.specs.AtHub.{Desk, IsRefusedAt, PassesAtHub}
 use Rattle.hub_desk.specs.Standing.{StandsIn, AllStand}
 
 -- a document is there, and isn't deleted
@@ -72,6 +73,14 @@ PlacedStands = (start : State) (ticket : Ticket) (commands : List Taken) (reply 
 -- No exchange makes a desk forget what it was told of.
 abbrev pub ToldKept : Type 0
 ToldKept = (start : State) (asked : List Exchange) (old new : Desk) → Asks (PassesAtHub start) old asked new → IsPrefix old.told new.told
+
+-- Nor does any exchange make less of what it has found of the order.
+abbrev pub FoundKept : Type 0
+FoundKept = (start : State) (asked : List Exchange) (old new : Desk) → Asks (PassesAtHub start) old asked new → IsPrefix old.found new.found
+
+-- A refusal by the order that was found is one that a board of such a run gave.
+abbrev pub RefusedByBoard : Type 0
+RefusedByBoard = (start : State) (old new : Desk) (command : Command) (refusal : Refusal) → IsRefusedAt start old command refusal new → WasRefused start command refusal
 
 -- All that a desk acknowledged stands in what the batches make that it was told of by then, and in what further ones make of that.
 abbrev pub AcknowledgedStand : Type 0

@@ -1,19 +1,22 @@
--- Commands that were submitted one after another, each with its ticket or why it was refused.
+-- What a desk answers by what was submitted.
 use Rattle.std.specs.Prelude.{ℕ, true, List, [], ◌∷◌, Result, Ok, Err}
 use Rattle.refusal.specs.declared.Refusal.{Refusal}
 use Rattle.revision.specs.Command.{Command}
 use Rattle.revision.specs.State.{State}
 use Rattle.world.specs.Board.{Ticket}
-use Rattle.hub.specs.Submitted.{IsOf, counted_by}
+use Rattle.world.specs.World.{Entry}
+use Rattle.hub.specs.Found.{AreSubmittedAfter, IsSubmittedAfter}
+use Rattle.hub.specs.Submitted.{counted_all, counted_by}
 use Rattle.hub.specs.declared.not_submitted.NotSubmitted.{NotSubmitted}
 use Rattle.hub.specs.declared.not_submitted.NotSubmitted.TheVariants.{Stopped, ByBoard}
 use Rattle.session.specs.declared.reply.Reply.{Reply}
-use Rattle.session.specs.Exchange.{Answered}
+use Rattle.session.specs.Exchange.{Exchange, Answered}
+use Rattle.session.specs.Replies.{Asks}
 use Rattle.hub_desk.specs.AtHub.{Desk, PassesAtHub}
 
--- a desk whose seat has counted so many commands
-abbrev pub with_count : Desk → ℕ → Desk
-with_count desk count = record desk { counted = count }
+-- a desk whose seat has counted so many commands, and whose commands have found that much of the order
+abbrev pub with_seat : Desk → ℕ → List Entry → Desk
+with_seat desk count found = record desk { counted = count; found = found }
 
 module _ {J : Type 0} where
   -- the last ticket of them, or this one where there is none
@@ -30,8 +33,15 @@ module _ {J : Type 0} where
   noted desk (Stopped token) = record desk { stopped = true }
   noted desk (ByBoard refusal) = desk
 
-  -- What is answered by a submission of this command, however many commands the seat had counted before it.
+  -- What is answered by a submission of this command, however many commands the seat had counted before it, and whatever was found of
+  -- the order by then.
   abbrev pub AnswersFor : State → Desk → Command → Result Ticket (NotSubmitted J) → Result Reply Refusal → Desk → Type 0
   AnswersFor start old command submitted result new =
-      (count : ℕ) → IsOf start command submitted
-      → PassesAtHub start (with_count old count) (Answered command result) (with_count new (counted_by count submitted))
+      (count : ℕ) (before after : List Entry) → IsSubmittedAfter start old.shown before command submitted after
+      → PassesAtHub start (with_seat old count before) (Answered command result) (with_seat new (counted_by count submitted) after)
+
+  -- What commands were answered by their submissions, the last of which found all that this desk has found.
+  abbrev pub AnswersForAll : State → Desk → List Command → List (Result Ticket (NotSubmitted J)) → List Exchange → Desk → Type 0
+  AnswersForAll start old commands submitted asked new =
+      (count : ℕ) (before : List Entry) → AreSubmittedAfter start old.shown before commands submitted old.found
+      → Asks (PassesAtHub start) (with_seat old count before) asked (with_seat new (counted_all count submitted) old.found)

@@ -1,5 +1,5 @@
 //! A desk at a hub.
-ghost use Rattle.std.specs.Prelude.{◌≡◌, ℕ, IsTrue, true, false, length, map, Ok, IfErr, IfOk, IfSome, OnOk, OnErr};
+ghost use Rattle.std.specs.Prelude.{◌≡◌, IsTrue, true, false, [], length, map, Ok, IfErr, IfOk, IfSome, OnOk, OnErr};
 ghost use Rattle.std.specs.Vec.{vec_len};
 ghost use mathlib.Core.List.{IsPrefix};
 ghost use Rattle.recovery.specs.Found.{commands_of};
@@ -7,17 +7,18 @@ ghost use Rattle.revision.specs.Moved.{IsLateIn};
 ghost use Rattle.revision.specs.State as state;
 ghost use Rattle.hub.specs.Given.{refusal_of};
 ghost use Rattle.hub.specs.Placed.{StandsFirst};
-ghost use Rattle.hub.specs.Submitted.{AreOf, IsOf, counted_by, counted_all};
+ghost use Rattle.hub.specs.Found.{AreSubmittedAfter, IsSubmittedAfter};
+ghost use Rattle.hub.specs.Submitted.{counted_by, counted_all};
 ghost use Rattle.session.specs.Alone.{answered};
 ghost use Rattle.session.specs.Ahead as ahead;
 ghost use Rattle.session.specs.Replies.{Asks};
 ghost use Rattle.hub_desk.specs.AtHub as at_hub;
 ghost use Rattle.hub_desk.specs.AtHub.{PassesAtHub};
-ghost use Rattle.hub_desk.specs.Tickets.{AnswersFor, last_by, last_of, noted, with_count};
+ghost use Rattle.hub_desk.specs.Tickets.{AnswersFor, AnswersForAll, last_by, last_of, noted, with_seat};
 
 use crate::counters::Counters;
-use hub::{Ahead, Hub, NotSubmitted, Seat, Stopped, Ticket};
-use published::{Site, Told};
+use hub::{Ahead, Found, Hub, NotSubmitted, Seat, Stopped, Ticket};
+use published::{Ordered, Site, Told};
 use refusal::Refusal;
 use revision::{Command, LateEdit, State};
 use session::{Desk, Reply, Sent};
@@ -32,7 +33,8 @@ const LATE: usize = 64;
 
 /// Answers each command once it is settled at the hub, by its ticket and the token of what is published, and shows what is published. It
 /// owns a seat of the hub and a viewer of the same run, for one session after another. Contracts see it as the published batches that it was
-/// told of, those that it has shown, how many commands its seat has counted, and whether it has the hub's token that it is stopped.
+/// told of, those that it has shown, how many commands its seat has counted, whether it has the hub's token that it is stopped, and what its
+/// commands have found of the run's order.
 #[derive(Drop)]
 pub struct HubDesk<'a, D, J: Site, R> {
     rt: &'a R,
@@ -40,6 +42,7 @@ pub struct HubDesk<'a, D, J: Site, R> {
     seat: Seat<J>,
     viewer: Viewer<D, J>,
     shown: Told<D, J>,
+    found: Found<J>,
     stopped: Option<Stopped<J>>,
     counters: Option<&'a Counters>,
 }
@@ -51,7 +54,7 @@ impl<'a, D, J: Site, R> Model for HubDesk<'a, D, J, R> {
 
     ghost Value = { spec.Desk };
 
-    ghost view = { λ d. record { told = d.viewer; shown = d.shown; counted = d.seat; stopped = is_some d.stopped } };
+    ghost view = { λ d. record { told = d.viewer; shown = d.shown; counted = d.seat; stopped = is_some d.stopped; found = d.found } };
 
     ghost invariant = { λ d. IsPrefix d.shown d.viewer };
 }
@@ -66,7 +69,7 @@ impl<'a, D, J: Site, R> HubDesk<'a, D, J, R> {
         viewer: Viewer<D, J>,
         counters: Option<&'a Counters>,
     ) -> HubDesk<'a, D, J, R>
-        ensures { result ≡ record { told = viewer; shown = viewer; counted = seat; stopped = false } }
+        ensures { result ≡ record { told = viewer; shown = viewer; counted = seat; stopped = false; found = [] } }
     {
         let shown = viewer.told();
         HubDesk {
@@ -75,6 +78,7 @@ impl<'a, D, J: Site, R> HubDesk<'a, D, J, R> {
             seat,
             viewer,
             shown,
+            found: Found::new(),
             stopped: None,
             counters,
         }
@@ -91,6 +95,7 @@ impl<'a, D, J: Site, R> HubDesk<'a, D, J, R> {
             seat,
             viewer,
             shown: _,
+            found: _found,
             stopped: _,
             counters: _,
         } = self;
@@ -139,6 +144,14 @@ impl<'a, D, J: Site, R> HubDesk<'a, D, J, R> {
 }
 
 impl<D, J: Site, R: Wait> HubDesk<'_, D, J, R> {
+    /// What its commands have found begins the run's order, of which the token has no less then. It takes no memory.
+    pub fn join(&self, ordered: &mut Ordered<J>)
+        ensures found { IsPrefix self.now.found ordered.new }
+        ensures before { IsPrefix ordered.old ordered.new }
+    {
+        self.hub.join(self.rt, &self.found, ordered);
+    }
+
     // Waits until a ticket is settled, and tells the viewer. Refused with `StoreFailed` alone, and then the desk has the hub's token.
     fn await_ticket(&mut self, ticket: &Ticket<J>) -> Result<(), Refusal>
         ensures kept { IsPrefix self.old.told self.new.told }
@@ -190,33 +203,48 @@ impl<D, J: Site, R: Wait> HubDesk<'_, D, J, R> {
         self.seat.move_ahead(ahead);
     }
 
-    // Submits a command, and waits for nothing but the board. What it gives, a ticket or a refusal, a board of the run gave.
+    // Submits a command, and waits for nothing but the board. What it gives, a ticket or a refusal, is by the order that it finds, which
+    // has first what was found before and what is shown.
     fn submit(&mut self, alloc: Global, command: &Command) -> Result<Ticket<J>, NotSubmitted<J>>
-        ensures of_command { IsOf J.start command.now result }
-        ensures counts { self.new ≡ with_count self.old (counted_by self.old.counted result) }
+        ensures after { IsSubmittedAfter J.start self.old.shown self.old.found command.now result self.new.found }
+        ensures counts { self.new ≡ with_seat self.old (counted_by self.old.counted result) self.new.found }
     {
         self.move_on(alloc, &[command]);
-        self.hub.submit(self.rt, alloc, &mut self.seat, command)
+        self.hub.submit_after(
+            self.rt,
+            alloc,
+            &mut self.seat,
+            command,
+            &self.shown,
+            &mut self.found,
+        )
     }
 
-    // Submits commands one after another, before any of them is waited for: the seat counts each by its answer. Where memory runs out
-    // for the lists, nothing is submitted.
+    // Submits commands one after another, before any of them is waited for: the seat counts each by its answer, and each finds the order.
+    // Where memory runs out for the lists, nothing is submitted.
     fn submit_all(
         &mut self,
         alloc: Global,
         sent: &[Sent],
     ) -> Result<Vec<Result<Ticket<J>, NotSubmitted<J>>>, Refusal>
-        ensures of_these { IfOk result (λ tickets. AreOf J.start (ahead.commands_of sent.now) tickets.items) }
+        ensures after { IfOk result (λ tickets. AreSubmittedAfter J.start self.old.shown self.old.found (ahead.commands_of sent.now) tickets.items
+            self.new.found) }
         ensures as_many { IfOk result (λ tickets. vec_len tickets ≡ length sent.now) }
         ensures counts { IfOk result (λ tickets. self.new
-            ≡ with_count self.old (counted_all self.old.counted tickets.items)) }
+            ≡ with_seat self.old (counted_all self.old.counted tickets.items) self.new.found) }
         ensures only { IfErr result (λ e. e ≡ Refusal.NoMemory) }
         ensures unchanged { OnErr result (self.new ≡ self.old) }
     {
         let commands = commands_of(alloc, sent)?;
         self.move_on(alloc, &commands);
-        self.hub
-            .submit_all(self.rt, alloc, &mut self.seat, commands.as_slice())
+        self.hub.submit_all_after(
+            self.rt,
+            alloc,
+            &mut self.seat,
+            commands.as_slice(),
+            &self.shown,
+            &mut self.found,
+        )
     }
 
     // Waits until a ticket is settled, unless the viewer was told of that: for the last of the tickets that were submitted with it,
@@ -262,16 +290,14 @@ impl<D, J: Site, R: Wait> HubDesk<'_, D, J, R> {
         }
     }
 
-    // Answers commands in order by their submissions. The seat has counted all of them already, and by the answers it counts them
-    // one after another.
+    // Answers commands in order by their submissions. The seat has counted all of them already, and what they found of the order was found;
+    // by the answers it counts and finds that one after another.
     fn answer_all(&mut self, sent: &mut Vec<Sent>, tickets: &[Result<Ticket<J>, NotSubmitted<J>>])
-        requires of_these { AreOf J.start (ahead.commands_of sent.old.items) tickets.now }
         requires as_many { length tickets.now ≡ vec_len sent.old }
         ensures commands { ahead.commands_of sent.new.items ≡ ahead.commands_of sent.old.items }
         ensures others { self.new ≡ record self.old { told = self.new.told; stopped = self.new.stopped } }
-        ensures answered { (count : ℕ)
-            → Asks (PassesAtHub J.start) (with_count self.old count) (ahead.exchanges_of sent.new.items)
-            (with_count self.new (counted_all count tickets.now)) }
+        ensures answered { AnswersForAll J.start self.old (ahead.commands_of sent.old.items) tickets.now (ahead.exchanges_of sent.new.items)
+            self.new }
     {
         for i in 0..sent.len() {
             let answer = self.answer_by(&sent[i].command, &tickets[i], tickets);

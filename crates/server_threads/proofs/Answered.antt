@@ -26,7 +26,7 @@ use Rattle.hub_desk.proofs.CallerLemmas.{all_stand, told_through}
 use Rattle.server_threads.specs.Answers.{HoldsAll, first_desk}
 use Rattle.server_threads.specs.Served.{IsWritten, KeepsAnswers}
 use Rattle.server_threads.specs.Streams.{IsAnsweredAtHub, StopsAtHub}
-use Rattle.server_threads.proofs.Places.{all_have_places, counts_all}
+use Rattle.server_threads.proofs.Places.{all_have_causes, all_have_places, counts_all}
 
 -- a first part that is no shorter than the whole is the whole
 pub all_of : {A : Type 0} (first more whole : List A) → first ++ more ≡ whole → length whole ≤ length first → first ≡ whole
@@ -118,14 +118,16 @@ stops_there start old new desk desk' input input' output output' failed (Err fai
 }
 
 module _ {D : Type 0} {disk : Ghosts D} where
-  -- a desk that was told of first ones of the batches that are written
+  -- a desk that was told of first ones of the batches that are written, and found a beginning of the order
   pub keeps_answers : (order : List Entry) (written waiting : List (List Taken)) (old new : Store D disk) (last : Desk) → IsWritten order written waiting old new
-      → IsPrefix last.told written → KeepsAnswers written waiting old new last
-  keeps_answers order written waiting old new last is told = record {
+      → IsPrefix last.told written → IsPrefix last.found order → KeepsAnswers order written waiting old new last
+  keeps_answers order written waiting old new last is told found = record {
     told = told;
     places = λ asked asks. all_have_places (state_of old) first_desk last asked (commands_of last.told) asks (prefix_self (commands_of last.told));
     counts = λ asked asks. counts_all (state_of old) first_desk last asked asks;
     stand = λ asked asks. subst (λ (s : State). AllStand s asked) (sym is.state) (all_stand (state_of old) first_desk last asked written asks told grow);
+    found = found;
+    causes = λ asked asks. all_have_causes (state_of old) first_desk last asked order asks found;
     each_answer = λ answered others mid before after.
         let within : IsPrefix mid.told written = prefix_trans mid.told last.told written (told_through (state_of old) others mid last after) told in
         let was = is.each mid.told within in

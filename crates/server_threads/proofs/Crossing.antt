@@ -7,7 +7,7 @@ use Rattle.core.specs.declared.ledger.Ledger as ledger
 use Rattle.published.specs.declared.site.Site as site
 use Rattle.published.proofs.Crossing.{told_send}
 use Rattle.view.proofs.CallerLemmas.{viewer_send}
-use Rattle.hub.proofs.CallerLemmas.{seat_send, hub_sync}
+use Rattle.hub.proofs.CallerLemmas.{found_send, seat_send, hub_sync}
 use Rattle.hub_desk.specs.contracts.counters.Counters as counters
 use Rattle.hub_desk.specs.contracts.desk.HubDesk as desk
 
@@ -21,4 +21,5 @@ desk_send k D T R s l a b c =
     let seat = seat_send T s l a in
     let viewer = viewer_send D T s l a b in
     let told = told_send D T s l a in
+    let found = found_send T s l a in
     search (counters_sync, sendable, crosses) depth 60 fits 20000

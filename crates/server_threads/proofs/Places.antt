@@ -15,6 +15,7 @@ use Rattle.world.specs.Board.{Ticket}
 use Rattle.world.specs.World.{Entry, entry_of, takens}
 use Rattle.published.proofs.CallerLemmas.{prefix_trans}
 use Rattle.flusher.proofs.CallerLemmas.{commands-append}
+use Rattle.hub.specs.Found.{IsRefusedAfter}
 use Rattle.hub.specs.Legal.{counted}
 use Rattle.hub.specs.Placed.{PlacedBy}
 use Rattle.session.specs.declared.reply.Reply.{Reply}
@@ -22,9 +23,9 @@ use Rattle.session.specs.declared.reply.Reply.TheVariants.{Taken, Again}
 use Rattle.session.specs.Alone.{answered}
 use Rattle.session.specs.Exchange.{Exchange, Answered, Shown}
 use Rattle.session.specs.Replies.{Asks}
-use Rattle.hub_desk.specs.AtHub.{Desk, PassesAtHub, Refuses, Submits}
-use Rattle.hub_desk.proofs.CallerLemmas.{told_through}
-use Rattle.server_threads.specs.Answers.{HasPlace, AllHavePlaces, Counts}
+use Rattle.hub_desk.specs.AtHub.{Desk, Finds, PassesAtHub, Refuses, Submits}
+use Rattle.hub_desk.proofs.CallerLemmas.{found_through, told_through}
+use Rattle.server_threads.specs.Answers.{HasCause, AllHaveCauses, HasPlace, AllHavePlaces, Counts}
 
 -- the commands of first batches are first ones of the commands of all
 pub commands_first : (first all : List (List commands.Taken)) → IsPrefix first all → IsPrefix (commands_of first) (commands_of all)
@@ -59,6 +60,33 @@ all_have_places start old last (Answered command (Err refusal) ∷ others) all (
 all_have_places start old last (Shown (Some state) ∷ others) all (next, passes, rest) within = all_have_places start next last others all rest within
 all_have_places start old last (Shown None ∷ others) all (next, passes, rest) within = all_have_places start next last others all rest within
 
+-- what was taken of a beginning of the order begins what was taken of all
+takens_begin : (first all : List Entry) → IsPrefix first all → IsPrefix (takens first) (takens all)
+takens_begin first all (more, whole) = (takens more, sym (map-append (λ (e : Entry). e.taken) first more) ∙ ap takens whole)
+
+-- a command was refused by what was found then, within an order that begins with that
+cause_by : (start : State) (old next : Desk) (command : Command) (refusal : Refusal) (order : List Entry) → Refuses start old command refusal next
+    → IsPrefix next.found order → HasCause start (takens order) command refusal
+cause_by start old next command refusal order (inl none) within = inl none.1
+cause_by start old next command refusal order (inr (inr stops)) within = inr (inl stops.0)
+cause_by start old next command refusal order (inr (inl refused)) within = by_cause refused.refused
+  where
+    by_cause : IsRefusedAfter start next.found command refusal → HasCause start (takens order) command refusal
+    by_cause (inl memory) = inl memory.0
+    by_cause (inr by_rule) = inr (inr (takens next.found, takens_begin next.found order within, by_rule))
+
+-- each command that a desk refused has its cause, in an order that begins with what it found in the end
+pub all_have_causes : (start : State) (old last : Desk) (asked : List Exchange) (order : List Entry) → Asks (PassesAtHub start) old asked last
+    → IsPrefix last.found order → AllHaveCauses start (takens order) asked
+all_have_causes start old last [] order asks within = tt
+all_have_causes start old last (Answered command (Ok reply) ∷ others) order (next, passes, rest) within = all_have_causes start next last others order rest within
+all_have_causes start old last (Answered command (Err refusal) ∷ others) order (next, passes, rest) within = (
+  cause_by start old next command refusal order passes (prefix_trans next.found last.found order (found_through start others next last rest) within),
+  all_have_causes start next last others order rest within,
+)
+all_have_causes start old last (Shown (Some state) ∷ others) order (next, passes, rest) within = all_have_causes start next last others order rest within
+all_have_causes start old last (Shown None ∷ others) order (next, passes, rest) within = all_have_causes start next last others order rest within
+
 -- one more where it was taken, and no more where it was taken before
 counted_taken : (count revision : ℕ) (given : acceptance.Reply) → answered given ≡ Ok (Taken revision) → counted count given ≡ count + 1
 counted_taken count revision (TakenAt at) is = refl
@@ -79,11 +107,12 @@ counted_either count (Refused refusal) = inl refl
 refused_counts : (start : State) (old next : Desk) (command : Command) (refusal : Refusal) → Refuses start old command refusal next
     → (next.counted ≡ old.counted) ⊎ ((refusal ≡ StoreFailed) × (next.counted ≡ old.counted + 1))
 refused_counts start old next command refusal (inl same) = inl (ap (λ (d : Desk). d.counted) same.0)
-refused_counts start old next command refusal (inr (failed, stops)) = by_submits stops.submits
+refused_counts start old next command refusal (inr (inl refused)) = inl (ap (λ (d : Desk). d.counted) refused.others)
+refused_counts start old next command refusal (inr (inr (failed, stops))) = by_submits stops.submits
   where
-    by_submits : (next ≡ record old { stopped = true }) ⊎ ((ticket : Ticket) × Submits start old command ticket next)
+    by_submits : ((next ≡ record old { stopped = true; found = next.found }) × Finds start old next) ⊎ ((ticket : Ticket) × Submits start old command ticket next)
         → (next.counted ≡ old.counted) ⊎ ((refusal ≡ StoreFailed) × (next.counted ≡ old.counted + 1))
-    by_submits (inl same) = inl (ap (λ (d : Desk). d.counted) same)
+    by_submits (inl same) = inl (ap (λ (d : Desk). d.counted) same.0)
     by_submits (inr (ticket, submits)) = by_reply (counted_either old.counted ticket.reply)
       where
         by_reply : (counted old.counted ticket.reply ≡ old.counted) ⊎ (counted old.counted ticket.reply ≡ old.counted + 1)

@@ -282,10 +282,10 @@ module _ {D J : Type 0} {disk : Ghosts D} where
   pub lived_by : (Sessions : List Desk → Type 0) (start : State) (order : List Entry) (desks : List Desk) (old new : Flusher D J disk) (written answer : Result (Unit {0}) Refusal) (store : Store D disk)
       → store ≡ store_of new → IsStarted old → Kept start old → Kept start new → length (committed_of new) ≤ 1 → length (waiting_of new) ≤ 1
       → HasWritten start old new written → IsLegal start order → IsPrefix (commands_of (told_of new ++ (committed_of new ++ waiting_of new))) (takens order)
-      → All (λ (desk : Desk). IsPrefix desk.told (told_of new ++ committed_of new)) desks → length order ≡ sum_by (λ (desk : Desk). desk.counted) desks
+      → All (λ (desk : Desk). IsPrefix desk.told (told_of new ++ committed_of new)) desks → All (λ (desk : Desk). IsPrefix desk.found order) desks → length order ≡ sum_by (λ (desk : Desk). desk.counted) desks
       → OnOk answer ((written ≡ Ok tt) × (length order ≡ length (commands_of (told_of new)))) → (IsErrOf answer Fault ↔ IsErrOf written Fault)
       → Sessions desks → HasLived Sessions answer (store_of old) store
-  lived_by Sessions start order desks old new written answer store is started before kept few_committed few_waiting wrote legal begins told long all fault sessions =
+  lived_by Sessions start order desks old new written answer store is started before kept few_committed few_waiting wrote legal begins told found long all fault sessions =
       subst (λ (s : Store D disk). HasLived Sessions answer (store_of old) s) (sym is)
       (record {
         served = record {
@@ -296,9 +296,10 @@ module _ {D J : Type 0} {disk : Ghosts D} where
           is_written = is_written;
           whole = λ well. whole (well_of answer well all);
           sessions = sessions;
-          answers = All-weaker (λ (desk : Desk). IsPrefix desk.told (told_of new ++ committed_of new))
-              (KeepsAnswers (told_of new ++ committed_of new) (waiting_of new) (store_of old) (store_of new))
-              (λ desk first. keeps_answers order (told_of new ++ committed_of new) (waiting_of new) (store_of old) (store_of new) desk is_written first) desks told;
+          answers = All-weaker (λ (desk : Desk). IsPrefix desk.told (told_of new ++ committed_of new) × IsPrefix desk.found order)
+              (KeepsAnswers order (told_of new ++ committed_of new) (waiting_of new) (store_of old) (store_of new))
+              (λ desk both. keeps_answers order (told_of new ++ committed_of new) (waiting_of new) (store_of old) (store_of new) desk is_written both.0 both.1) desks
+              (λ k d within. (told k d within, found k d within));
           nothing_else = long;
         };
         fails = λ works.
@@ -326,7 +327,10 @@ module _ {D J : Type 0} {disk : Ghosts D} where
       lived_by Sessions start counts.board.order held.desks old held.last written answer store (is ∙ held.tallied.store) started held.before.state held.tallied.kept.state
       held.tallied.few_committed held.tallied.few_waiting held.wrote (order_legal start counts.board counts.run)
       (order_begins (commands_of (told_of held.last ++ (committed_of held.last ++ waiting_of held.last))) ordered counts.board.order held.tallied.begins counts.begins)
-      held.tallied.told (counts.counts ∙ held.tallied.counts)
+      held.tallied.told
+      (All-weaker (λ (desk : Desk). IsPrefix desk.found ordered) (λ (desk : Desk). IsPrefix desk.found counts.board.order)
+      (λ desk first. prefix_trans desk.found ordered counts.board.order first counts.begins) held.desks held.tallied.found)
+      (counts.counts ∙ held.tallied.counts)
       (subst (λ (n : ℕ). OnOk answer ((written ≡ Ok tt) × (length counts.board.order ≡ n))) held.tallied.so_many counts.all) counts.fault held.sessions
 
 module _ {D : Type 0} {disk : Ghosts D} where
@@ -354,7 +358,7 @@ module _ {D : Type 0} {disk : Ghosts D} where
     is_written = none_written store;
     whole = λ well. absurd (false≢true well);
     sessions = sessions;
-    answers = All-nil (KeepsAnswers [] [] store store);
+    answers = All-nil (KeepsAnswers [] [] [] store store);
     nothing_else = refl;
   }
 
@@ -368,8 +372,8 @@ module _ {D : Type 0} {disk : Ghosts D} where
     is_written = none_written store;
     whole = λ well. absurd (false≢true well);
     sessions = sessions;
-    answers = All-cons (KeepsAnswers [] [] store store) first_desk []
-        (keeps_answers [] [] [] store store first_desk (none_written store) ([], refl)) (All-nil (KeepsAnswers [] [] store store));
+    answers = All-cons (KeepsAnswers [] [] [] store store) first_desk []
+        (keeps_answers [] [] [] store store first_desk (none_written store) ([], refl) ([], refl)) (All-nil (KeepsAnswers [] [] [] store store));
     nothing_else = refl;
   }
 

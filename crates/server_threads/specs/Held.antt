@@ -21,14 +21,15 @@ module _ {D J : Type 0} {disk : Ghosts D} where
   pub record IsKept (start : State) (flusher : Flusher D J disk) : Type 0 where
     pub state : state_of (store_of flusher) ≡ fold start (commands_of (told_of flusher ++ committed_of flusher))
 
-  -- The desks of a flusher that has written are tallied. The order begins with all that it was given, so much of it was published, no desk
-  -- was told of more than it committed, and the seats' count is that of the desks.
+  -- The desks of a flusher that has written are tallied. The order begins with all that it was given and all that the desks found of it, so
+  -- much of it was published, no desk was told of more than it committed, and the seats' count is that of the desks.
   pub record IsTallied (start : State) (desks : List Desk) (last : Flusher D J disk) (ordered : List Entry) (published counted : ℕ) (new : Store D disk) : Type 0 where
     pub store : new ≡ store_of last
     pub kept : IsKept start last
     pub few_committed : length (committed_of last) ≤ 1
     pub few_waiting : length (waiting_of last) ≤ 1
     pub begins : IsPrefix (commands_of (told_of last ++ (committed_of last ++ waiting_of last))) (takens ordered)
+    pub found : All (λ (desk : Desk). IsPrefix desk.found ordered) desks
     pub so_many : published ≡ length (commands_of (told_of last))
     pub told : All (λ (desk : Desk). IsPrefix desk.told (told_of last ++ committed_of last)) desks
     pub counts : counted ≡ sum_by (λ (desk : Desk). desk.counted) desks

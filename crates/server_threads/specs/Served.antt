@@ -21,7 +21,7 @@ use Rattle.session.specs.Exchange.{Exchange}
 use Rattle.session.specs.Replies.{Asks}
 use Rattle.hub_desk.specs.AtHub.{Desk, PassesAtHub}
 use Rattle.hub_desk.specs.Standing.{AllStand}
-use Rattle.server_threads.specs.Answers.{AllHavePlaces, Counts, HoldsAll, first_desk}
+use Rattle.server_threads.specs.Answers.{AllHaveCauses, AllHavePlaces, Counts, HoldsAll, first_desk}
 
 module _ {D : Type 0} {disk : Ghosts D} where
   -- There is one order, a legal history from what the store held. The first of its commands were to be written, in batches one after
@@ -52,7 +52,8 @@ module _ {D : Type 0} {disk : Ghosts D} where
   -- What a desk answered is kept. It was told of some first batches of those that are written, within which each command that it
   -- acknowledged has its place, as the rule of acceptance says; its seat counted what `Counts` says; all that it acknowledged stands in what
   -- the store holds; and for any point in the exchange there was a moment from which on no crash takes away what was acknowledged by then.
-  pub record KeepsAnswers (written waiting : List (List Taken)) (old new : Store D disk) (last : Desk) : Type 0 where
+  -- What it found of the order begins it, so what it refused by the rule of acceptance it refused after a prefix of that one order.
+  pub record KeepsAnswers (order : List Entry) (written waiting : List (List Taken)) (old new : Store D disk) (last : Desk) : Type 0 where
     pub told : IsPrefix last.told written
     pub places : (asked : List Exchange) → Asks (PassesAtHub (state_of old)) first_desk asked last
         → AllHavePlaces (state_of old) (commands_of last.told) asked
@@ -60,6 +61,8 @@ module _ {D : Type 0} {disk : Ghosts D} where
     pub stand : (asked : List Exchange) → Asks (PassesAtHub (state_of old)) first_desk asked last → AllStand (state_of new) asked
     pub each_answer : (answered others : List Exchange) (mid : Desk) → Asks (PassesAtHub (state_of old)) first_desk answered mid
         → Asks (PassesAtHub (state_of old)) mid others last → IsKeptFrom (state_of old) answered mid.told (written ++ waiting) old new
+    pub found : IsPrefix last.found order
+    pub causes : (asked : List Exchange) → Asks (PassesAtHub (state_of old)) first_desk asked last → AllHaveCauses (state_of old) (takens order) asked
 
   -- The life of a server, of which `Sessions` says what its desks exchanged: one order and what is written of it, which is all of it where
   -- the life ended well; what each desk answered is kept; and nothing was ordered but what the seats of these desks counted.
@@ -71,7 +74,7 @@ module _ {D : Type 0} {disk : Ghosts D} where
     pub is_written : IsWritten order written waiting old new
     pub whole : well ≡ true → IsWhole order written waiting old new
     pub sessions : Sessions desks
-    pub answers : All (KeepsAnswers written waiting old new) desks
+    pub answers : All (KeepsAnswers order written waiting old new) desks
     pub nothing_else : length order ≡ sum_by (λ (desk : Desk). desk.counted) desks
 
   -- Such a life, and how its writing ended: it fails only with the device.

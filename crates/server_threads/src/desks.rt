@@ -8,7 +8,7 @@ use disk::Disk;
 use flusher::Flusher;
 use hub::{Board, Hub, Seat, Tally};
 use hub_desk::{Counters, HubDesk};
-use published::Site;
+use published::{Ordered, Site};
 use refusal::Refusal;
 use std::alloc::Global;
 use std::sync::Wait;
@@ -66,18 +66,22 @@ pub(crate) fn desks_at<'a, J: Site, R: Wait, D: Disk + Drop>(
 }
 
 /// Tallies the seats of desks that are used no longer, each of which was told of some first batches of those that are published and
-/// committed. It takes no memory.
-pub(crate) fn tally_desks<J: Site, R, D: Disk>(
+/// committed. What they found of the order begins it, of which the token has no less then. It takes no memory.
+pub(crate) fn tally_desks<J: Site, R: Wait, D: Disk>(
     flusher: &mut Flusher<D, J>,
     desks: Vec<HubDesk<'_, D, J, R>>,
     tally: &mut Tally<J>,
+    ordered: &mut Ordered<J>,
 )
     ensures seats { tally.new.seats ≡ tally.old.seats + length desks.entry.items }
     ensures counted { tally.new.counted ≡ tally.old.counted + sum_by (λ desk. desk.counted) desks.entry.items }
     ensures told { All (λ desk. IsPrefix desk.told (told_of flusher.old ++ committed_of flusher.old)) desks.entry.items }
     ensures store { store_of flusher.new ≡ store_of flusher.old }
+    ensures before { IsPrefix ordered.old ordered.new }
+    ensures found { All (λ desk. IsPrefix desk.found ordered.new) desks.entry.items }
 {
     for desk in desks {
+        desk.join(ordered);
         let (seat, viewer) = desk.into_parts();
         flusher.covers(&viewer.told());
         tally.add(seat);

@@ -84,7 +84,7 @@ pub(crate) struct Past<D: Disk, J: Site> {
 }
 
 /// Tallies the seats of desks that are used no longer. It takes no memory.
-pub(crate) fn tally_all<J: Site, R, D: Disk>(
+pub(crate) fn tally_all<J: Site, R: Wait, D: Disk>(
     flusher: Flusher<D, J>,
     written: Result<(), Refusal>,
     desks: Vec<HubDesk<'_, D, J, R>>,
@@ -99,9 +99,9 @@ pub(crate) fn tally_all<J: Site, R, D: Disk>(
     let mut tally = tally;
     flusher.kept();
     flusher.few();
-    let ordered = flusher.ordered();
+    let mut ordered = flusher.ordered();
     let published = flusher.told().len();
-    tally_desks(&mut flusher, desks, &mut tally);
+    tally_desks(&mut flusher, desks, &mut tally, &mut ordered);
     Past {
         flusher,
         written,

@@ -14,8 +14,8 @@ loop-seat-preserved-in-Continue-1 g c =
     let seat = next_seat left rest c.in-Some.seat c.in-Some.ensures.steps.0 i.new in
     let viewer : c.in-Some-viewer.viewer ≡ [] = c.in-Some-viewer.ensures ∙ c.requires.told in
     let first : c.new.result ≡ first_desk =
-    c.new.ensures ∙ (ap (λ t. record { told = t; shown = t; counted = c.in-Some.seat; stopped = false }) viewer
-    ∙ ap (λ n. record { told = []; shown = []; counted = n; stopped = false }) seat.0) in
+    c.new.ensures ∙ (ap (λ t. record { told = t; shown = t; counted = c.in-Some.seat; stopped = false; found = [] }) viewer
+    ∙ ap (λ n. record { told = []; shown = []; counted = n; stopped = false; found = [] }) seat.0) in
     record {
       new = seat.1;
       first = one_desk_more at.desks.items c.push.new.self.items c.new.result c.in_ok-push-in-Some-viewer.ensures.items first i.first;

@@ -2,8 +2,9 @@ use Rattle.std.proofs.Common.{◌≡◌, ◌∙◌, ◌+◌, ◌++◌, [], ◌�
 use Rattle.std.proofs.lemmas.List.{nil_from_length}
 use Rattle.std.specs.Vec.Iter.{into_iter_items}
 use mathlib.Core.List.{IsPrefix}
+use Rattle.published.proofs.CallerLemmas.{prefix_trans}
 use Rattle.flusher.specs.Holding.{told_of, committed_of}
-use Rattle.server_threads.proofs.Tallied.{one_seat_more, one_count_more, one_told_more, all_yielded}
+use Rattle.server_threads.proofs.Tallied.{one_seat_more, one_count_more, one_told_more, one_found_more, all_yielded}
 use Rattle.server_threads.proofs.desks.tally_desks.Goals as goal
 
 pub loop-desk-preserved : goal.loop-desk-preserved
@@ -23,6 +24,8 @@ loop-desk-preserved g c =
           (ap (λ t. t.counted) c.add.ensures ∙ ap (λ n. at.tally.counted + n) c.into_parts-seat.ensures.seat);
       told = one_told_more (told_of c.args.flusher.now ++ committed_of c.args.flusher.now) at.yielded desk i.told
           (subst (λ l. IsPrefix desk.told l) there (subst (λ t. IsPrefix t here) told c.covers-in-loop-desk.ensures.begins));
+      before = prefix_trans c.args.ordered.now at.ordered c.join.new.ordered i.before c.join.ensures.before;
+      found = one_found_more at.ordered c.join.new.ordered at.yielded desk i.found c.join.ensures.before c.join.ensures.found;
       told_same = c.covers-in-loop-desk.ensures.told ∙ i.told_same;
       committed_same = c.covers-in-loop-desk.ensures.committed ∙ i.committed_same;
       store_same = c.covers-in-loop-desk.ensures.store ∙ i.store_same;
@@ -35,3 +38,10 @@ returns-clause-told g c =
     nil_from_length (into_iter_items at.desk-iterator) (sym at.desk-iterator.rest.ok.0 ∙ c.in-None.ensures.steps.0) in
     all_yielded (λ desk. IsPrefix desk.told (told_of c.args.flusher.now ++ committed_of c.args.flusher.now)) at.yielded (into_iter_items at.desk-iterator) c.args.desks.items
     at.invariant.others none at.invariant.told
+
+pub returns-clause-found : goal.returns-clause-found
+returns-clause-found g c =
+    let at = c.loop-desk in
+    let none : into_iter_items at.desk-iterator ≡ [] =
+    nil_from_length (into_iter_items at.desk-iterator) (sym at.desk-iterator.rest.ok.0 ∙ c.in-None.ensures.steps.0) in
+    all_yielded (λ desk. IsPrefix desk.found at.ordered) at.yielded (into_iter_items at.desk-iterator) c.args.desks.items at.invariant.others none at.invariant.found

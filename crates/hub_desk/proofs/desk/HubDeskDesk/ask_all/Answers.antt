@@ -1,14 +1,14 @@
 use Rattle.std.proofs.Common.{subst}
 use Rattle.session.specs.Replies.{Asks}
-use Rattle.session.specs.Ahead.{exchanges_of}
+use Rattle.session.specs.Ahead.{commands_of, exchanges_of}
 use Rattle.hub_desk.specs.AtHub.{Desk, PassesAtHub}
 use Rattle.hub_desk.proofs.Tickets.{asked_all}
 use Rattle.hub_desk.proofs.desk.HubDeskDesk.ask_all.Goals as goal
 
 pub returns-in-Ok-clause-answered : goal.returns-in-Ok-clause-answered
 returns-in-Ok-clause-answered g c =
-    asked_all g.J.Site.start c.args.self.now c.submit_all.new.self c.answer_all.new.self (exchanges_of c.answer_all.new.sent.items) c.in-Ok.tickets.items c.deref-in-Ok.result.now
-    c.in-Ok.ensures.counts c.answer_all.ensures.others c.deref-in-Ok.ensures.value c.answer_all.ensures.answered
+    asked_all g.J.Site.start c.args.self.now c.submit_all.new.self c.answer_all.new.self (commands_of c.args.sent.now.items) (exchanges_of c.answer_all.new.sent.items) c.in-Ok.tickets.items
+    c.deref-in-Ok.result.now c.in-Ok.ensures.after c.in-Ok.ensures.counts c.answer_all.ensures.others c.deref-in-Ok.ensures.value c.answer_all.ensures.answered
 
 pub returns-in-Err-clause-answered : goal.returns-in-Err-clause-answered
 returns-in-Err-clause-answered g c =

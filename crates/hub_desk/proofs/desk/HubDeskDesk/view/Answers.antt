@@ -16,7 +16,7 @@ returns-clause-shown g c =
     let answer = read.answer in
     let state = answer.0 in (
       Some state,
-      (answer.1, subst (λ (l : List (List Taken)). IsPrefix l c.read.new.self) (ap (λ (d : Desk). d.told) c.self.view_is) read.kept, c.told.ensures, ap (λ (d : Desk). d.counted) c.self.view_is),
+      (answer.1, subst (λ (l : List (List Taken)). IsPrefix l c.read.new.self) (ap (λ (d : Desk). d.told) c.self.view_is) read.kept, c.told.ensures, ap (λ (d : Desk). d.counted) c.self.view_is, ap (λ (d : Desk). d.found) c.self.view_is),
       answer.2,
       λ x is. let same : state ≡ x = cc in
           sym same ∙ answer.1 ∙ ap (λ (l : List (List Taken)). fold g.J.Site.start (commands_of l)) (sym c.told.ensures),

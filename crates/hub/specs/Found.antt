@@ -1,0 +1,55 @@
+-- What a command that is submitted finds of the order, and what comes of it there.
+use Rattle.std.specs.Prelude.{◌≡◌, ◌⊎◌, true, List, [], ◌∷◌, Option, Some, None, Result, Ok, Err, IfOk}
+use mathlib.Core.List.{IsPrefix}
+use Rattle.refusal.specs.declared.Refusal.{Refusal}
+use Rattle.refusal.specs.declared.Refusal.TheVariants.{NoMemory}
+use Rattle.revision.specs.Command.{Taken, Command}
+use Rattle.revision.specs.State.{State, fold}
+use Rattle.revision.specs.Planned.{may_want_memory}
+use Rattle.revision.specs.Acceptance.{Refuses, answer}
+use Rattle.recovery.specs.Found.{commands_of}
+use Rattle.world.specs.Board.{Ticket}
+use Rattle.world.specs.World.{Entry, takens}
+use Rattle.published.specs.Order.{IsLegal}
+use Rattle.hub.specs.Given.{GaveTicket}
+use Rattle.hub.specs.Placed.{IsPlaced}
+use Rattle.hub.specs.declared.not_submitted.NotSubmitted.{NotSubmitted}
+use Rattle.hub.specs.declared.not_submitted.NotSubmitted.TheVariants.{Stopped, ByBoard}
+
+-- what was found of the order: nothing, where nothing was found yet
+abbrev pub all_found : Option (List Entry) → List Entry
+all_found None = []
+all_found (Some order) = order
+
+-- A command is refused where the order is this: out of memory, where the answer then rests on what is to be made in memory, or as the rule
+-- of acceptance refuses it after that order.
+abbrev pub IsRefusedAfter : State → List Entry → Command → Refusal → Type 0
+IsRefusedAfter start order command refusal =
+    ((refusal ≡ NoMemory) × (may_want_memory command.action (answer (fold start (takens order)) command) ≡ true))
+    ⊎ (answer (fold start (takens order)) command ≡ Refuses refusal)
+
+module _ {J : Type 0} where
+  -- What comes of a command behind which the order is this: a ticket of just this order, or a refusal by it. That the store had failed or
+  -- the hub had ended a token says.
+  abbrev pub IsGivenAt : State → List Entry → Command → Result Ticket (NotSubmitted J) → Type 0
+  IsGivenAt start order command (Ok ticket) = GaveTicket start command ticket × IsPlaced start order ticket
+  IsGivenAt start order command (Err (Stopped token)) = Unit {0}
+  IsGivenAt start order command (Err (ByBoard refusal)) = IsRefusedAfter start order command refusal
+
+-- A command was submitted by one who was told of these batches and had found that much of the order: what comes of it is by an order that
+-- has all that first. The order is a legal history from the start of the run, and is found from then on.
+pub record IsSubmittedAfter {J : Type 0} (start : State) (told : List (List Taken)) (old : List Entry) (command : Command) (submitted : Result Ticket (NotSubmitted J)) (new : List Entry) : Type 0 where
+  pub legal : IsLegal start new
+  pub given : IsGivenAt start new command submitted
+  pub of_command : IfOk submitted (λ ticket. ticket.command ≡ command)
+  pub found : IsPrefix old new
+  pub begins : IsPrefix (commands_of told) (takens new)
+
+module _ {J : Type 0} where
+  -- Commands were submitted one after another: what comes of each one is by an order that has first what the one before it found.
+  abbrev pub AreSubmittedAfter : State → List (List Taken) → List Entry → List Command → List (Result Ticket (NotSubmitted J)) → List Entry → Type 0
+  AreSubmittedAfter start told old [] [] new = new ≡ old
+  AreSubmittedAfter start told old [] (first ∷ others) new = ⊥
+  AreSubmittedAfter start told old (command ∷ commands) [] new = ⊥
+  AreSubmittedAfter start told old (command ∷ commands) (first ∷ others) new =
+      (mid : List Entry) × IsSubmittedAfter start told old command first mid × AreSubmittedAfter start told mid commands others new

@@ -1,0 +1,71 @@
+//! What was found of the order.
+ghost use Rattle.std.specs.Prelude.{◌≡◌, []};
+ghost use mathlib.Core.List.{IsPrefix};
+ghost use Rattle.recovery.specs.Found.{commands_of};
+ghost use Rattle.world.specs.World.{takens};
+ghost use Rattle.published.specs.Order.{IsLegal};
+
+use published::{Order, Ordered, Site, Told};
+use std::marker::Model;
+
+/// A beginning of the run's order: what the commands of one who submits have found of it, and nothing at first. A hub alone makes it longer.
+/// Contracts see it as its entries. It takes no memory.
+#[derive(Drop)]
+pub struct Found<J: Site> {
+    order: Option<Ordered<J>>,
+}
+
+impl<J: Site> Model for Found<J> {
+    ghost use Rattle.std.specs.Prelude.{List};
+    ghost use Rattle.world.specs.World as spec;
+    ghost use Rattle.hub.specs.Found.{all_found};
+
+    ghost Value = { List spec.Entry };
+
+    ghost view = { λ f. all_found f.order };
+}
+
+impl<J: Site> Found<J> {
+    /// Nothing is found yet.
+    pub fn new() -> Found<J>
+        ensures { result ≡ [] }
+    {
+        Found { order: None }
+    }
+
+    // Finds the whole order, which has first what was found of it before, and what was told of it.
+    pub(crate) fn find<D>(&mut self, order: &mut Order<J>, told: &Told<D, J>)
+        ensures same { order.new ≡ order.old }
+        ensures whole { self.new ≡ order.old }
+        ensures legal { IsLegal J.start self.new }
+        ensures found { IsPrefix self.old self.new }
+        ensures begins { IsPrefix (commands_of told.now) (takens self.new) }
+    {
+        self.begins(order);
+        order.covers(told);
+        let whole = order.ordered();
+        whole.legal();
+        self.order = Some(whole);
+    }
+
+    // It begins the order, of which the token has no less then.
+    pub(crate) fn join(&self, order: &mut Order<J>, ordered: &mut Ordered<J>)
+        ensures same { order.new ≡ order.old }
+        ensures found { IsPrefix self.now ordered.new }
+        ensures before { IsPrefix ordered.old ordered.new }
+    {
+        self.begins(order);
+        order.holds(ordered);
+        *ordered = order.ordered();
+    }
+
+    // It begins the order.
+    fn begins(&self, order: &mut Order<J>)
+        ensures begins { IsPrefix self.now order.old }
+        ensures same { order.new ≡ order.old }
+    {
+        if let Some(found) = &self.order {
+            order.holds(found);
+        }
+    }
+}
