@@ -136,8 +136,8 @@ module _ {J : Type 0} where
   answered_whole start first now sent cs ts i all ticked commands so_far count before were =
       let there = so_far count before were in
       let long : length cs ≡ length sent = ap (λ (l : List Command). length l) (sym commands) ∙ commands_long sent in
-      let none : AreSubmittedAfter start first.shown there.0 [] [] first.found =
-      subst (λ (l : List Command). AreSubmittedAfter start first.shown there.0 l [] first.found) (drop_all i cs (omega (arith, all, long)))
+      let none : AreSubmittedAfter {J = J} start first.shown there.0 [] [] first.found =
+      subst (λ (l : List Command). AreSubmittedAfter {J = J} start first.shown there.0 l [] first.found) (drop_all i cs (omega (arith, all, long)))
       (subst (λ (l : List (Result Ticket (NotSubmitted J))). AreSubmittedAfter start first.shown there.0 (drop i cs) l first.found) (drop_all i ts ticked) there.1) in
       subst (λ (f : List Entry). Asks (PassesAtHub start) (with_seat first count before) (exchanges_of sent) (with_seat now (counted_all count ts) f)) (sym none)
       (subst (λ (l : List Sent). Asks (PassesAtHub start) (with_seat first count before) (exchanges_of l) (with_seat now (counted_all count ts) there.0)) (take_whole sent i all)
