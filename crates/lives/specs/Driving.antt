@@ -140,7 +140,7 @@ stop_of (Err refusal) = Some refusal
 
 module _ {D J : Type 0} {disk : Ghosts D} where
   -- Why the write of a run is refused, where neither the device failed nor memory ran out, and what that leaves: the run isn't committed,
-  -- since it finds no room in the journal, of which the last segment is opened.
+  -- since it finds no room in the journal, whose last segment is opened.
   pub record IsRunRefused (store : Store D disk) (run : List Taken) (refusal : Refusal) (after : Flusher D J disk) : Type 0 where
     pub why : (refusal ≡ JournalFull) ⊎ (refusal ≡ StillNeeded)
     pub no_room : has_room store run ≡ false

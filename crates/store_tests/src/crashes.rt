@@ -1,4 +1,4 @@
-//! Stores that stop or fail within a script: by either pick they are found as a beginning of it, with all that was answered with Ok.
+//! Stores that stop or fail within a script: by either pick they are found as a prefix of it, with all that was answered with Ok.
 use crate::rings::LEFT;
 use crate::scripts::{Move, Script, script_device, script_of, take_move};
 use crate::stopping::calls_before;
