@@ -560,7 +560,7 @@ struct Change {
     delta: Delta,
 }
 
-// A change of this document: that of a command which was taken on it, where a deletion has the delta that deletes all. Refused for want of
+// A change of this document: that of a command which was taken on it, where a deletion has the delta that deletes all. Refused as out of
 // memory alone.
 fn change_on(alloc: Global, document: &Document, taken: Taken) -> Result<Change, Refusal>
     requires blank { IsBlankFor taken.step document.now }
@@ -658,7 +658,7 @@ fn add_to(alloc: Global, past: &mut Past, change: Change) -> Result<Name, Refusa
     Ok(source)
 }
 
-// Prepares a change in the past and in the table of sources, where its source is looked for first at a place. Refused for want of
+// Prepares a change in the past and in the table of sources, where its source is looked for first at a place. Refused as out of
 // memory alone, and then both are unchanged.
 fn note(
     alloc: Global,

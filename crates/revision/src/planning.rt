@@ -91,8 +91,8 @@ impl State {
         self.answer_to(alloc, command, moved)
     }
 
-    /// Answers a command, and adds what is taken. The reply and the refusals are those of `plan`; refused, the state is as it
-    /// was. specs/Acceptance.antt states it as `decide`.
+    /// Answers a command, and adds what is taken. The reply and the refusals are those of `plan`; if refused, the state is
+    /// unchanged. specs/Acceptance.antt states it as `decide`.
     pub fn decide(&mut self, alloc: Global, command: &Command) -> Result<Reply, Refusal>
         ensures decided { IsDecided self.old command.now result self.new }
         ensures memory { IsErrOf result Refusal.NoMemory

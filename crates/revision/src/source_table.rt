@@ -142,7 +142,7 @@ impl SourceTable {
         self.ahead.take(alloc, source, number, revision, near)
     }
 
-    /// Prepares a command of a source as `prepare` does, and applies its delta to a document: both, or neither. Refused for want of
+    /// Prepares a command of a source as `prepare` does, and applies its delta to a document: both, or neither. Refused as out of
     /// memory alone.
     pub fn prepare_with(
         &mut self,

@@ -136,7 +136,7 @@ impl Ring {
         Ok(())
     }
 
-    /// Appends a record: to the newest segment, or, where it doesn't fit there, to one that is opened for it. `JournalFull` comes just
+    /// Appends a record: to the newest segment, or, where it doesn't fit there, to one that is opened for it. `JournalFull` comes exactly
     /// where no slot is free and it doesn't fit, and makes no call of the device. After a `Fault` the record may be there or not, and
     /// the ring knows nothing of it: it is not to be used again. It takes no memory.
     pub fn append<D: Disk>(&mut self, disk: &mut D, added: &Record) -> Result<(), Refusal>

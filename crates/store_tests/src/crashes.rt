@@ -170,8 +170,8 @@ fn answers_nothing<D: Disk>(
     assert!(rt; store.has_failed());
 }
 
-// A call of a script fails, and where it stops each later one. What a crash leaves, and what is there if none comes, is a
-// beginning of the script.
+// A call of a script fails, and where it stops each later one. What a crash leaves, and what is there if none comes, is a prefix
+// of the script.
 fn goes_wrong(rt: &(impl Abort + AllocGlobal), script: &Script, plan: FaultPlan) {
     let mut store = open_store(rt, FaultDisk::new(script_device(rt), plan));
     let moves = taken(rt, &mut store, script);
