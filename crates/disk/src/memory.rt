@@ -18,7 +18,7 @@ pub enum Call {
     Sync,
 }
 
-/// A device in memory, which keeps its word. A call fails only where its record finds no memory, or
+/// A device in memory, which keeps its word. A call fails only when out of memory for its record, or
 /// where 2^64 - 1 calls have failed already, and then it changes nothing.
 #[derive(Drop)]
 pub struct MemDisk {

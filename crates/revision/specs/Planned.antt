@@ -70,7 +70,7 @@ reply_of (Ok (replies.Taken revision)) = TakenAt revision
 reply_of (Ok (replies.Again revision)) = AgainAt revision
 reply_of (Err refusal) = Refused refusal
 
--- the reply and the state after it are those that are due, or memory ran out and the state is as it was
+-- the reply and the state after it are those that are due, or memory ran out and the state is unchanged
 abbrev pub IsDecided : State → Command → Result replied.Reply Refusal → State → Type 0
 IsDecided old command result new = (decide old command ≡ (reply_of result, new)) ⊎ ((result ≡ Err NoMemory) × (new ≡ old))
 

@@ -126,7 +126,7 @@ impl Follower {
         self.order.as_slice()
     }
 
-    /// The two lengths of the order of which a crash leaves one.
+    /// The two lengths of the order that a crash may leave.
     pub fn left(&self) -> (u64, u64)
         ensures { result ≡ (self.now.without, self.now.with_batch) }
     {

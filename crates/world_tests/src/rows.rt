@@ -7,7 +7,7 @@ use world::{Follower, Happening, Waiting};
 enum Seen {
     Tickets(&'static [Waiting]),
     Acks(&'static [Waiting]),
-    /// The two lengths of the order of which a crash leaves one.
+    /// The two lengths of the order that a crash may leave.
     Left(u64, u64),
     /// How long the order is.
     Ordered(usize),
