@@ -121,7 +121,7 @@ module _ {D : Type 0} {disk : Ghosts D} where
           ]
   freed_by old mid new slot number (Err refusal) oldest covered jobs done = tt
 
-  -- a store that was left as it was is freed still
+  -- a store that was left unchanged is freed still
   pub freed_still : (old mid new : Store D disk) (is_open : IsOpen old) → IsUnchanged mid new → IsFreedNow old is_open mid → IsFreedNow old is_open new
   freed_still old mid new is_open same freed = record {
     goes_on = now;

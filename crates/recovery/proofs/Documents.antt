@@ -66,7 +66,7 @@ pub record ReadTo (pairs : List Pair) (pick : Pick) (entries : List Taken) (list
   pub gap : (number : ℕ) → length state.documents ≤ number → number < length pairs
       → (picked pick (cells_at pairs number) ≡ None) × (get_or lists number [] ≡ [])
 
--- What is read so far of a content, of which the cells are known where the device is honest.
+-- What is read so far of a content, whose cells are known where the device is honest.
 pub record SoFar (format : Format) (honest : Type 0) (content : List ℕ) (shape : Shape) (pick : Pick) (lists : List (List Taken)) (known : List Cells) (state : State) : Type 0 where
   pub pairs : List Pair
   pub count : length pairs ≡ length known
@@ -90,7 +90,7 @@ entered-limits state None = refl
 entered-limits state (Some cell) = refl
 
 module _ (pick : Pick) (entries : List Taken) (lists : List (List Taken)) (by : AreByDocument entries lists) where
-  -- a number of which nothing is there
+  -- a number that has neither a cell nor an entry
   passed : (pairs : List Pair) (pair : Pair) (own : List Taken) (state after : State) → ReadTo pairs pick entries lists state
       → own ≡ get_or lists (length pairs) [] → is_there (picked pick pair) own ≡ false → after ≡ state → ReadTo (pairs ++ pair ∷ []) pick entries lists after
   passed pairs pair own state after to is_own none same =

@@ -102,7 +102,7 @@ zeros_unformatted is = zero_is_closed is.gate
 pub zeros_not_found : (pick : Pick) (state : State) → Found zeros pick state → ⊥
 zeros_not_found pick state found = zeros_unformatted found.holds.laid_out.names.formatted
 
--- a formatted device stands for no documents
+-- a formatted device represents no documents
 abbrev formatted : List ℕ
 formatted = 165 ∷ superblock small ++ replicate 1567 0
 

@@ -41,7 +41,7 @@ pub struct OpenFault<D> {
     pub refusal: Refusal,
 }
 
-/// A store over a device: the documents that the device stands for, and where the next batch goes.
+/// A store over a device: the documents that the device represents, and where the next batch goes.
 #[derive(Drop)]
 pub struct Store<D: Disk> {
     pub(crate) device: D,
@@ -80,17 +80,17 @@ impl<D: Disk> Store<D> {
     /// that pick, `Fault` exactly when a call of the device failed, and `NoMemory`. The device comes back with the refusal, and
     /// its content is unchanged on every path.
     pub fn open(alloc: Global, disk: D, pick: Pick) -> Result<Store<D>, OpenFault<D>>
-        // What is read stands, by this pick, for the state that the store holds, and for no other.
+        // What is read represents, by this pick, the state that the store holds, and no other.
         ensures found { IfOk result (λ store. D.honest (device_of store) → Found (D.seen disk) pick (state_of store)) }
         ensures only_state { IfOk result (λ store. D.honest (device_of store) → (state : StateValue)
             → Found (D.seen disk) pick state → state ≡ state_of store) }
-        // And whoever wrote it, the ring, the cells and the marks that the store goes on with are those of its parts.
+        // And whoever wrote it, the ring, the cells and the marks that the store has from here on are those of its parts.
         ensures knows { IfOk result (λ store. D.honest (device_of store) → Knows (D.seen disk) pick store) }
         ensures works { IfOk result (λ store. has_failed store ≡ false) }
         ensures no_jobs { IfOk result (λ store. kept_jobs store ≡ []) }
 
-        // Where the content is that of a store which ran with some state, the store goes on, with a state that agrees with
-        // that one, and nothing but the device or want of memory can refuse it.
+        // Where the content is that of a store which ran with some state, the store is open, with a state that agrees with
+        // that one, and nothing but the device or a lack of memory can refuse it.
         ensures open { IfOk result (λ store. D.honest (device_of store) → (state : StateValue)
             → FoundAs (D.seen disk) state
             → IsOpen store × Agree (state_of store) state) }
@@ -277,7 +277,7 @@ impl<D: Disk> Store<D> {
         ensures unwritten { IsErrOf result Refusal.NoMemory → IsOpen self.old
             → LeavesOnly ⟦<D as Disk>⟧ (λ content. FoundAs content (state_of self.old)) (device_of self.old)
             (device_of self.new) }
-        // Once it is Ok, the device is synced and stands for the state with the batch: the cells are those of before, and so are the
+        // Once it is Ok, the device is synced and represents the state with the batch: the cells are those of before, and so are the
         // slots but for the batch, which a slot is opened for exactly when it doesn't fit the newest segment.
         ensures committed { OnOk result ((is_open : IsOpen self.old)
             → IsCommittedNow batch.now self.old is_open self.new) }
