@@ -43,7 +43,7 @@ impl<D: Disk, J: Site> Flusher<D, J> {
     ghost use Rattle.recovery.specs.Goes.{Goes};
     ghost use Rattle.flusher.specs.Holding.{IsUncommitted, store_of, told_of, committed_of, waiting_of};
 
-    // A flusher of which nothing was published yet.
+    // A flusher that has published nothing yet.
     pub(crate) fn of(store: Store<D>, publisher: Publisher<D, J>, begun: Begun<J>) -> Flusher<D, J>
         requires nothing { publisher ≡ record { told = []; unpublished = [] } }
         requires begin { state_of store ≡ begun }
@@ -178,7 +178,7 @@ impl<D: Disk, J: Site> Flusher<D, J> {
     }
 
     /// Commits the batch that is held, if it isn't yet, and publishes it, between the gate's moments: gives the receipt of the commit
-    /// and the token that ends with the batch, to be settled by, or `None` where no batch is held. On a refusal the next call goes on where this one
+    /// and the token that ends with the batch, to be settled by, or `None` where no batch is held. On a refusal the next call continues where this one
     /// stopped: the same batch is committed, or published, by then. Where the journal is full, the oldest segment is freed by milestones of
     /// its documents, and the batch committed behind that. Refused as `commit_held`, but with `JournalFull` or `StillNeeded` only where the
     /// journal can't be freed, and then as the publish, with `NoMemory` alone. The batch is on the disk then.

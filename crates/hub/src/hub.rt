@@ -306,7 +306,7 @@ impl<D, J: Site> Hub<D, J> {
         ended
     }
 
-    /// A seat more, of which nothing is counted yet, as `Board::seat` gives it. Refused with `NoSeat` alone, where none is left to give. It
+    /// A seat more, with nothing counted yet, as `Board::seat` gives it. Refused with `NoSeat` alone, where none is left to give. It
     /// takes no memory.
     pub fn seat<R: Wait>(&self, rt: &R, closer: &mut Closer<J>) -> Result<Seat<J>, Refusal>
         ensures new { IfOk result (λ seat. seat ≡ 0) }

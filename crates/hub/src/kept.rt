@@ -60,7 +60,7 @@ impl<D, J: Site> Model for Kept<D, J> {
 }
 
 impl<D, J: Site> Kept<D, J> {
-    // A board at which nobody waits yet, and of which the end wasn't called, with the two rights to it. Nothing else makes them.
+    // A board at which nobody waits yet, and whose end wasn't called, with the two rights to it. Nothing else makes them.
     pub(crate) fn new(board: Board<D, J>) -> (Kept<D, J>, Writer<J>, Closer<J>)
         ensures board { result.0.board ≡ board }
         ensures nobody { result.0.awaited ≡ replicate 64 nobody }

@@ -26,7 +26,7 @@ use Rattle.hub_desk.specs.AtHub.{Desk, PassesAtHub, Refuses, Submits}
 use Rattle.hub_desk.proofs.CallerLemmas.{told_through}
 use Rattle.server_threads.specs.Answers.{HasPlace, AllHavePlaces, Counts}
 
--- the commands of first batches are first ones of the commands of all
+-- the commands of a prefix of the batches are a prefix of the commands of all
 pub commands_first : (first all : List (List commands.Taken)) → IsPrefix first all → IsPrefix (commands_of first) (commands_of all)
 commands_first first all (more, whole) = (commands_of more, sym (commands-append first more) ∙ ap commands_of whole)
 

@@ -58,7 +58,7 @@ pub fn serve_on<
     idle: u32,
     watch: &W,
 ) -> (Store<D>, Result<(), Refusal>)
-    // There is one order, of which the store holds what is written, and all of it after an `Ok`. What the desks answered is kept. No clause
+    // There is one order. The store holds what of it is written, and all of it after an `Ok`. What the desks answered is kept. No clause
     // says who asked them.
     ensures served { WasServed (EachHasServed (state_of store)) (is_ok result.1) store result.0 }
     // It fails only with the device.

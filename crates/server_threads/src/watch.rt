@@ -5,7 +5,7 @@ use refusal::Refusal;
 use sockets::Peers;
 use std::io;
 
-/// Is told what happens while a store over a device `D` is served, in whatever thread it happens, which goes on once it is back. No clause
+/// Is called for what happens while a store over a device `D` is served, in the thread where it happens, which waits for it. No clause
 /// speaks of it.
 pub trait Watch<D>: Sync {
     /// So many of `seats` sessions have a thread each, and the thread that writes is there, so whoever connects is served. Whether to

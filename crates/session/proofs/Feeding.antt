@@ -24,7 +24,7 @@ replies-joined (byte ∷ bytes) back old mid new a b t u (next, first, others, f
   ap (λ (l : List ℕ). l ++ u) text ∙ append_assoc f g u,
 )
 
--- a piece of which a front, a text and one byte were taken
+-- a piece from which a front, a text and one byte were taken
 pub piece_parted : (piece front rest text left behind : List ℕ) (byte : ℕ) → piece ≡ front ++ rest → rest ≡ text ++ left → left ≡ byte ∷ behind
     → piece ≡ ((front ++ text) ++ byte ∷ []) ++ behind
 piece_parted piece front rest text left behind byte whole next is =

@@ -107,7 +107,7 @@ pub fn told_once()
         → lines_after doc last past ++ lines_after doc (newest past) later ≡ lines_after doc last later }
 {}
 
-/// What is kept of a state's documents at older revisions stays right of it as it goes on.
+/// Documents at older revisions that are right for a state are right for each state that comes after it.
 pub fn kept_documents_stay()
     ensures { FitsLater }
 {}
