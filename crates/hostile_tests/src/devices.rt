@@ -62,7 +62,7 @@ const OF_62: &[u8] = &[0xa5, 62, 0, 0, 0];
 /// What is written over a device one after the other: a place, and the bytes there.
 type Changes = &'static [(usize, &'static [u8])];
 
-/// A device that was just formatted, of which so many bytes are left and some are changed, and what it is opened as: its documents, or the
+/// A device that was just formatted, where so many bytes are left and some are changed, and what it is opened as: its documents, or the
 /// refusal.
 type Row = (usize, Changes, &'static str);
 

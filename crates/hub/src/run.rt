@@ -116,7 +116,7 @@ impl<D, J: Site> Run<D, J> {
         &self.batch
     }
 
-    /// `made[i]` is the document that command i leaves, where the run continues what a token names. Its last commands may have none.
+    /// Element i is the document that command i leaves, where the run continues what a token names. Its last commands may have none.
     pub fn made(&self, told: &Told<D, J>) -> &[Document]
         requires { self.now.place ≡ length (commands_of told.now) }
         ensures { AreMade (fold J.start (commands_of told.now)) self.now.commands result.now }

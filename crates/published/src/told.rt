@@ -13,7 +13,7 @@ use crate::site::Site;
 use recovery::Receipt;
 use std::marker::{Model, PhantomData};
 
-/// A token of what was published: a beginning of the run's log that was seen. Its commands are a beginning of the run's order. Contracts
+/// A token of what was published: a prefix of the run's log that was seen. Its commands are a prefix of the run's order. Contracts
 /// see it as its batches, the oldest first.
 #[derive(Drop)]
 pub struct Told<D, J: Site> {

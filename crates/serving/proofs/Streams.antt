@@ -218,7 +218,7 @@ module _ {D : Type 0} (does : D → Exchange → D → Type 0) where
     stopped = stops-at-before more stops.rest stops.mid stops.desk_mid e stops.output_mid p stops.stopped;
   }
 
-  -- and in a piece behind a first part of it
+  -- and in a piece behind a prefix of it
   pub stops-within : (front part rest piece : List ℕ) (old mid : Session) (d e f : D) (o p q : Option (List ℕ)) → piece ≡ (front ++ part) ++ rest
       → ServesBytes does old front mid d e o p → StopsBytes does mid part e f p q → StopsBytes does old piece d f o q
   stops-within front part rest piece old mid d e f o p q whole first second =

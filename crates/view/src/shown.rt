@@ -1,4 +1,4 @@
-//! What readers are shown, and how it goes on.
+//! What readers are shown, and how it grows.
 ghost use Rattle.std.specs.Prelude.{◌≡◌};
 
 use crossbeam_utils::rule::{Outcome, Protocol};

@@ -105,7 +105,7 @@ const ROWS: [Row; 11] = [
         back: b"",
         replies: "",
     },
-    // 1,024 operations, each of which inserts nothing.
+    // 1,024 operations, where each inserts nothing.
     Row {
         front: b"{\"do\":\"hello\",\"source\":\"a\"}\n{\"do\":\"create\",\"doc\":\"d\",\"n\":1,\"ops\":[{\"insert\":\"\"}",
         middle: b",{\"insert\":\"\"}",

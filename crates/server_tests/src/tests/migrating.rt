@@ -122,7 +122,7 @@ fn a_store_of_the_first_format_is_brought_over(rt: HostRuntime) {
     remove(&rt, new);
 }
 
-/// A file of these bytes is brought over to, and becomes that many bytes, of which one behind the layout is as it was.
+/// A file of these bytes is brought over to, and becomes that many bytes, where one behind the layout is unchanged.
 fn is_filled<
     R: Files<File = File>
         + AllocGlobal
