@@ -17,7 +17,7 @@ fold-more : (state : State) (commands : List Taken) (taken : Taken) → fold sta
 fold-more state [] taken = refl
 fold-more state (first ∷ others) taken = fold-more (grown state first) others taken
 
--- a board from which nothing was taken yet
+-- a board to which nothing was submitted yet
 pub begun_within : (start : State) (told : List (List Taken)) → told ≡ [] → IsWithin (begun_board start) told
 begun_within start told none =
     subst (λ (t : List (List Taken)). IsWithin (begun_board start) t) (sym none)

@@ -60,7 +60,7 @@ takens_long : (entries : List Entry) → length (takens entries) ≡ length entr
 takens_long [] = refl
 takens_long (first ∷ others) = ap (λ n. suc n) (takens_long others)
 
--- of two beginnings of one order the shorter begins the longer
+-- of two prefixes of one order the shorter begins the longer
 pub covered : (commands : List Taken) (here there all : List Entry) → IsPrefix commands (takens here) → IsPrefix here all → IsPrefix there all
     → length there ≤ length commands → IsPrefix (takens there) commands
 covered commands here there all begin first second le =

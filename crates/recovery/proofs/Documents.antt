@@ -157,7 +157,7 @@ module _ (pick : Pick) (entries : List Taken) (lists : List (List Taken)) (by : 
       (ap (picked pick) (cells-past pairs number past), sym (by number) ∙ get_or_past lists number [] (omega (arith, all, past))))
       (cases_lt number (length pairs)))
 
--- Where the parts stand for a state, the next number's document is read.
+-- Where the parts represent a state, the next number's document is read.
 module _ (pick : Pick) (entries : List Taken) (lists : List (List Taken)) (by : AreByDocument entries lists) (pairs whole : List Pair) (state found : State)
     (to : ReadTo pairs pick entries lists state) (alike : (n : ℕ) → n < length pairs → cells_at whole n ≡ cells_at pairs n)
     (stand : StandFor state.limits whole entries pick found)
@@ -330,7 +330,7 @@ all_read format honest content shape pick lists known state so_far count lists_c
       (ends pick entries lists by so_far.pairs state (so_far.reads entries by) (omega (arith, lists_count, count, so_far.count)));
 }
 
--- Where the next number can't be read, the parts stand for no state.
+-- Where the next number can't be read, the parts represent no state.
 pub none_stand : (format : Format) (honest : Type 0) (content : List ℕ) (shape : Shape) (pick : Pick) (lists : List (List Taken)) (known : List Cells) (state : State) (own : List Taken)
     → SoFar format honest content shape pick lists known state → honest → length known < shape.docs → own ≡ get_or lists (length known) []
     → ((pair : Pair) → HoldsPairIn format (cells_place shape (length known)) shape.cell (length known) content pair

@@ -111,7 +111,7 @@ module _ (shape : Shape) (number : ℕ) (old content : List ℕ) (same : SameOut
       };
     }
 
--- what holds of the one that is set and of the others as they were holds of each
+-- what holds of the one that is set and of the others before holds of each
 pub set_each : {A : Type 0} (P : ℕ → A → Type 0) (xs : List A) (number : ℕ) (x : A) → P number x
     → ((n : ℕ) (a : A) → (number ≡ n → ⊥) → slice_get xs n ≡ Some a → P n a) → (n : ℕ) (a : A) → slice_get (set xs number x) n ≡ Some a → P n a
 set_each P [] number x here each n a is = absurd (omega (arith, slice_get_within [] n a is))

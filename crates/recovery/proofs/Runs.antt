@@ -1,4 +1,4 @@
--- Steps of a run, and what contents stand for within it.
+-- Steps of a run, and what contents represent within it.
 use Rattle.std.proofs.Common.{◌≡◌, inl, inr, ℕ, ◌+◌, ◌<◌, List, [], ◌∷◌, ◌++◌, length, take, get_or, refl, sym, ◌∙◌, ap, subst, arith}
 use Rattle.std.proofs.lemmas.List.{take_more, take_all}
 use Rattle.disk.specs.declared.device.Disk.{Ghosts}

@@ -1,4 +1,4 @@
--- Which parts the content of a device holds, and which state they stand for.
+-- Which parts the content of a device holds, and which state they represent.
 use Rattle.std.specs.Prelude.{◌≡◌, ℕ, ◌-◌, true, Option, List, [], map, All}
 use Rattle.std.specs.List.{flat_map}
 use Rattle.revision.specs.Command.{Taken, edits}

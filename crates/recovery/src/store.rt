@@ -242,7 +242,7 @@ impl<D: Disk> Store<D> {
         // What an Ok hands out names just this batch.
         ensures receipt { IfOk result (λ receipt. receipt ≡ batch.now) }
 
-        // When each refusal comes. Want of memory may be told in place of `Stranger`, but not where the first command continues nothing.
+        // When each refusal comes. `NoMemory` may come in place of `Stranger`, but not where the first command continues nothing.
         ensures faults { FailsAtFaults result self.old self.new }
         ensures full { has_failed self.old ≡ false
             → (IsErrOf result Refusal.JournalFull ↔ (has_room self.old batch.now ≡ false)) }

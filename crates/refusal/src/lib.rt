@@ -92,7 +92,7 @@ pub enum Refusal {
     NotFormatted = 30,
     /// The device holds a store already.
     AlreadyFormatted = 31,
-    /// The device's bytes stand for no state.
+    /// The device's bytes represent no state.
     Damaged = 32,
     /// A number of the shape is out of range, or the device is too short.
     BadShape = 33,

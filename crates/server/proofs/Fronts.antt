@@ -1,4 +1,4 @@
--- Beginnings of a text that are written.
+-- Prefixes of a text that are written.
 use Rattle.std.proofs.Common.{◌≡◌, ◌++◌, ◌+◌, ◌≤◌, List, ℕ, [], ◌∷◌, suc, length, take, refl, subst, arith, Option, Some, None, Result, Ok, Err, OnErr, sym, ap, ◌∙◌}
 use Rattle.std.proofs.lemmas.List.{take_at, take-append-le, length-append}
 use Rattle.std.specs.Io.KnownBytes.{Appends, Keeps}

@@ -91,7 +91,7 @@ refused_counts start old next command refusal (inr (failed, stops)) = by_submits
         by_reply (inl same) = inl (submits.counts ∙ same)
         by_reply (inr more) = inr (failed, submits.counts ∙ more)
 
--- a seat counts just what its desk answered
+-- a seat counts exactly what its desk answered
 pub counts_all : (start : State) (old last : Desk) (asked : List Exchange) → Asks (PassesAtHub start) old asked last → Counts old.counted asked last.counted
 counts_all start old last [] asks = ap (λ (d : Desk). d.counted) asks
 counts_all start old last (Answered command (Ok (Taken revision)) ∷ others) (next, passes, rest) =

@@ -59,7 +59,7 @@ fn plain_length(text: &[u8]) -> usize
     length
 }
 
-// Whether a byte of a text may not stand for itself.
+// Whether a byte of a text has to be escaped.
 fn is_escaped(byte: u8) -> bool
     ensures { result ≡ false → escape_byte byte ≡ byte ∷ [] }
 {

@@ -170,7 +170,7 @@ impl Session {
         // It answers whether they were told.
         ensures heard { IfOk result (λ heard. Passes D.does self.old (call_of heard) self.new desk.old desk.new
             (O.contents out.old) (O.contents out.new)) }
-        // A write that fails ends the session, and nothing else does. A beginning of the news was written.
+        // A write that fails ends the session, and nothing else does. A prefix of the news was written.
         ensures stopped { OnErr result (self.old.ended ≡ false
             → StopsNews D.does self.old self.new desk.old desk.new (O.contents out.old) (O.contents out.new)) }
         ensures cause { OnErr result (self.old.ended ≡ false → O.has_failed out.new ≡ true) }

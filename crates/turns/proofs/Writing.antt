@@ -58,7 +58,7 @@ none_longer old new first same longer begins =
     let within = (prefix-length first new begins).0 in
     absurd (omega (arith, longer.1, within, ap length same))
 
--- of two beginnings of one list one begins the other
+-- of two prefixes of one list one is a prefix of the other
 compare : (first mid all : List (List Taken)) → IsPrefix first all → IsPrefix mid all → IsPrefix first mid ⊎ IsShorter mid first
 compare first mid all begins also = by_length (cases_lt (length mid) (length first))
   where
@@ -235,7 +235,7 @@ module _ {D J : Type 0} {disk : Ghosts D} where
             (inl (found_now (store_of new) (goes.opens (works worked) is_open) content left));
       }
     where
-      -- what the store holds then is just what is published
+      -- what the store holds then is exactly what is published
       now_published : (first : List (List Taken)) → Goes (IsBeginning (told_count old) start (given_to new)) (store_of old) (store_of new) → first ≡ told_of new
           → WasAt start (told_count old) first (given_to new) (store_of old) (store_of new)
       now_published first mapped all = record {

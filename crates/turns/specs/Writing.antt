@@ -81,7 +81,7 @@ module _ {D J : Type 0} {disk : Ghosts D} where
   abbrev pub IsUnrefused : Flusher D J disk → Flusher D J disk → Type 0
   IsUnrefused old new = IsUpkeep {A = Unit {0}} (Ok tt) old new
 
-  -- Just one batch was published.
+  -- Exactly one batch was published.
   pub record IsOneMore (old new : Flusher D J disk) : Type 0 where
     pub batch : List Taken
     pub told : told_of new ≡ told_of old ++ batch ∷ []

@@ -16,7 +16,7 @@ use Rattle.view.specs.declared.publisher.Stage.TheVariants.{Idle, Held, Logged, 
 abbrev pub news_of : Books → State → List Taken → List (List Taken) → News
 news_of book start batch next = record { batch = batch; mark = record { book = book; start = start ∷ []; batches = next } }
 
--- what is shown is what just these batches make of the start
+-- what is shown is what exactly these batches make of the start
 abbrev pub AreShown : Books → State → List (List Taken) → Seen → Type 0
 AreShown book start told shown = IsShown book start shown × (shown.mark.batches ≡ told)
 

@@ -12,11 +12,11 @@ use Rattle.delta.specs.Operation.{Operation}
 use Rattle.optext.specs.Described.{key_of, scalar_of, delta_of}
 use Rattle.session.specs.declared.tokened.fields.Fields.{Fields}
 
--- the tokens begin with a value, which nests no deeper than a depth, and go on with others
+-- the tokens are a value, which nests no deeper than a depth, and others behind it
 abbrev pub Reads : ℕ → List Token → Data → List Token → Type 0
 Reads depth tokens value left = (nests : ℕ) → depth ≤ nests → converted of_json (value_at nests tokens) ≡ Some (value, left)
 
--- the tokens begin with such a value, and go on with others
+-- the tokens are such a value, and others behind it
 abbrev pub Spells : (Data → Type 0) → ℕ → List Token → List Token → Type 0
 Spells Is depth tokens left = (value : Data) × Is value × Reads depth tokens value left
 
