@@ -28,7 +28,7 @@ MoreBatches =
     (least : ℕ) (start : State) (batches with_more l : List (List Taken)) (content : List ℕ) → with_more ≡ batches ++ l
     → IsBeginning least start batches content → IsBeginning least start with_more content
 
--- During a write of batches behind others that are committed: a content that represents the state without them or with them represents
+-- During a write of batches after others that are committed: a content that represents the state without them or with them represents
 -- a prefix of all.
 abbrev pub WithinWrite : Type 0
 WithinWrite =

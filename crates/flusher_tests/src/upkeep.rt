@@ -105,7 +105,7 @@ fn turn<J: Site, R: Wait + Abort + AllocGlobal>(
     assert!(rt; turned.is_ok());
 }
 
-// Makes a turn in which nothing is to be written. No segment is left behind it that could be retired, and no job of the first document is due
+// Makes a turn in which nothing is to be written. No segment is left after it that could be retired, and no job of the first document is due
 // that isn't out.
 fn idle_turn<J: Site, R: Wait + Abort + AllocGlobal>(
     rt: &R,

@@ -27,7 +27,7 @@ use std::mem;
 use std::sync::ledger::{Blank, Book, Share};
 use world::{Board as Inner, Entry};
 
-/// So many code units the documents beside commands may have, if all are as long as the last one.
+/// The documents beside commands have at most so many code units, counted as if all were as long as the newest one.
 const MOST_UNITS: u64 = 1 << 22;
 
 /// The order of the commands that were taken since a store was opened, with the state after them, how many are taken off to be written
@@ -162,7 +162,7 @@ impl<D, J: Site> Board<D, J> {
         self.board.untaken().is_empty()
     }
 
-    /// A seat more, with nothing counted yet. Refused with `NoSeat` exactly when none is left to give, and then nothing has changed. It takes no memory.
+    /// A seat more, with nothing counted yet. Refused with `NoSeat` exactly when none is left, and then nothing has changed. It takes no memory.
     pub fn seat(&mut self) -> Result<Seat<J>, Refusal>
         ensures ok { OnOk result (self.old ≡ record self.new { left = self.new.left + 1 }) }
         ensures new { IfOk result (λ seat. seat ≡ 0) }

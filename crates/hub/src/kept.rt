@@ -196,7 +196,7 @@ impl<D, J: Site> Kept<D, J> {
         }
     }
 
-    // Submits commands one after another, each as `submit` does, and puts what comes of them into a list, which has room for them. It gives
+    // Submits commands one after another, each as `submit` does, and puts their answers into a list, which has room for them. It gives
     // the token of what is settled, where that holds one of the tickets already.
     pub(crate) fn submit_all(
         &mut self,
@@ -336,7 +336,7 @@ impl<D, J: Site> Kept<D, J> {
     }
 }
 
-// Puts what comes of a submission behind others, for which there is room.
+// Puts the answer to a submission behind others; there is room for it.
 fn push_in_room<J: Site>(
     answers: &mut Vec<Result<Ticket<J>, NotSubmitted<J>>>,
     submitted: Result<Ticket<J>, NotSubmitted<J>>,

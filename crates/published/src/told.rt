@@ -114,7 +114,7 @@ impl<D, J: Site> Told<D, J> {
         }
     }
 
-    /// Publishes a batch that was committed behind the batches of this token, which has to be of the whole log, and gives the token that ends
+    /// Publishes a batch that was committed after the batches of this token, which has to be of the whole log, and gives the token that ends
     /// with it. The batch has to be the next part of the order, and the log counts fewer than 2^64 commands. It takes no memory.
     pub fn add(&self, log: &mut Log<D, J>, receipt: &Receipt<D>, ordered: &Ordered<J>) -> Told<D, J>
         requires whole { log.old ≡ self.now }

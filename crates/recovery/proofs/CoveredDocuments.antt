@@ -196,7 +196,7 @@ module _ {D : Type 0} {disk : Ghosts D} where
           | inl low ↦ absurd (needed (omega (arith, low, all n)))
         ]
 
-    -- behind the last document all are covered
+    -- after the last document all are covered
     pub all_covered : (bound : ℕ) → ((n : ℕ) → bound ≤ n → marked n ≡ 0) → AreCoveredTo bound marked start is_open new → AreCovered segment (known_marks start) start is_open new
     all_covered bound none_past covered = record {
       goes_on = covered.goes_on;

@@ -40,7 +40,7 @@ module _ {D : Type 0} {disk : Ghosts D} where
     honest = (λ honest. honest, λ honest. honest);
   }
 
-  -- a call behind one that was Ok
+  -- a call after one that was Ok
   pub faults_on : {A B : Type 0} {old mid new : Store D disk} (answer : A) (result : Result B Refusal)
       → FailsAtFaults (Ok answer) old mid → FailsAtFaults result mid new → FailsAtFaults result old new
   faults_on {A} {B} {old} {mid} {new} answer result first second = record {

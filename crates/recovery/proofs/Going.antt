@@ -146,7 +146,7 @@ module _ {D : Type 0} {disk : Ghosts D} where
       moments works is_open (inl failed) = subst (LeavesOnly disk P (device_of old)) (sym (second.stays failed).0) (first.any_moment works is_open)
       moments works is_open (inr unfailed) = goes_on_run (first.any_moment works is_open) (second.any_moment unfailed (first.opens unfailed is_open))
 
-  -- calls that leave the state, one behind the other
+  -- calls that leave the state, one after the other
   pub goes_same : {old mid new : Store D disk} → state_of mid ≡ state_of old → Goes (λ content. FoundAs content (state_of old)) old mid
       → Goes (λ content. FoundAs content (state_of mid)) mid new → Goes (λ content. FoundAs content (state_of old)) old new
   goes_same {old} {mid} {new} same first second =

@@ -69,7 +69,7 @@ module _ {D : Type 0} {disk : Ghosts D} where
   still {old} {mid} device failed keeps works is_open =
       (goes_still {P = λ content. FoundAs content (state_of old)} {old = old} {new = mid} device failed keeps (λ is_open. found_as _ _ (found_open old is_open))).any_moment works is_open
 
-  -- the call behind one that called nothing began where that one did
+  -- the call after one that called nothing began where that one did
   pub from_there : (old mid new : Store D disk) → device_of mid ≡ device_of old → state_of mid ≡ state_of old
       → LeavesOnly disk (λ content. FoundAs content (state_of mid)) (device_of mid) (device_of new)
       → LeavesOnly disk (λ content. FoundAs content (state_of old)) (device_of old) (device_of new)

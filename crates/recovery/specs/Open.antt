@@ -183,7 +183,7 @@ module _ {D : Type 0} {disk : Ghosts D} where
     pub others : (document : ℕ) → document ≢ under_way → ¬ HasNone segment document old
         → IsLeft old is_open new goes_on document ⊎ IsRaised old new goes_on document
 
-  -- After a commit for which room was made: the oldest segment was freed first, and the batch committed behind that.
+  -- After a commit for which room was made: the oldest segment was freed first, and the batch committed after that.
   pub record IsCommittedBehind (commands : List Taken) (old : Store D disk) (is_open : IsOpen old) (new : Store D disk) : Type 0 where
     pub mid : Store D disk
     pub freed : IsFreedNow old is_open mid

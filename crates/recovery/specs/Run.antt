@@ -94,7 +94,7 @@ module _ {D : Type 0} {disk : Ghosts D} where
   IsTaken Retire old new =
       (has_failed new ≡ false) × (state_of new ≡ state_of old) × ((is_open : IsOpen old) → IsGivenUp old is_open new)
 
-  -- steps were taken, one behind the other
+  -- steps were taken, one after the other
   abbrev pub AreTaken : List StoreStep → Store D disk → Store D disk → Type 0
   AreTaken [] old new = new ≡ old
   AreTaken (step ∷ steps) old new = (mid : Store D disk) × IsTaken step old mid × AreTaken steps mid new

@@ -221,7 +221,7 @@ impl<D: Disk> Store<D> {
 
     /// Writes a batch, and answers with its receipt once it is on the disk: two syncs, and two more where a slot is opened for it.
     /// First comes `JournalFull`, exactly when the batch has more bytes than the newest segment has left and no slot is free. Next
-    /// comes `Stranger`, where it doesn't continue the state: of its first command that is told before memory is taken, and of a
+    /// comes `Stranger`, where it doesn't continue the state: for its first command before memory is taken, and for a
     /// later one unless memory runs out before. `NoMemory` comes before any call of the device, and leaves all unchanged. After `Fault`
     /// the store has failed: every later call answers `Fault`, until the device is opened again. The documents change only once
     /// the batch is on the disk, and no refusal changes them.

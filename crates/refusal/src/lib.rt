@@ -58,7 +58,7 @@ pub enum Refusal {
     BadName = 8,
     /// The number is not the next one.
     Gap = 9,
-    /// The number lies behind the source's last one.
+    /// The number is below those of the source's window.
     OldNumber = 10,
     /// The document has as many sources as it may have.
     TooManySources = 11,

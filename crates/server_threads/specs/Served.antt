@@ -49,7 +49,7 @@ module _ {D : Type 0} {disk : Ghosts D} where
     pub stand : AllStand (fold start (commands_of first)) answered
     pub lasts : has_failed old ≡ false → IsOpen old → LeavesOnly disk (HoldsAll answered) (device_of was.between) (device_of new)
 
-  -- What a desk answered is kept. It was told of some first batches of those that are written, within which each command that it
+  -- What a desk answered is kept. It was told of a prefix of the batches that are written, within which each command that it
   -- acknowledged has its place, as the rule of acceptance says; its seat counted what `Counts` says; all that it acknowledged stands in what
   -- the store holds; and for any point in the exchange there was a moment from which on no crash takes away what was acknowledged by then.
   pub record KeepsAnswers (written waiting : List (List Taken)) (old new : Store D disk) (last : Desk) : Type 0 where

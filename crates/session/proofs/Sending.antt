@@ -223,7 +223,7 @@ module _ {D : Type 0} (does : D → Exchange → D → Type 0) where
       ended = ended;
     }
 
-  -- a byte behind what was fed
+  -- a byte after what was fed
   pub ahead_behind : (first old new : Session) (piece : List ℕ) (byte : ℕ) (begun desk desk' : D) (clean out out' : Option (List ℕ)) (asked : List Exchange) (text : List ℕ)
       → Feeds does first piece old begun desk clean out → Replies old (byte ∷ []) asked new text → Asks does desk asked desk' → Appends out out' text
       → Ahead does first (piece ++ byte ∷ []) [] new begun desk' clean out'

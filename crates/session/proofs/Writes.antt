@@ -25,7 +25,7 @@ pub appends-nothing : (known : Option (List ℕ)) → Appends known known []
 appends-nothing None = tt
 appends-nothing (Some bytes) = sym (append-nil bytes)
 
--- one write behind another
+-- one write after another
 pub appends-both : (a b c : Option (List ℕ)) (front back : List ℕ) → Appends a b front → Appends b c back → Appends a c (front ++ back)
 appends-both None b c front back first second = tt
 appends-both (Some x) None c front back first second = absurd first

@@ -67,7 +67,7 @@ abbrev pub subscriptions_shown : Subscriptions → Option State → Subscription
 subscriptions_shown subscriptions None = subscriptions
 subscriptions_shown subscriptions (Some state) = subscriptions_after subscriptions state
 
--- whether a document, if it is there, has a revision behind the last that was told
+-- whether a document, if it is there, has a revision after the last that was told
 abbrev pub has_later : ℕ → Option (ℕ × DocumentRecord) → Bool
 has_later last None = false
 has_later last (Some found) = nat_lt last (newest found.1.past)

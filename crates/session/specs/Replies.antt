@@ -98,7 +98,7 @@ module _ {D : Type 0} (does : D → Exchange → D → Type 0) where
     pub written : Appends out out' text
 
   -- A write failed within a piece. The replies to its front had been written, and a prefix of the replies to the part after that was
-  -- written. The desk was asked exactly for the front and that part, and the part is one write's: nothing was asked behind it.
+  -- written. The desk was asked exactly for the front and that part, and the part is one write's: nothing was asked after it.
   pub record Stops (old : Session) (piece : List ℕ) (new : Session) (desk desk' : D) (out out' : Option (List ℕ)) : Type 0 where
     pub front : List ℕ
     pub part : List ℕ

@@ -129,7 +129,7 @@ impl Session {
         ensures fed { OnOk result (Feeds D.does self.old piece.now self.new desk.old desk.new
             (O.contents out.old) (O.contents out.new)) }
         // A write that fails ends the session, and nothing else does. The desk was asked for the front of the piece, each command
-        // once, and nothing behind that write. What was due before it had been written, and a prefix of its own text was.
+        // once, and nothing after that write. What was due before it had been written, and a prefix of its own text was.
         ensures stopped { OnErr result (self.old.ended ≡ false
             → Stops D.does self.old piece.now self.new desk.old desk.new (O.contents out.old) (O.contents out.new)) }
         ensures cause { OnErr result (self.old.ended ≡ false → O.has_failed out.new ≡ true) }

@@ -67,7 +67,7 @@ compare first mid all begins also = by_length (cases_lt (length mid) (length fir
     by_length (inr le) = inl (prefix_shorter first mid all begins also le)
 
 module _ {D : Type 0} {disk : Ghosts D} where
-  -- more batches came behind
+  -- more batches came after
   was_longer : {start : State} {least : ℕ} {first batches all : List (List Taken)} {old new : Store D disk} (more : List (List Taken)) → all ≡ batches ++ more
       → WasAt start least first batches old new → WasAt start least first all old new
   was_longer {start} {least} {first} {batches} {all} more whole was = record {

@@ -49,8 +49,8 @@ module _ {D J : Type 0} {disk : Ghosts D} where
   abbrev pub told_count : Flusher D J disk → ℕ
   told_count flusher = length (commands_of (told_of flusher))
 
-  -- Nothing that was published is taken back, and no batch that was given is dropped. A crash at any moment between leaves some first
-  -- batches of those that were given by the end, and no fewer commands than were published at the beginning; a crash at any moment from
+  -- Nothing that was published is taken back, and no batch that was given is dropped. A crash at any moment between leaves a prefix
+  -- of the batches that were given by the end, and no fewer commands than were published at the beginning; a crash at any moment from
   -- a batch's publishing on no fewer than were published with it; and a crash at the end no fewer than are published then. And there was a
   -- moment from which on it leaves no fewer than are published and committed at the end.
   pub record Writes (start : State) (old new : Flusher D J disk) : Type 0 where

@@ -142,7 +142,7 @@ fn fetched(rt: &(impl Abort + AllocGlobal), rule: &Rule, doc: &str, rev: u64) ->
     }
 }
 
-// Serves the next drawn command in a run of its own, with a fetch behind it, and both get the replies of the plain program. What comes is
+// Serves the next drawn command in a run of its own, with a fetch after it, and both get the replies of the plain program. What comes is
 // the command's refusal, where it is refused.
 fn is_answered<
     R: Files<File = File>

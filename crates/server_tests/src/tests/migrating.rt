@@ -8,7 +8,7 @@ use std::sync::Wait;
 use std::thread::Threads;
 use std::time::Clock;
 
-/// Behind the creation of `d` with z: x after it, and the first unit away.
+/// After the creation of `d` with z: x after it, and the first unit away.
 const EDITS: &str =
     "{\"do\":\"edit\",\"doc\":\"d\",\"n\":2,\"base\":1,\"ops\":[{\"retain\":1},{\"insert\":\"x\"}]}\n\
     {\"do\":\"edit\",\"doc\":\"d\",\"n\":3,\"base\":2,\"ops\":[{\"delete\":1}]}\n";
