@@ -45,8 +45,8 @@ module _ {D : Type 0} (does : D → Exchange → D → Type 0) where
     InSending : (piece : List ℕ) (new : Session) (desk' : D) (output' : Option (List ℕ)) → Answers old piece new desk desk' output output'
         → StopsIn old desk output piece desk' output'
 
-  -- Bytes were read from the input, and a write failed: the replies and the news of all turns before were written, and it failed in the turn of the last
-  -- piece. Nothing was asked after that.
+  -- Bytes were read from the input, and a write failed: the replies and the news of all turns before were written, and it failed in the turn of the
+  -- last piece. Nothing was asked after that.
   pub record StopsConversing (old : Session) (desk desk' : D) (input input' output output' : Option (List ℕ)) : Type 0 where
     pub front : List ℕ
     pub piece : List ℕ
