@@ -311,7 +311,7 @@ impl<D, J: Site> Board<D, J> {
         }
     }
 
-    /// Ends the board, all whose seats were given and are tallied: its order is a legal history, which begins as a token of it has it, and
+    /// Ends the board, whose seats were all given and are tallied: its order is a legal history, which begins as a token of it has it, and
     /// is as long as what the seats have counted. It gives that length, and takes no memory.
     pub fn end(self, seats: Tally<J>, ordered: &Ordered<J>) -> usize
         requires all { seats.seats + 1 ≡ J.parts }

@@ -156,7 +156,7 @@ impl<D, J: Site, R: Wait> HubDesk<'_, D, J, R> {
     }
 
     // An edit that is late by many revisions, moved on past what the view shows. None where the command is no such edit, where nothing is
-    // shown, and out of memory. The deltas are shared inside the view, and the edit is moved outside of it.
+    // shown, and where memory runs out. The deltas are shared inside the view, and the edit is moved outside of it.
     fn moved_on(&mut self, alloc: Global, command: &Command) -> Option<Ahead<J>>
         ensures { self.new ≡ self.old }
     {

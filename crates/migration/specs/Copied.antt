@@ -37,7 +37,7 @@ pub record Suits (old shape : Shape) (size : ℕ) : Type 0 where
 abbrev pub StandsFor : List ℕ → State → Type 0
 StandsFor content state = Found content Newer state ⊎ FoundAs content state
 
--- A content names this shape, and is found as an open store of it, whose state agrees with this one but for the limits: each document
+-- A content names this shape, and is found as a store of it that can be opened, whose state agrees with this one but for the limits: each document
 -- has its number, its name, its newest revision with its content and its mark, and its sources with their windows. Its past begins there.
 pub record IsCopied (shape : Shape) (state : State) (content : List ℕ) : Type 0 where
   pub names : Names content shape

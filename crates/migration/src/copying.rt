@@ -52,7 +52,7 @@ pub fn copy<A: Disk, B: Disk>(alloc: Global, old: A, new: &mut B, shape: Shape) 
         × ¬ IsOldFormat (A.seen old) × ((found : StateValue) → ¬ Found (A.seen old) Newer found) }
 
     // From the first sync of a device without a store on, a crash at any moment leaves that device without one, or with one of this shape
-    // that is found as the documents of the old one, and that is open; at Ok the latter.
+    // that is found as the documents of the old one, and that can be opened; at Ok the latter.
     ensures from_sync { A.honest result.old → IsUnformatted (B.seen new.old) → (state : StateValue)
         → StandsFor (A.seen old) state
         → LeavesFromSync (IsUnformattedOrCopied shape state) (history_of ⟦<B as Disk>⟧ new.old)

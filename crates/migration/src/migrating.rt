@@ -53,7 +53,7 @@ pub fn migrate<A: Disk, B: Disk>(alloc: Global, old: &mut A, new: &mut B) -> Res
         × ¬ IsOfFormat Two (A.seen old.old) × ((found : StateValue) → ¬ FoundIn One (A.seen old.old) Newer found) }
 
     // From the first sync of a device without a store on, a crash at any moment leaves that device without one, or with one of the old
-    // shape that is found as the documents of the old one with their windows cut, and that is open; at Ok the latter.
+    // shape that is found as the documents of the old one with their windows cut, and that can be opened; at Ok the latter.
     ensures from_sync { A.honest old.new → IsUnformatted (B.seen new.old) → (state : StateValue)
         → (is : FoundIn One (A.seen old.old) Newer state)
         → LeavesFromSync (IsUnformattedOrMigrated is.shape state) (history_of ⟦<B as Disk>⟧ new.old)
