@@ -60,7 +60,7 @@ impl<D, J: Site> Model for Kept<D, J> {
 }
 
 impl<D, J: Site> Kept<D, J> {
-    // A board at which nobody waits yet, and of which the end wasn't called, with the two rights to it. Nothing else makes them.
+    // A board at which nobody waits yet, and whose end wasn't called, with the two rights to it. Nothing else makes them.
     pub(crate) fn new(board: Board<D, J>) -> (Kept<D, J>, Writer<J>, Closer<J>)
         ensures board { result.0.board ≡ board }
         ensures nobody { result.0.awaited ≡ replicate 64 nobody }
@@ -196,7 +196,7 @@ impl<D, J: Site> Kept<D, J> {
         }
     }
 
-    // Submits commands one after another, each as `submit` does, and puts what comes of them into a list, which has room for them. It gives
+    // Submits commands one after another, each as `submit` does, and puts their answers into a list, which has room for them. It gives
     // the token of what is settled, where that holds one of the tickets already.
     pub(crate) fn submit_all(
         &mut self,
@@ -336,7 +336,7 @@ impl<D, J: Site> Kept<D, J> {
     }
 }
 
-// Puts what comes of a submission behind others, for which there is room.
+// Puts the answer to a submission behind others; there is room for it.
 fn push_in_room<J: Site>(
     answers: &mut Vec<Result<Ticket<J>, NotSubmitted<J>>>,
     submitted: Result<Ticket<J>, NotSubmitted<J>>,

@@ -37,7 +37,7 @@ rests_on_delta (Refuses TooHeavy) = true
 rests_on_delta (Refuses TooWide) = true
 rests_on_delta (Refuses other) = false
 
--- Want of memory may be told in place of this answer: of a creation and of a deletion only where it is taken, since a creation's delta is
+-- `NoMemory` may come in place of this answer: of a creation and of a deletion only where it is taken, since a creation's delta is
 -- looked at as it stands, and a deletion has none; of an edit or an undo only where the answer rests on the delta to be taken, which has to be made first.
 abbrev pub may_want_memory : Action → Answer → Bool
 may_want_memory (Create delta) due = takes_command due

@@ -22,7 +22,7 @@ use std::sync::Wait;
 const MOST_PUT: u32 = 64;
 
 /// How often a milestone is due, the ends of the channels to the composers, the documents that are looked at next, one job at most that found
-/// no place in the channel, and one at most that is done and for whose putting memory ran out.
+/// no place in the channel, and one composed milestone at most that is still to be put, since memory ran out.
 #[derive(Drop)]
 pub(crate) struct Exchange {
     every: u32,

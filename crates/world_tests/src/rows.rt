@@ -198,7 +198,7 @@ fn is_seen(follower: &Follower, seen: Seen) -> bool {
     }
 }
 
-// Goes on with the events of a row.
+// Continues with the events of a row.
 fn go_on(rt: &impl Abort, follower: &mut Follower, row: &Row) {
     for event in row.0 {
         assert!(rt; follower.step(*event).is_ok());

@@ -5,7 +5,7 @@ use mathlib.Core.List.{IsPrefix}
 use Rattle.flusher.specs.Holding.{store_of, told_of, committed_of}
 use Rattle.server_threads.proofs.desks.tally_desks.Given as goal
 
--- the desks so far are tallied, each of which was told of no more than is published and committed
+-- the desks so far are tallied, and each was told of no more than is published and committed
 abbrev pub invariant-loop-desk : goal.invariant-loop-desk
 invariant-loop-desk g l = record {
   others : l.yielded ++ into_iter_items l.desk-iterator ≡ l.fn.desks.items;

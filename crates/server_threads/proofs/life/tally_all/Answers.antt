@@ -4,7 +4,7 @@ use Rattle.recovery.specs.Found.{commands_of}
 use Rattle.server_threads.proofs.Tallied.{from_nothing}
 use Rattle.server_threads.proofs.life.tally_all.Goals as goal
 
--- the desks are tallied, of a flusher that goes on unchanged
+-- the desks are tallied, and the flusher is unchanged
 pub returns-clause-tallied : goal.returns-clause-tallied
 returns-clause-tallied g c = record {
   store = c.tally_desks.ensures.store;
