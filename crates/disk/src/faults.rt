@@ -1,4 +1,4 @@
-//! A device in memory that fails or stops where it is told to.
+//! A device in memory that fails or stops where it is told to, for tests: no program uses it.
 ghost use Rattle.std.specs.Prelude.{◌≡◌, ◌+◌, ◌≤◌, true, false, min, [], length, slice_range, IsTrue, IfOk, OnOk, ◌↔◌, ◌&&◌, ◌||◌};
 ghost use Rattle.disk.specs.Device.{overwritten, most_faults, IsWrite, IsAtMostOneStep};
 ghost use Rattle.disk.specs.Crash.{MayLeaveNow, history_of};

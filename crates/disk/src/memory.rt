@@ -1,4 +1,4 @@
-//! A device in memory. It keeps a record of its calls, from which its past is read off.
+//! A device in memory, for tests: no program uses it. It keeps a record of its calls, from which its past is read off.
 ghost use Rattle.std.specs.Prelude.{◌≡◌, ◌+◌, ◌<◌, ◌≤◌, min, [], ◌∷◌, ◌++◌, length, replicate, IsTrue, IfOk, OnOk, OnErr};
 ghost use Rattle.std.specs.List.{list_all};
 ghost use Rattle.disk.specs.Device.{overwritten, most_faults};

@@ -1,4 +1,4 @@
-//! Whole runs of a store.
+//! Whole runs of a store, for tests: no program makes one.
 ghost use Rattle.std.specs.Prelude.{◌≡◌, ◌≢◌, ◌⊎◌, ◌↔◌, ◌+◌, ◌*◌, ◌<◌, ◌≤◌, ℕ, List, [], true, false, length, take, All, OnOk, OnErr, IfErr, IsErrOf};
 ghost use Rattle.disk.specs.Device.{Rose};
 ghost use Rattle.disk.specs.Crash.{LeavesOnly, MayLeaveNow};

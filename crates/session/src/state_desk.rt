@@ -1,4 +1,4 @@
-//! A desk of a state alone.
+//! A desk of a state alone, for tests: no program uses it.
 ghost use Rattle.std.specs.Prelude.{◌≡◌, ◌⊎◌, true, [], ◌∷◌, false, IfErr, IfOk, IsErr, OnErr, OnOk};
 ghost use Rattle.revision.specs.State.{State, grows, grown};
 ghost use Rattle.session.specs.declared.reply.Reply.TheVariants as reply;

@@ -1,4 +1,4 @@
-//! A plain program that goes through a schedule, step by step.
+//! A plain program that goes through a schedule, step by step, for tests: richd runs it nowhere.
 ghost use Rattle.std.specs.Prelude.{◌≡◌, [], OnOk, OnErr};
 ghost use Rattle.world.specs.Followed.{begun_followed, made_by, submitted, submitted_numbered, resent, taken_off, written, shown, settled, acknowledged, may_leave, forgotten, stopped, opened, running, followed_step, Adds};
 

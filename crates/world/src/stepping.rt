@@ -1,4 +1,4 @@
-//! A plain program that steps a world.
+//! A plain program that steps a world, for tests: richd runs it nowhere.
 ghost use Rattle.std.specs.Prelude.{◌≡◌, ◌<◌, ◌≤◌, ◌+◌, ◌++◌, ◌&&◌, [], true, nat_le, length, take, map, option_to_list, slice_get, if◌then◌else◌, IfOk, OnOk, OnErr, IsOkUnless};
 ghost use Rattle.std.specs.Vec.{vec_len, vec_capacity};
 ghost use Rattle.revision.specs.Acceptance.{answer};
