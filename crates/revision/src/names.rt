@@ -14,7 +14,7 @@ pub(crate) struct Names {
 }
 
 impl Names {
-    /// None. It takes no memory.
+    /// A table without names. It takes no memory.
     pub(crate) fn new(alloc: Global) -> Names
         ensures { (q : List ℕ) → get_by_text result.map q ≡ None }
     {

@@ -27,7 +27,7 @@ use refusal::Refusal;
 use std::alloc::Global;
 use std::marker::Model;
 
-/// So many revisions lie below the floor at most before they are let go of.
+/// The revisions below the floor are let go of once there are so many of them.
 const MOST_BELOW: u64 = 512;
 
 /// So many revisions at least lie between two documents that `keep_apart` keeps, and between two with the sources beside them, which

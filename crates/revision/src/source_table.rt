@@ -60,7 +60,7 @@ impl Model for SourceTable {
 }
 
 impl SourceTable {
-    /// None. It takes no memory.
+    /// A table without sources. It takes no memory.
     pub fn new(alloc: Global) -> SourceTable
         ensures { result ≡ record { accepted = empty; prepared = empty } }
     {

@@ -54,7 +54,7 @@ impl Model for Sources {
 }
 
 impl Sources {
-    /// None. It takes no memory.
+    /// No sources. It takes no memory.
     pub fn new(alloc: Global) -> Sources
         ensures { result ≡ empty }
     {
