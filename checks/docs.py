@@ -13,6 +13,10 @@ usage: checks/docs.py     in any folder; it prints a line for each finding, and 
 - docs/TESTS.md has as many tests, crates of tests, rows, wrong bodies and calls of scripts as there are, and names each script of checks/.
 - A link of these pages leads to a file, and to a heading of it.
 - Each public function, type and trait of the crates has a comment.
+- No comment of the crates' .rt and .antt files, and no page, has a phrase of PHRASES, which says what to write in its place. The lines of one
+  comment are read together.
+- No name of a type (struct, enum, trait; record or data in specs/) stands in two crates, those of tests aside, but those of TWICE; and each of
+  these does.
 - crates.txt lists each crate, behind those that it stands on.
 
 What is quoted and is neither a name nor a path (a line of JSON, a command line, a formula) isn't looked at.
@@ -29,6 +33,31 @@ CRATES = TOP / "crates"
 
 # quoted words that no file of the crates has: of the kit, of systems, of other programs, and the parts of a name or of bytes
 ELSEWHERE = {"may_wait", "StateDirectory", "TCP_NODELAY", "perf", "chop", "_of_fault", "a5"}
+
+# phrases that a reader has to read twice, and what says the same at once
+PHRASES = {
+    "just where": "exactly where",
+    "just when": "exactly when",
+    "want of memory": "out of memory, as in: refused as out of memory alone",
+    "finds no memory": "where memory runs out",
+    "first ones": "a prefix, or the first N",
+    "a first part": "a prefix",
+    "as it was": "unchanged",
+    "goes on": "what happens: continues, is open, keeps serving",
+    "stands for": "represents, or means",
+    "of which": "whose, with, or where; or a sentence of its own",
+    "in a hundred": "%",
+    "comes of its input": "the output is the replies to its input",
+}
+
+# names that types of two crates or more have today (docs/WORDS.md says what some of them mean). A new type gets a name of its own.
+TWICE = {
+    "Action", "Ahead", "Answer", "AreMarked", "AreParts", "Batch", "Begun", "Board", "Call", "Change", "ComesOf", "Command", "Content", "Cursor",
+    "Desk", "Ended", "Event", "Exchange", "Failure", "Fits", "FitsNow", "Front", "HasRoom", "IsAppended", "IsFree", "IsKeptFrom", "IsNext",
+    "IsPart", "IsReadAs", "IsStep", "IsUncommitted", "IsWritten", "Kept", "Key", "Kind", "Limits", "Log", "Mark", "News", "Nothing", "Opened",
+    "Order", "Part", "Past", "Peer", "Place", "Record", "Reply", "Run", "Sent", "Shown", "Shows", "Spells", "Stands", "StandsFor", "State",
+    "Step", "Stop", "Stops", "Tally", "Ticket", "Told", "Unread", "Waiting", "Written",
+}
 
 SUFFIXES = (".rt", ".antt", ".edit", ".md", ".py", ".mjs", ".txt")
 findings = []
@@ -219,7 +248,6 @@ def check_counts():
             find(script, "docs/TESTS.md doesn't name it")
 
 
-# A link within the repository leads to a file, and to a heading of it.
 def check_comments():
     for path in sorted(CRATES.glob("*/src/**/*.rt")):
         lines = path.read_text().splitlines()
@@ -232,6 +260,44 @@ def check_comments():
                 find(path, f"{told[1]} has no comment")
 
 
+# A text with its lines, where all but comments is blank. The lines of one comment stand in a row.
+def only_comments(path):
+    parts = {
+        ".rt": r'(?<!\w)b?r(#*)"[\s\S]*?"\1|"(?:\\[\s\S]|[^"\\])*"|\'(?:\\[^\']+|[^\\\'\n])\'|//[/!]?(?P<comment>[^\n]*)',
+        ".antt": r'"(?:\\.|[^"\\\n])*"|(?<!\S)--(?P<comment>[^\n]*)',
+    }[path.suffix]
+    text, end, kept = path.read_text(), 0, ""
+    for it in re.finditer(parts, text):
+        kept += re.sub(r"[^\n]*\S[^\n]*", "\0", text[end:it.start()])
+        kept += it["comment"] if it["comment"] is not None else re.sub(r"[^\n]+", "\0", it[0])
+        end = it.end()
+    return kept
+
+
+def check_phrases():
+    pages = [it for it in [TOP / "README.md", *files(TOP / "docs", ".md")] if it != contracts.PAGE]
+    for path in [*files(CRATES, ".rt", ".antt"), *pages]:
+        text = path.read_text() if path.suffix == ".md" else only_comments(path)
+        for phrase, better in PHRASES.items():
+            for it in re.finditer(rf"\b{phrase}\b".replace(" ", r"\s+"), text, re.I):
+                find(path, f"line {text.count(chr(10), 0, it.start()) + 1} has `{phrase}`; say: {better}")
+
+
+def check_names():
+    crates = {}
+    for folder, kinds, suffix in (("src", "struct|enum|trait", ".rt"), ("specs", "record|data", ".antt")):
+        for crate in sorted(it for it in CRATES.iterdir() if not it.name.endswith("_tests")):
+            for path in files(crate / folder, suffix):
+                for name in re.findall(rf"^ *(?:pub(?:\(\w+\))? )?(?:{kinds}) (\w+)", path.read_text(), re.M):
+                    crates.setdefault(name, []).append(crate.name)
+    twice = {name: sorted({*those}) for name, those in crates.items() if len({*those}) > 1}
+    for name in sorted(twice.keys() - TWICE):
+        find(CRATES, f"{name} is a type of {', '.join(twice[name])}: give the new one another name")
+    for name in sorted(TWICE - twice.keys()):
+        find(CRATES, f"{name} is a type of one crate at most: take it off TWICE in checks/docs.py")
+
+
+# A link within the repository leads to a file, and to a heading of it.
 def check_links():
     for document in [TOP / "README.md", *files(TOP / "docs", ".md")]:
         for path, anchor in re.findall(r"\]\((?!\w+:)([^)#]*)(?:#([^)]*))?\)", document.read_text()):
@@ -253,6 +319,8 @@ check_quoted()
 check_lengths()
 check_counts()
 check_comments()
+check_phrases()
+check_names()
 check_links()
 print("\n".join(findings) or "All of it agrees.")
 sys.exit(1 if findings else 0)

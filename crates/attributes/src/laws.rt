@@ -57,7 +57,7 @@ pub fn changed_either_way()
     ensures { ChangedEitherWay }
 {}
 
-/// A change and its way back leave everything as it was.
+/// A change and its way back leave everything unchanged.
 pub fn changed_back()
     ensures { ChangedBack }
 {}

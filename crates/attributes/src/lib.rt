@@ -3,7 +3,7 @@
 //! Attributes are a finite map from names to values; a change is a finite map from names to a new value
 //! or to a removal. The types keep what every delta may hold: names of 1 to 64 bytes, in the order of
 //! their bytes, and values that are text, a whole number that JSON keeps exactly, true or false. The
-//! crate promises quill-delta's four operations on attributes, exactly, and refuses them only for want
+//! crate promises quill-delta's four operations on attributes, exactly, and refuses them only as out
 //! of memory. The definitions stand in specs/Attributes.antt; `laws` has what follows from them.
 //! It stands on `refusal`.
 //!

@@ -39,7 +39,7 @@ parts-start first second made before after made_is before_is after_is normal_fir
 pub settled-built : (ops : List Operation) → settled (counted (built ops)) ≡ settled (counted ops)
 settled-built ops = ap settled (counted-spelled (settled (counted ops))) ∙ settled-settled (counted ops)
 
--- what a step makes stands for what it takes
+-- what a step makes represents what it takes
 made-step : (total h whole made rest : Gaps) → settled (joined h whole) ≡ settled total → settled whole ≡ settled (joined made rest)
     → settled (joined (joined h made) rest) ≡ settled total
 made-step total h whole made rest effect step =

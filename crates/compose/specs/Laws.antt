@@ -29,11 +29,11 @@ DefinedComposed =
 abbrev pub ComposesOnce : Type 0
 ComposesOnce = (c e a b : List Operation) → Composes c a b → Composes e a b → c ≡ e
 
--- a gap form and then its inverse leave a document as it was, wherever the first is defined (and also where it isn't)
+-- a gap form and then its inverse leave a document unchanged, wherever the first is defined (and also where it isn't)
 abbrev pub Undone : Type 0
 Undone = (d : List Element) (g : Gaps) → apply (apply d g) (inverse g d) ≡ d
 
--- the test of units tells just where a gap form cuts a pair of a document
+-- the test of units is true exactly where a gap form cuts a pair of a document
 abbrev pub CutsOfUnits : Type 0
 CutsOfUnits = (d : List Element) (g : Gaps) → (cuts_units d g ≡ true) ↔ Cuts d g
 

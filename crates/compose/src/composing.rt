@@ -34,7 +34,7 @@ pub fn compose(alloc: Global, first: &Delta, second: &Delta) -> Result<Delta, Re
 
 /// The delta with the effect of all in turn, from the left; of none, the empty delta. Refused as `compose` refuses the
 /// first delta that can't be composed with those before it; where all are defined in turn on some document and part no pair of it, and
-/// their lengths sum to at most 2^48, for want of memory alone. Each step takes the operations that are there apart and moves
+/// their lengths sum to at most 2^48, as out of memory alone. Each step takes the operations that are there apart and moves
 /// those that the next delta leaves whole, with their texts: after its insertion a text is copied only in a step that parts
 /// it, or that merges it with the text before it. A step's time is linear in the operations that are there, those of the
 /// next delta, and the text that is copied.

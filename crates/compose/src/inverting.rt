@@ -12,7 +12,7 @@ use document::Document;
 use refusal::Refusal;
 use std::alloc::Global;
 
-/// The delta that takes back another on a document: after both the document is as it was. Refused as PastEnd where the delta
+/// The delta that takes back another on a document: after both the document is unchanged. Refused as PastEnd where the delta
 /// reaches past the end of the document, else as CutsPair where it parts a surrogate pair of it; and as NoMemory. (That the
 /// document would have more than 2^48 units after the delta is refused by `Document::apply` alone.) It looks only at what the delta
 /// deletes or changes, copies the text that it deletes once, and steps over the rest chunk by chunk: linear in the operations, the

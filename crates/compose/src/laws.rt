@@ -21,7 +21,7 @@ pub fn composes_once()
     ensures { ComposesOnce }
 {}
 
-/// A delta and its inverse leave a document as it was.
+/// A delta and its inverse leave a document unchanged.
 pub fn undone()
     ensures { Undone }
 {}

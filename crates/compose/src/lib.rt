@@ -23,7 +23,7 @@
 //! use refusal::Refusal;
 //! use std::alloc::Global;
 //!
-//! /// Applies two deltas in turn as one. Refused, the document is as it was.
+//! /// Applies two deltas in turn as one. If refused, the document is unchanged.
 //! pub fn apply_both(
 //!     alloc: Global,
 //!     document: &mut Document,

@@ -99,7 +99,7 @@ fn compose_jobs<R: Threads + Wait, G: HalfGate + Sync>(
     }
 }
 
-/// Two composers, each of which does job after job and hands on what came of it, or the job where there was no memory for it. It returns
+/// Two composers: each does job after job and hands on what came of it, or the job where there was no memory for it. It returns
 /// once the thread that writes has let go of its ends and both have noticed it. Where the system gives no thread there is one composer.
 pub fn compose_workers<R: Threads + Wait + Sync, G: HalfGate + Sync>(
     rt: &R,

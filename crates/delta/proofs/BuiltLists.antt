@@ -79,7 +79,7 @@ nf-same ops h =
     let ends : ends_kept (counted ops) ≡ false = sym (ends-spelled (counted ops)) ∙ (ap ends_plain same ∙ not-true (ends_plain ops) parts.1) in
     ap (λ g. spelled (trimmed g)) (settled-same (counted ops) (IsSettled-counted ops parts.0)) ∙ (ap spelled (trimmed-same (counted ops) ends) ∙ same)
 
--- what is kept stands for all that was given
+-- what is kept represents all that was given
 pub built-append : (a b : List Operation) → built (built a ++ b) ≡ built (a ++ b)
 built-append a b =
     ap (λ g. spelled (settled g)) (counted-append (built a) b ∙ ap (λ g. joined g (counted b)) (counted-spelled (settled (counted a))))

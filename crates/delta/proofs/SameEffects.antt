@@ -110,7 +110,7 @@ same_effect_from m a b normal_a normal_b same =
     (subst (λ n. n ≤ length d) (sym (units_below-counted a)) long_a)
     (subst (λ n. n ≤ length d) (sym (units_below-counted b)) long_b))
 
--- any lists have the same effect just where they have one normal form
+-- any lists have the same effect exactly where they have one normal form
 pub normal_of_same_effect : NormalOfSameEffect
 unfolding shortest
 normal_of_same_effect a b = (

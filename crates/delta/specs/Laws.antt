@@ -39,7 +39,7 @@ SpelledIsBuilt = (g : Gaps) → IsTrue (is_built (spelled (settled g)))
 abbrev pub NormalIsNormal : Type 0
 NormalIsNormal = (g : Gaps) → IsNormal (nf g)
 
--- what a builder keeps stands for all that it was given, whatever comes after
+-- what a builder keeps represents all that it was given, whatever comes after
 abbrev pub BuiltInPieces : Type 0
 BuiltInPieces = (a b : List Operation) → built (built a ++ b) ≡ built (a ++ b)
 
@@ -109,7 +109,7 @@ abbrev pub SameEffectFrom : Type 0
 SameEffectFrom = (m : ℕ) (a b : List Operation) → IsNormal a → IsNormal b
     → ((d : List Element) → m ≤ length d → apply d (counted a) ≡ apply d (counted b)) → a ≡ b
 
--- any two lists have the same effect just where they have one normal form
+-- any two lists have the same effect exactly where they have one normal form
 abbrev pub NormalOfSameEffect : Type 0
 NormalOfSameEffect = (a b : List Operation) → HaveSameEffect a b ↔ (nf (counted a) ≡ nf (counted b))
 

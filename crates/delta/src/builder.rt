@@ -51,7 +51,7 @@ impl Builder {
 
     /// Adds an operation at the end. One of length 0 is ignored, neighbouring deletes, and neighbouring text inserts or
     /// retains of equal attributes, are merged, and an insert after a delete is put before it. Refused as BadOps where
-    /// the base length or the output length would pass 2^48, and as NoMemory; the builder is then as it was.
+    /// the base length or the output length would pass 2^48, and as NoMemory; the builder is then unchanged.
     pub fn push(&mut self, op: Op) -> Result<(), Refusal>
         ensures ok { OnOk result (self.new ≡ built (self.old ++ op ∷ [])) }
         ensures err { OnErr result (self.new ≡ self.old) }

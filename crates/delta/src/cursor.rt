@@ -53,7 +53,7 @@ impl<'a> Cursor<'a> {
 }
 
 impl<'a> Part<'a> {
-    /// Its first n units, and the place behind them where it stands before these operations. Refused as CutsPair just where
+    /// Its first n units, and the place behind them where it stands before these operations. Refused as CutsPair exactly where
     /// that parts a surrogate pair of a text. Of a text, no more is walked over than those units.
     pub fn take(self, n: u64, ops: &'a [Op]) -> Result<(Part<'a>, Cursor<'a>), Refusal>
         requires some { 0 < n }

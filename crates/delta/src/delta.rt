@@ -56,7 +56,7 @@ impl Delta {
     }
 
     /// The delta of operations that are in normal form already. Nothing is copied, and it takes no memory. Refused with
-    /// `BadOps` just where the base length or the output length is above 2^48.
+    /// `BadOps` exactly where the base length or the output length is above 2^48.
     pub fn from_normal(ops: Vec<Op>) -> Result<Self, Refusal>
         requires normal { IsNormal ops.items }
         ensures ok { IfOk result (λ delta. delta ≡ ops.items) }
@@ -125,7 +125,7 @@ impl Delta {
 
     /// Gives the retain that is first another length in code units; without one the delta stays. Constant time, in place, where
     /// the delta has its operations alone; shared ones (`share`) are copied before, and only that can be refused. The delta
-    /// is then as it was.
+    /// is then unchanged.
     pub fn set_lead(&mut self, alloc: Global, len: u64) -> Result<(), Refusal>
         requires some { 0 < len }
         requires bounded { IsBounded (with_lead len self.old) }

@@ -43,12 +43,12 @@ pub fn normal_is_normal()
     ensures { NormalIsNormal }
 {}
 
-/// What is kept of the first operations stands for them whatever comes after.
+/// What is kept of the first operations represents them, whatever comes after.
 pub fn built_in_pieces()
     ensures { BuiltInPieces }
 {}
 
-/// What is kept of the last operations stands for them whatever came before.
+/// What is kept of the last operations represents them, whatever came before.
 pub fn built_from_pieces()
     ensures { BuiltFromPieces }
 {}
@@ -128,7 +128,7 @@ pub fn same_effect_from()
     ensures { SameEffectFrom }
 {}
 
-/// Lists have the same effect just where they have one normal form.
+/// Lists have the same effect exactly where they have one normal form.
 pub fn normal_of_same_effect()
     ensures { NormalOfSameEffect }
 {}

@@ -117,7 +117,7 @@ impl<'a> Part<'a> {
         op.then(alloc, change)
     }
 
-    // its first units and the others; refused as CutsPair where that parts a pair of a text, of which no more is walked over
+    // its first units and the others; refused as CutsPair where that parts a pair of a text; no more of a text is walked over
     // than the first units
     pub(crate) fn cut(self, n: u64) -> Result<(Part<'a>, Part<'a>), Refusal>
         requires some { 0 < n }

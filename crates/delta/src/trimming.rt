@@ -46,7 +46,7 @@ impl TrimmingBuilder {
     }
 
     /// Adds an operation at the end, as `Builder::push` does. Refused as BadOps only where the base length or the output
-    /// length of the delta would pass 2^48 whatever is pushed after it, and as NoMemory; the builder is then as it was.
+    /// length of the delta would pass 2^48 whatever is pushed after it, and as NoMemory; the builder is then unchanged.
     pub fn push(&mut self, alloc: Global, op: Op) -> Result<(), Refusal>
         requires room { base_of self.old + op_base op < 2 ^ 64 }
         ensures ok { OnOk result (self.new ≡ built (self.old ++ op ∷ [])) }

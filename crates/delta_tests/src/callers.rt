@@ -64,7 +64,7 @@ pub fn insert_behind(alloc: Global, kept: u64, text: String) -> Result<Delta, Re
     Ok(builder.finish())
 }
 
-/// Applies a delta, and gives the document's new length. Refused, the document is as it was.
+/// Applies a delta, and gives the document's new length. If refused, the document is unchanged.
 pub fn edit(alloc: Global, document: &mut Document, delta: &Delta) -> Result<u64, Refusal>
     ensures document { OnOk result (document.new ≡ apply document.old (counted delta.now)) }
     ensures len { IfOk result (λ len. len ≡ length (apply document.old (counted delta.now))) }
@@ -74,7 +74,7 @@ pub fn edit(alloc: Global, document: &mut Document, delta: &Delta) -> Result<u64
     Ok(document.len16())
 }
 
-/// Applies two deltas in turn as one. Refused, the document is as it was.
+/// Applies two deltas in turn as one. If refused, the document is unchanged.
 pub fn apply_both(
     alloc: Global,
     document: &mut Document,

@@ -1,6 +1,6 @@
 -- How many calls of a device were made, as far as it tells, and how many of them were syncs. A call that changes anything is told by the
 -- state that it leaves, and one that fails by the count of failed calls, while that is below its top. Not told is a good sync of a device
--- that is synced, since it leaves all as it was.
+-- that is synced, since it leaves all unchanged.
 use Rattle.std.specs.Prelude.{ℕ, ◌+◌, ◌≤◌, List, [], ◌∷◌, length}
 use Rattle.disk.specs.Device.{State, History}
 use Rattle.disk.specs.Crash.{history_of}

@@ -45,7 +45,7 @@ pub record IsSync (old new : State) : Type 0 where
   pub seen : new.seen ≡ old.seen
   pub unsynced : new.unsynced ≡ []
 
--- a call leaves all as it was, or its step comes and the old state is the newest of the past ones
+-- a call leaves all unchanged, or its step comes and the old state is the newest of the past ones
 pub data IsAtMostOneStep (Step : State → State → Type 0) (old new : History) : Type 0 where
   NoStep : new ≡ old → IsAtMostOneStep Step old new
   OneStep : new.past ≡ old.now ∷ old.past → Step old.now new.now → IsAtMostOneStep Step old new

@@ -1,4 +1,4 @@
--- What a file was asked and what it answered, and the device that a list of that stands for, newest first.
+-- What a file was asked and what it answered, and the device that a list of that represents, newest first.
 use Rattle.std.specs.Prelude.{◌≡◌, ◌+◌, ℕ, List, [], ◌∷◌, length, slice_range}
 use Rattle.disk.specs.Device.{State, overwritten}
 

@@ -11,7 +11,7 @@ unsynced_ranges (Read at len ∷ calls) = unsynced_ranges calls
 unsynced_ranges (Write at replaced ∷ calls) = (at, length replaced.items) ∷ unsynced_ranges calls
 unsynced_ranges (Sync ∷ calls) = []
 
--- the states before each write and each sync, the newest of which led to these bytes
+-- the states before each write and each sync, where the newest led to these bytes
 abbrev pub states_before : List ℕ → List Call → List State
 states_before bytes [] = []
 states_before bytes (Read at len ∷ calls) = states_before bytes calls

@@ -1,4 +1,4 @@
-//! A device in memory that fails or stops where it is told to.
+//! A device in memory that fails or stops where it is told to, for tests: no program uses it.
 ghost use Rattle.std.specs.Prelude.{◌≡◌, ◌+◌, ◌≤◌, true, false, min, [], length, slice_range, IsTrue, IfOk, OnOk, ◌↔◌, ◌&&◌, ◌||◌};
 ghost use Rattle.disk.specs.Device.{overwritten, most_faults, IsWrite, IsAtMostOneStep};
 ghost use Rattle.disk.specs.Crash.{MayLeaveNow, history_of};
@@ -69,7 +69,7 @@ impl FaultDisk {
     ghost use Rattle.disk.specs.Memory.{bytes_of, calls_of, failures_of};
     ghost use Rattle.disk.specs.Stopped.{disk_of, fault_plan_of, asked_of, has_stopped, bytes_left};
 
-    /// The device goes on from where `disk` is.
+    /// The device continues from where `disk` is.
     pub fn new(disk: MemDisk, plan: FaultPlan) -> FaultDisk
         ensures disk { disk_of result ≡ disk }
         ensures plan { fault_plan_of result ≡ plan }

@@ -62,7 +62,7 @@ pub fn run_begins<P: Property>()
     ensures anywhere { law.BeginsAnywhere P.holds }
 {}
 
-/// How a promise for a run goes on over a call, good or not, and over another run.
+/// How a promise for a run continues over a call, good or not, and over another run.
 pub fn run_goes_on<P: Property>()
     ensures write { law.GoesOnWrite P.holds }
     ensures first_write { law.GoesOnFirstWrite P.holds }

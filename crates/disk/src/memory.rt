@@ -1,4 +1,4 @@
-//! A device in memory. It keeps a record of its calls, from which its past is read off.
+//! A device in memory, for tests: no program uses it. It keeps a record of its calls, from which its past is read off.
 ghost use Rattle.std.specs.Prelude.{◌≡◌, ◌+◌, ◌<◌, ◌≤◌, min, [], ◌∷◌, ◌++◌, length, replicate, IsTrue, IfOk, OnOk, OnErr};
 ghost use Rattle.std.specs.List.{list_all};
 ghost use Rattle.disk.specs.Device.{overwritten, most_faults};
@@ -18,7 +18,7 @@ pub enum Call {
     Sync,
 }
 
-/// A device in memory, which keeps its word. A call fails only where its record finds no memory, or
+/// A device in memory, which keeps its word. A call fails only when out of memory for its record, or
 /// where 2^64 - 1 calls have failed already, and then it changes nothing.
 #[derive(Drop)]
 pub struct MemDisk {

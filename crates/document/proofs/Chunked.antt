@@ -165,7 +165,7 @@ length_runs-front a b = omega (arith, ap length (units_of_runs-append a b), leng
 pub length_runs-back : (a b : List (List Element)) → length (units_of_runs b) ≤ length (units_of_runs (a ++ b))
 length_runs-back a b = omega (arith, ap length (units_of_runs-append a b), length-append (units_of_runs a) (units_of_runs b))
 
--- loose runs of which a chunk is made
+-- loose runs that become a chunk
 pub closed_runs : (made new : List (List (List Element))) (c front back old : List (List Element)) → new ≡ made ++ c ∷ [] → c ≡ front → front ++ back ≡ old
     → runs_of_chunks new ++ back ≡ runs_of_chunks made ++ old
 closed_runs made new c front back old push same parts =

@@ -9,7 +9,7 @@ use Rattle.delta.proofs.CallerLemmas.{units_below-counted, length-apply_counted}
 use Rattle.delta.specs.Places.{IsDefined}
 use Rattle.document.specs.Outcome.{IsRefused}
 
--- the empty document lacks a unit just where the delta retains or deletes one
+-- the empty document lacks a unit exactly where the delta retains or deletes one
 pub undefined_empty : (delta : List Operation) → (¬ (IsDefined [] (counted delta))) ↔ (0 < base_of delta)
 undefined_empty delta = (
   λ undefined. omega (arith, units_below-counted delta, undefined),

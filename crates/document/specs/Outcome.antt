@@ -15,7 +15,7 @@ IsAccepted d g = IsDefined d g × (¬ (Cuts d g)) × (length (apply d g) ≤ 2 ^
 abbrev pub IsTooLong : List Element → Gaps → Type 0
 IsTooLong d g = IsDefined d g × (¬ (Cuts d g)) × (2 ^ 48 < length (apply d g))
 
--- what each refusal says; want of memory is refused to what is accepted otherwise
+-- what each refusal says; only what is accepted otherwise is refused as out of memory
 abbrev pub IsRefused : List Element → Gaps → Refusal → Type 0
 IsRefused d g PastEnd = ¬ (IsDefined d g)
 IsRefused d g CutsPair = IsDefined d g × Cuts d g

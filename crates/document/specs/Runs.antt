@@ -27,7 +27,7 @@ IsApart _ _ = Unit {0}
 abbrev pub IsRun : List Element → Type 0
 IsRun r = (0 < length r) × IsWellFormed r
 
--- runs, of which no two neighbours are texts of equal attributes
+-- runs, where no two neighbours are texts of equal attributes
 abbrev pub AreRuns : List (List Element) → Type 0
 AreRuns [] = Unit {0}
 AreRuns (r ∷ []) = IsRun r

@@ -20,8 +20,8 @@ const MOST: usize = 128;
 /// Chunks that are made have so many runs at least, but where there is one alone.
 const FEW: usize = 32;
 
-/// Chunks that grow at their end, seen as the list of all runs: chunks that are made, and up to 256 loose runs after them, of which
-/// one or two more come.
+/// Chunks that grow at their end, seen as the list of all runs: chunks that are made, and up to 256 loose runs after them, which
+/// become one or two more chunks.
 #[derive(Drop)]
 pub struct ChunkBuilder {
     made: Vec<Chunk>,

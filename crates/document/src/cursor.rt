@@ -56,7 +56,7 @@ impl<'a> Cursor<'a> {
         }
     }
 
-    /// The same place once more, from where another walk goes on. It takes no memory.
+    /// The same place once more, from where another walk continues. It takes no memory.
     pub fn again(&self) -> Self
         ensures { result ≡ self.now }
     {

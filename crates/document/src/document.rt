@@ -62,7 +62,7 @@ impl Document {
         }
     }
 
-    /// The document that a delta makes of the empty one. Refused as PastEnd just where the delta retains or deletes a unit,
+    /// The document that a delta makes of the empty one. Refused as PastEnd exactly where the delta retains or deletes a unit,
     /// since the empty document has none, and as NoMemory. It takes the memory that `apply` takes.
     pub fn from_delta(alloc: Global, delta: &Delta) -> Result<Self, Refusal>
         ensures made { IfOk result (λ document. document ≡ document_from delta.now) }
@@ -163,7 +163,7 @@ impl Document {
 
     /// Applies a delta. It is refused as PastEnd where the delta reaches past the end, else as CutsPair where it parts a
     /// surrogate pair, else as BadOps where the document would have more than 2^48 code units, and as NoMemory; the
-    /// document is then as it was. Linear in the chunks, the operations, the runs of the chunks in which an operation begins or ends,
+    /// document is then unchanged. Linear in the chunks, the operations, the runs of the chunks in which an operation begins or ends,
     /// those that it changes, and the texts of the runs that it cuts or changes. The other chunks are shared with the document
     /// before, and so are the other runs; no text is copied more than once, and none of a run that it leaves whole. Where it only
     /// puts a text behind the whole document, no other text is copied.

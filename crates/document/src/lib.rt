@@ -24,7 +24,7 @@
 //! use refusal::Refusal;
 //! use std::alloc::Global;
 //!
-//! /// Applies a delta, and gives the document's new length. Refused, the document is as it was.
+//! /// Applies a delta, and gives the document's new length. If refused, the document is unchanged.
 //! pub fn edit(alloc: Global, document: &mut Document, delta: &Delta) -> Result<u64, Refusal>
 //!     ensures document { OnOk result (document.new ≡ apply document.old (counted delta.now)) }
 //!     ensures len { IfOk result (λ len. len ≡ length (apply document.old (counted delta.now))) }

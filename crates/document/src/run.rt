@@ -93,7 +93,7 @@ impl<'a> Piece<'a> {
         }
     }
 
-    /// The operation that inserts it, whose text is copied and not counted. Refused for want of memory alone.
+    /// The operation that inserts it, whose text is copied and not counted. Refused as out of memory alone.
     pub fn inserted(&self, alloc: Global) -> Result<Op, Refusal>
         requires { IsCounted self.now }
         ensures units { IfOk result (λ op. counted (op ∷ []) ≡ End (piece_units self.now)) }

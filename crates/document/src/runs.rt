@@ -80,7 +80,7 @@ pub fn put_run(alloc: Global, runs: &mut ChunkBuilder, run: &SharedRun) -> Resul
     Ok(())
 }
 
-/// Puts runs at the end, of which only the first may merge with the last one.
+/// Puts runs at the end; only the first of them may merge with the last one there.
 pub fn put_runs(alloc: Global, runs: &mut ChunkBuilder, more: &[SharedRun]) -> Result<(), Refusal>
     requires some { 0 < length more.now }
     requires few { length more.now ≤ 128 }

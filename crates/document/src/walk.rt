@@ -55,7 +55,7 @@ fn skip_next(cursor: &mut Cursor<'_>, most: u64) -> Result<u64, Cut>
     Ok(piece.units())
 }
 
-/// Steps over so many code units, and puts them out with a change of their attributes. The operations of which that is a part tell
+/// Steps over so many code units, and puts them out with a change of their attributes. The operations that this is a part of tell
 /// how much room a text is given.
 pub fn keep(
     alloc: Global,

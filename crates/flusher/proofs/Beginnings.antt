@@ -1,4 +1,4 @@
--- Some first batches of a list of batches, when more batches come.
+-- A prefix of a list of batches, when more batches come.
 use Rattle.std.proofs.Common.{◌≡◌, ◌≤◌, inl, inr, ℕ, List, [], ◌∷◌, ◌++◌, length, refl, sym, ◌∙◌, ap, subst, arith, append_assoc, append-nil, length-append}
 use Rattle.std.proofs.lemmas.Grind.{flat_map-append}
 use Rattle.revision.specs.Command.{Taken}

@@ -148,7 +148,7 @@ grow_behind [] back state grow = grow
 grow_behind (first ∷ others) back state grow =
     grow_behind others back (grown state first) (and_parts (grows state first) (all_grow (grown state first) (others ++ back)) grow).1
 
--- A batch that goes on with what is published, in a legal history, continues what the store holds.
+-- A batch that continues what is published, in a legal history, continues what the store holds.
 held_grows : (start state : State) (told committed : List (List Taken)) (batch : List Taken) (order : List Entry) → IsLegal start order
     → IsPrefix (commands_of told ++ batch) (takens order) → state ≡ fold start (commands_of (told ++ committed)) → committed ≡ [] → all_grow state batch ≡ true
 held_grows start state told committed batch order legal begins kept none =
@@ -220,7 +220,7 @@ next_by told named batch receipt order same is some few next =
     subst (λ (l : List (List Taken)). IsNext (commands_of l) receipt order) same
     (subst (λ (r : List Taken). IsNext (commands_of named) r order) (sym is) (record { some = some; few = few; next = next }))
 
--- what is published and held, with what is committed between, of which there is none
+-- what is published and held, with what is committed between, which is nothing
 pub ordered_held : (told committed waiting : List (List Taken)) (run : List Taken) (order : List Entry) → committed ≡ [] → waiting ≡ run ∷ []
     → IsPrefix (commands_of told ++ run) (takens order) → IsPrefix (commands_of (told ++ (committed ++ waiting))) (takens order)
 ordered_held told committed waiting run order none is begins =
@@ -235,7 +235,7 @@ ordered_none told committed waiting order none begins =
     subst (λ (l : List (List Taken)). IsPrefix (commands_of (told ++ l)) (takens order))
     (sym (ap (λ (l : List (List Taken)). committed ++ l) none ∙ append-nil committed)) begins
 
--- A publish leaves a publisher as it was, or has published what it was given.
+-- A publish leaves a publisher unchanged, or has published what it was given.
 pub published_or_not : {E : Type 0} (result : Result (Option (List Taken × List (List Taken))) E) (old new : Published)
     → IfOk result (λ published. IfSome published (λ p. old.unpublished ≡ p.0 ∷ [])) → IfOk result (λ published. IfSome published (λ p. p.1 ≡ old.told ++ p.0 ∷ []))
     → IfOk result (λ published. IfSome published (λ p. new ≡ record { told = p.1; unpublished = [] }))
@@ -246,7 +246,7 @@ published_or_not (Ok (Some p)) old new batch told shown none same =
 published_or_not (Ok None) old new batch told shown none same = inl none.1
 published_or_not (Err why) old new batch told shown none same = inl same
 
--- so what a flusher's type keeps goes on
+-- so what a flusher's type keeps holds on
 pub kept_moved : (start state : State) (old new : Published) → (new ≡ old) ⊎ (new ≡ record { told = old.told ++ old.unpublished; unpublished = [] })
     → state ≡ fold start (commands_of (old.told ++ old.unpublished)) → state ≡ fold start (commands_of (new.told ++ new.unpublished))
 kept_moved start state old new (inl same) kept = kept ∙ ap (λ (p : Published). fold start (commands_of (p.told ++ p.unpublished))) (sym same)

@@ -1,10 +1,10 @@
--- Batches that were committed one after another, and which of them a content stands for.
+-- Batches that were committed one after another, and which of them a content represents.
 use Rattle.std.specs.Prelude.{◌≡◌, ◌≤◌, ◌-◌, ℕ, List, ◌++◌, length, take, drop}
 use Rattle.revision.specs.Command.{Taken}
 use Rattle.revision.specs.State.{State, fold}
 use Rattle.recovery.specs.Found.{commands_of, FoundAs}
 
--- The content stands for a state that agrees with the one after some of these batches, the first ones of them, which have so many
+-- The content represents a state that agrees with the one after a prefix of these batches, which has so many
 -- commands at least.
 pub record IsBeginning (least : ℕ) (start : State) (batches : List (List Taken)) (content : List ℕ) : Type 0 where
   pub first : List (List Taken)

@@ -15,7 +15,7 @@ pub record MayCommit (state : State) (batch : List Taken) (committed : List (Lis
   pub fits : FitsSlot state batch
   pub alone : committed ≡ []
 
--- A write published the one batch that was held behind those that were published before, and gave the receipt of it and the token that
+-- A write published the one batch that was held, after those that were published before, and gave the receipt of it and the token that
 -- ends with it.
 pub record IsWritten (told held after : List (List Taken)) (receipt : List Taken) (token : List (List Taken)) : Type 0 where
   pub batch : held ≡ receipt ∷ []

@@ -16,20 +16,20 @@ CapFitsSlot = (state : State) (batch : List Taken) → batch_width batch ≤ cap
 abbrev pub CommandsJoined : Type 0
 CommandsJoined = (first more : List (List Taken)) → commands_of (first ++ more) ≡ commands_of first ++ commands_of more
 
--- a content that stands for first batches with so many commands stands for some with fewer
+-- a content that represents a prefix of batches with so many commands at least represents one with fewer at least
 abbrev pub FewerAtLeast : Type 0
 FewerAtLeast =
     (least less : ℕ) (start : State) (batches : List (List Taken)) (content : List ℕ) → less ≤ least → IsBeginning least start batches content
     → IsBeginning less start batches content
 
--- and for first ones where more batches come
+-- and a prefix of more batches, where those come
 abbrev pub MoreBatches : Type 0
 MoreBatches =
     (least : ℕ) (start : State) (batches with_more l : List (List Taken)) (content : List ℕ) → with_more ≡ batches ++ l
     → IsBeginning least start batches content → IsBeginning least start with_more content
 
--- During a write of batches behind others that are committed: a content that stands for the state without them or with them stands for
--- first ones of all.
+-- During a write of batches after others that are committed: a content that represents the state without them or with them represents
+-- a prefix of all.
 abbrev pub WithinWrite : Type 0
 WithinWrite =
     (least : ℕ) (start state : State) (batches told l : List (List Taken)) (content : List ℕ) → batches ≡ told ++ l

@@ -43,7 +43,7 @@ impl<D: Disk, J: Site> Flusher<D, J> {
     ghost use Rattle.recovery.specs.Goes.{Goes};
     ghost use Rattle.flusher.specs.Holding.{IsUncommitted, store_of, told_of, committed_of, waiting_of};
 
-    // A flusher of which nothing was published yet.
+    // A flusher that has published nothing yet.
     pub(crate) fn of(store: Store<D>, publisher: Publisher<D, J>, begun: Begun<J>) -> Flusher<D, J>
         requires nothing { publisher ≡ record { told = []; unpublished = [] } }
         requires begin { state_of store ≡ begun }
@@ -178,9 +178,9 @@ impl<D: Disk, J: Site> Flusher<D, J> {
     }
 
     /// Commits the batch that is held, if it isn't yet, and publishes it, between the gate's moments: gives the receipt of the commit
-    /// and the token that ends with the batch, to be settled by, or `None` where no batch is held. On a refusal the next call goes on where this one
-    /// stopped: the same batch is committed, or published, by then. Where the journal is full, the oldest segment is freed by milestones of
-    /// its documents, and the batch committed behind that. Refused as `commit_held`, but with `JournalFull` or `StillNeeded` only where the
+    /// and the token that ends with the batch, to be settled by, or `None` where no batch is held. On a refusal the next call continues where this
+    /// one stopped: the same batch is committed, or published, by then. Where the journal is full, the oldest segment is freed by milestones of
+    /// its documents, and the batch committed after that. Refused as `commit_held`, but with `JournalFull` or `StillNeeded` only where the
     /// journal can't be freed, and then as the publish, with `NoMemory` alone. The batch is on the disk then.
     pub fn write<R: Wait, G: Gate>(
         &mut self,
@@ -216,7 +216,7 @@ impl<D: Disk, J: Site> Flusher<D, J> {
         // After `NoMemory` the batch may be committed, and after any other refusal it isn't.
         ensures uncommitted { IfErr result (λ e. e ≢ Refusal.NoMemory → IsUncommitted self.old self.new) }
 
-        // A failure of the device is told as such, and nothing else is.
+        // A failure of the device is `Fault`, and nothing else is.
         ensures fails { has_failed (store_of self.old) ≡ false
             → (has_failed (store_of self.new) ≡ true ↔ IsErrOf result Refusal.Fault) }
         ensures failed_before { has_failed (store_of self.old) ≡ true → (batch : List Taken)

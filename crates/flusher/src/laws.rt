@@ -6,7 +6,7 @@ pub fn cap_fits_slot()
     ensures { law.CapFitsSlot }
 {}
 
-/// What holds of the first batches that a content stands for, as fewer are asked for, as more come, and while some are written.
+/// What holds of the prefix of batches that a content represents, as fewer are asked for, as more come, and while some are written.
 pub fn first_batches()
     ensures commands { law.CommandsJoined }
     ensures fewer { law.FewerAtLeast }

@@ -1,7 +1,7 @@
 //! The flusher, which commits what a board has ordered, batch by batch, and then publishes it to readers.
 //!
 //! A `Flusher` holds the store, what publishes its batches, and at most one run that is to be written. `write` commits it as a batch and
-//! publishes it, between the moments of a `Gate`; what stops it goes on in the next call. What it gives is a `Written`, which isn't `Drop`: it
+//! publishes it, between the moments of a `Gate`; what was stopped continues in the next call. What it gives is a `Written`, which isn't `Drop`: it
 //! has to be settled, at a hub or on a board of the same thread. `start` makes a flusher and its board over a store, where nothing is
 //! under way, as `IsCalm` of specs/Standing.antt says. The crate `lives` says what runs of one thread over both keep.
 //!

@@ -44,7 +44,7 @@ pub fn save<D: Disk, J: Site, R: Wait>(
 }
 
 /// Writes all that is ordered until the hub is ended, and puts no milestones. Nothing that was published is taken back. At Ok the store
-/// holds just what is published, and the hub's token says that it was ended; at Err the hub was told of the failure.
+/// holds exactly what is published, and the hub's token says that it was ended; at Err the hub was told of the failure.
 pub fn flush_to_the_end<D: Disk, J: Site, R: Wait>(
     rt: &R,
     alloc: Global,

@@ -205,7 +205,7 @@ fn put_at(rt: &impl Abort, bytes: &mut [u8], place: usize, others: &[u8]) {
     }
 }
 
-// A device of which both cells of the document hold it at revision 2, with these slots.
+// A device where both cells of the document hold it at revision 2, with these slots.
 fn device_with(rt: &(impl Abort + AllocGlobal), first: &[u8], second: &[u8]) -> Vec<u8> {
     let device = new_device(rt.alloc(), SHAPE).expect(rt, "a device");
     let mut bytes = device.bytes().to_vec(rt.alloc()).expect(rt, "memory");

@@ -61,8 +61,8 @@ fn is_byte<R: Abort>(rt: &R, bytes: &[u8], at: usize, byte: u8) {
     assert_eq!(rt; bytes[at], byte);
 }
 
-// The newest revision of the one document, each of which is an edit of its source that stands there once: its last number is the
-// revision, and its text is as it was created.
+// The newest revision of the one document. Each revision is an edit of its source that stands there once: its last number is the
+// revision, and its text is the one that it was created with.
 fn newest(rt: &(impl Abort + AllocGlobal), state: &State) -> u64 {
     assert!(rt; state.documents().len() == 1);
     let document = &state.documents()[0];
@@ -89,7 +89,7 @@ fn edited(rt: &(impl Wait + Abort + AllocGlobal), bytes: &[u8], rows: &[Row]) ->
     runs(rt, store, rows)
 }
 
-// By a pick a device has these edits, each once, and a run goes on from there.
+// By a pick a device has these edits, each once, and a run continues from there.
 fn goes_on(rt: &(impl Wait + Abort + AllocGlobal), bytes: &[u8], pick: Pick, revision: u64) {
     let rows = if revision == 3 { &FOUND } else { &TAKEN_ANEW };
     let store = found(rt, bytes, pick, revision);

@@ -115,7 +115,7 @@ pub fn is_answered<D, J: Site>(
     }
 }
 
-// A run from a store that was just opened, of which so many rows are answered. The device comes back.
+// A run from a store that was just opened, where so many rows are answered. The device comes back.
 fn driven<D: Disk + Drop, J: Site, R: Wait + Abort + AllocGlobal>(
     rt: &R,
     store: Store<D>,

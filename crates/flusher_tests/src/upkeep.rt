@@ -23,7 +23,7 @@ use std::time::{Clock, Duration};
 use turns::{Composers, HalfGate, Upkeep, channels, compose_workers, flush_turn};
 
 /// What turns are given: a store that has so many documents, each at revision 3, and then so many commands of one source on its first
-/// document, of which each above a number fills a slot of 256 bytes. A milestone is due at each multiple of `every` revisions. Of all that are
+/// document, where each above a number fills a slot of 256 bytes. A milestone is due at each multiple of `every` revisions. Of all that are
 /// due the last one is at the revision before the last.
 #[derive(Clone, Copy)]
 struct Work {
@@ -105,7 +105,7 @@ fn turn<J: Site, R: Wait + Abort + AllocGlobal>(
     assert!(rt; turned.is_ok());
 }
 
-// Makes a turn in which nothing is to be written. No segment is left behind it that could be retired, and no job of the first document is due
+// Makes a turn in which nothing is to be written. No segment is left after it that could be retired, and no job of the first document is due
 // that isn't out.
 fn idle_turn<J: Site, R: Wait + Abort + AllocGlobal>(
     rt: &R,

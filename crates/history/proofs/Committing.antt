@@ -97,7 +97,7 @@ fold-is-state state (first ∷ others) is h =
     let parts = and_parts (grows state first) (all_grow (grown state first) others) h in
     fold-is-state (grown state first) others (growing_keeps state first is parts.0) parts.1
 
--- a cell of a document stays one as the document goes on
+-- a cell of a document stays one as the document continues
 pub cell-longer : (base : Option DocumentRecord) (commands others : List Taken) (cell : Cell) → IsCellOf base commands cell → IsCellOf base (commands ++ others) cell
 cell-longer base commands others cell of = record {
   count = of.count;

@@ -105,7 +105,7 @@ picked-of P pick (None, second) both = both.1
 picked-of P pick (Some first, None) both = both.0
 picked-of P pick (Some first, Some second) both = two-of P pick first second both.0 both.1
 
--- What stands for a document: the first commands were retired, and the others are its entries.
+-- What a document's cell and entries represent: its first commands were retired, and the others are its entries.
 abbrev result : Limits → Option Cell → List Taken → Option DocumentRecord
 result limits cell entries = record_after_all limits.keep (started cell) (unread cell entries)
 

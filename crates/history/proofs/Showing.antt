@@ -1,4 +1,4 @@
--- What a document shows goes on with each command that continues it, and documents that show the same agree.
+-- What a document shows continues with each command that continues the document, and documents that show the same agree.
 use Rattle.std.proofs.Common.{◌≡◌, ℕ, ◌+◌, ◌-◌, ◌≤◌, max, true, List, [], ◌∷◌, ◌++◌, length, Option, Some, None, length-append, refl, sym, ap, subst, ◌∙◌, arith}
 use Rattle.std.specs.Prelude.{◌&&◌, ◌==◌, not, nat_le}
 use Rattle.std.proofs.lemmas.Bool.{and_parts, eqb-true}

@@ -23,7 +23,7 @@ pub record StandsFor (limits : Limits) (cell : Option Cell) (entries : List Take
   pub continue : all_continue limits (started cell) (unread cell entries) ≡ true
   pub is : found ≡ record_after_all limits.keep (started cell) (unread cell entries)
 
--- What they all stand for: a state with these limits, whose documents are what stands for each number, of names that differ. A
+-- What they all represent: a state with these limits, with the document that each number's parts represent, and names that differ. A
 -- number past the last document has neither cell nor entry, so there is no hole.
 pub record StandFor (limits : Limits) (cells : List Pair) (entries : List Taken) (pick : Pick) (state : State) : Type 0 where
   pub same_limits : state.limits ≡ limits

@@ -58,7 +58,7 @@ abbrev pub BeginsWith : Type 0
 BeginsWith = (limits : Limits) (start : List Cell) → IsState (begun_with limits start) → All (CellKeeps limits) start
     → Runs (record { start = start; taken = [] }) (first_cells start limits.docs) [] (begun_with limits start)
 
--- The two cells of a document may be others: cells of it, of which the lower one isn't below what the lower one was.
+-- The two cells of a document may be replaced by other cells of it, where the lower one isn't below what the lower one was.
 abbrev pub ChangesCells : Type 0
 ChangesCells = (order : Order) (cells : List Pair) (entries : List Taken) (state : State) (number : ℕ) (pair : Pair) → Runs order cells entries state
     → number < length cells → OfBoth (IsCellAt order number) pair → lowest (cells_at cells number) ≤ lowest pair
@@ -84,7 +84,7 @@ Commits = (order : Order) (cells : List Pair) (entries : List Taken) (state : St
 abbrev pub IsCovered : List Pair → Taken → Type 0
 IsCovered cells taken = taken.revision ≤ lowest (cells_at cells taken.document)
 
--- Entries are, each of them, just where the greatest revision of each document among them is.
+-- Each of the entries is covered exactly where the greatest revision of each document among them is.
 abbrev pub CoveredByGreatest : Type 0
 CoveredByGreatest = (cells : List Pair) (entries : List Taken)
     → All (IsCovered cells) entries ↔ ((number : ℕ) → greatest number entries ≤ lowest (cells_at cells number))
@@ -94,7 +94,7 @@ abbrev pub Retires : Type 0
 Retires = (order : Order) (cells : List Pair) (oldest others : List Taken) (state : State) → Runs order cells (oldest ++ others) state
     → All (IsCovered cells) oldest → Runs order cells others state
 
--- What a document has at a revision that it holds is a cell of it, and a cell of it stays one as the history goes on.
+-- What a document has at a revision that it holds is a cell of it, and a cell of it stays one as the history continues.
 abbrev pub HeldIsCell : Type 0
 HeldIsCell = (order : Order) (cells : List Pair) (entries : List Taken) (state : State) (number : ℕ) (found : DocumentRecord) (revision : ℕ)
     → Runs order cells entries state

@@ -7,7 +7,7 @@ use Rattle.history.specs.Entries.{of_document}
 use Rattle.history.specs.Cell.{Cell, Pair, cells_at, Pick, picked}
 use Rattle.history.specs.Found.{unread, StandsFor, StandFor}
 
--- a state that so far has what stands for each of its documents
+-- a state that so far has, for each of its documents, what its cell and its entries represent
 pub record HasRead (cells : List Pair) (entries : List Taken) (pick : Pick) (state : State) : Type 0 where
   pub is_state : IsState state
   pub each : (number : ℕ) → number < length state.documents

@@ -7,7 +7,7 @@ use Rattle.history.specs.Entries.{of_document}
 use Rattle.history.specs.Cell.{Cell, record_of_cell, Pair, cells_at, lowest, OfOpen, OfBoth, CellKeeps}
 use Rattle.history.specs.Shown.{Order, whole_of, base_at, PlacesShow, StateShows}
 
--- a cell of a document that began so, and of which these commands were taken: it shows what the first of them made
+-- a cell of a document that began so and took these commands: it shows what the first `count` of them made
 pub record IsCellOf (base : Option DocumentRecord) (commands : List Taken) (cell : Cell) : Type 0 where
   pub count : ℕ
   pub within : count ≤ length commands

@@ -38,7 +38,7 @@ pub fn runs_on()
     ensures greatest { CoveredByGreatest }
 {}
 
-/// What a document has at a revision that it holds is a cell of it, and a cell of it stays one as the history goes on. It reaches no
+/// What a document has at a revision that it holds is a cell of it, and a cell of it stays one as the history continues. It reaches no
 /// further than the document, which has one cell at a revision.
 pub fn cells()
     ensures held { HeldIsCell }

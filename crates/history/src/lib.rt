@@ -1,6 +1,6 @@
 //! What the parts of a store stand for, as values: no device and no bytes.
 //!
-//! A store keeps entries of commands in the order in which they were taken, and for each document two cells, each of which may hold
+//! A store keeps entries of commands in the order in which they were taken, and for each document two cells, where each may hold
 //! the document at a revision with its sources. Entries of documents stand mixed in that order, so nothing is said of the whole list:
 //! what is said of a store is said number by number, of the one document's cells and entries (specs/Entries.antt, specs/Cell.antt).
 //! A document is read from a cell on: entries up to its revision are passed over, and each other one continues what those before it

@@ -17,7 +17,7 @@ const PLACES: [usize; 12] = [0, 1, 9, 64, 69, 320, 325, 1_088, 1_097, 1_147, 1_3
 /// The gates of both cells and of both slots.
 const GATES: [usize; 4] = [64, 320, 1_088, 1_344];
 
-/// Pseudo-random numbers: a linear congruential generator with Knuth's constants for 64 bits, of which the highest bits are taken.
+/// Pseudo-random numbers: a linear congruential generator with Knuth's constants for 64 bits, whose highest bits are taken.
 #[derive(Drop)]
 struct Numbers {
     state: u64,

@@ -19,7 +19,7 @@ const CREATED: [u8; 45] = [
     1, 0, 0, 0, 1, 1, 0, 0, 0, b'z', 0, 0, 0, 0, // an insert of z, no attributes
 ];
 
-/// The second one: behind that "a" inserts "x".
+/// The second one: after that "a" inserts "x".
 const EDITED: [u8; 55] = [
     1, 0, 0, 0, // one entry
     2, 0, 0, 0, 0, 2, 0, 0, 0, 0, 0, 0, 0, // a change, document 0, revision 2
@@ -62,7 +62,7 @@ const OF_62: &[u8] = &[0xa5, 62, 0, 0, 0];
 /// What is written over a device one after the other: a place, and the bytes there.
 type Changes = &'static [(usize, &'static [u8])];
 
-/// A device that was just formatted, of which so many bytes are left and some are changed, and what it is opened as: its documents, or the
+/// A device that was just formatted, where so many bytes are left and some are changed, and what it is opened as: its documents, or the
 /// refusal.
 type Row = (usize, Changes, &'static str);
 
@@ -252,7 +252,7 @@ fn changed_devices_are_refused_or_opened(rt: HostRuntime) {
 /// What is asked of a store: a number, the revision that the command is made on, its operations, and the answer.
 pub type Asked = (u64, u64, &'static str, Result<Reply, Refusal>);
 
-/// The first batch finds room in the last segment. Behind that there is none.
+/// The first batch finds room in the last segment. After that there is none.
 const IN_THE_LAST_SEGMENT: [Asked; 2] = [
     (1, 0, CREATE, Ok(Reply::Taken { rev: 1 })),
     (2, 1, WIDE, Err(Refusal::JournalFull)),

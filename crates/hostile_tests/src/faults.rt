@@ -13,7 +13,7 @@ use std::process::Abort;
 use std::sync::Wait;
 
 // A call fails, and then a crash leaves this of the range that is open: a write's that fails, or that of a sync, which doesn't close it then. By
-// each pick the run goes on from there; where that is what is read, too, on the device itself, which is opened again.
+// each pick the run continues from there; where that is what is read, too, on the device itself, which is opened again.
 fn is_faulty(
     rt: &(impl Wait + Abort + AllocGlobal),
     script: &Script,

@@ -1,4 +1,4 @@
-//! What a device holds that a stop or a fault has left, and how a run goes on from there.
+//! What a device holds that a stop or a fault has left, and how a run continues from there.
 use crate::runs::{Begin, NEVER, commands_in, device_of, opened, run};
 use crate::scripts::{Script, Step};
 use algebra::write_delta;
@@ -119,7 +119,7 @@ pub fn is_whole(
 }
 
 /// So many steps were answered, and the next one was asked. By a pick a device holds what the answered ones made, or with the next one; and
-/// when the last command is sent again, the script goes on from there to its end.
+/// when the last command is sent again, the script runs from there to its end.
 pub fn goes_on(
     rt: &(impl Wait + Abort + AllocGlobal),
     script: &Script,

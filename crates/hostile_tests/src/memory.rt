@@ -20,7 +20,7 @@ const SCRIPTS: [Script; 6] = [
     FULL_JOURNAL,
 ];
 
-// A script comes to its end. Where memory is wanted for the start of a hub, or for the record that the device keeps of its calls, it goes on from
+// A script comes to its end. Where memory is wanted for the start of a hub, or for the record that the device keeps of its calls, it continues from
 // the last command that was sent.
 fn ends(rt: &(impl Wait + Abort + AllocGlobal), script: &Script) -> Result<(), Differs> {
     let bytes = formatted(rt, FILL);

@@ -87,7 +87,7 @@ fn open(
     Store::open(alloc, disk, pick)
 }
 
-/// Opens a device, and once more where memory was wanted. A refusal leaves each byte of it as it was.
+/// Opens a device, and once more where memory was wanted. A refusal leaves each byte of it unchanged.
 pub fn opened(
     rt: &(impl Abort + AllocGlobal),
     disk: FaultDisk,

@@ -79,7 +79,7 @@ pub const THIRD_BATCH: Script = Script {
     gates: &[(64, false), (1_088, true), (1_344, false)],
 };
 
-/// Three milestones, of which the last is put over the first one, and the segment that no cell needs any more is retired: five batches and two
+/// Three milestones, where the last is put over the first one, and the segment that no cell needs any more is retired: five batches and two
 /// slots of four calls each, two milestones of four and one of six, and two for the retirement.
 pub const MILESTONES: Script = Script {
     name: "milestones and retirement",

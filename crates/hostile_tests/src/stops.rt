@@ -30,7 +30,7 @@ fn calls_of_opening(rt: &(impl Abort + AllocGlobal), bytes: &[u8]) -> u64 {
     }
 }
 
-/// The device after a script of which nothing goes wrong, with the calls that it made: those that open it, and then those of the steps.
+/// The device after a script in which nothing goes wrong, with the calls that it made: those that open it, and then those of the steps.
 pub fn device_after(
     rt: &(impl Wait + Abort + AllocGlobal),
     script: &Script,
@@ -59,7 +59,7 @@ fn open_ranges(disk: &MemDisk) -> usize {
 }
 
 // A script is stopped at a call, which leaves this of the range that is open; at most one is, so there are no mixtures. By each pick the run
-// goes on from there. A call behind the last one stops nothing.
+// continues from there. A call after the last one stops nothing.
 fn is_stopped(
     rt: &(impl Wait + Abort + AllocGlobal),
     script: &Script,
@@ -77,7 +77,7 @@ fn is_stopped(
     each_goes_on(rt, script, after.bytes(), ended.done)
 }
 
-// A script is stopped at each call of its steps and behind the last one, in each way.
+// A script is stopped at each call of its steps and after the last one, in each way.
 fn is_stopped_everywhere(rt: &(impl Wait + Abort + AllocGlobal), script: &Script) {
     let bytes = formatted(rt, FILL);
     let calls = device_after(rt, script, &bytes).disk().calls().len() as u64;

@@ -76,7 +76,7 @@ fn acknowledged<J: Site, R: Wait>(
     }
 }
 
-// A command is submitted, written in a turn behind the milestone that is due, and acknowledged.
+// A command is submitted, written in a turn after the milestone that is due, and acknowledged.
 fn send<J: Site, R: Wait + AllocGlobal>(
     rt: &R,
     flusher: &mut Flusher<FaultDisk, J>,

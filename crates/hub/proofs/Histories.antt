@@ -17,7 +17,7 @@ fold-more : (state : State) (commands : List Taken) (taken : Taken) → fold sta
 fold-more state [] taken = refl
 fold-more state (first ∷ others) taken = fold-more (grown state first) others taken
 
--- a board of which nothing was taken yet
+-- a board to which nothing was submitted yet
 pub begun_within : (start : State) (told : List (List Taken)) → told ≡ [] → IsWithin (begun_board start) told
 begun_within start told none =
     subst (λ (t : List (List Taken)). IsWithin (begun_board start) t) (sym none)
@@ -76,7 +76,7 @@ module _ (board : Board Entry) (command : Command) where
   start_by (Repeats revision) = refl
   start_by (Refuses refusal) = refl
 
-  -- all that a board's type says goes on
+  -- all that a board's type says holds on
   pub submitted_goes_on : (new : Board Entry) (told : List (List Taken)) (start : State) (total after : ℕ) (reply : Reply) (ticket : Ticket)
       → new ≡ submitted (entry_of command) board command → Some ticket ≡ ticket_of board command → reply ≡ ticket.reply
       → HasNumber command → IsHistory board → IsWithin board told → board.start ≡ start → total ≡ length board.order → after ≡ counted total reply

@@ -121,7 +121,7 @@ as_before start old new order command documents same is are =
     taken = ap (λ (b : Board Entry). b.taken) is ∙ taken_by old command (answer old.state command)
 
 module _ (start : State) (board : Board Entry) (documents : List (List Element)) (are : AreMadeThere start board.order board.taken (untaken board) documents) where
-  -- a run that is taken off has the first ones
+  -- a run that is taken off has the documents of its first commands
   pub run_made : (count : ℕ) (commands : List Taken) → commands ≡ takens (next_run board count) → AreMadeThere start board.order board.taken commands (take count documents)
   run_made count commands is =
       subst (λ (l : List Taken). AreMadeThere start board.order board.taken l (take count documents)) (sym (takens-take count (drop board.taken board.order)) ∙ sym is)
@@ -158,7 +158,7 @@ taken_when false board count none = let same : board.taken ≡ board.taken + cou
 pub takes : (board : Board Entry) (count : ℕ) → count ≤ length (untaken board) → (if can_take board count then taken_more board count else board) ≡ taken_more board count
 takes board count within = taken_when (can_take board count) board count (none_taken board count within)
 
--- The documents of a run, where it goes on with what is published.
+-- The documents of a run, where it continues what is published.
 pub made_by : (start : State) (told commands named : List Taken) (place at : ℕ) (order : List Entry) (documents : List (List Element)) → commands ≡ named
     → place ≡ at → at ≡ length told → AreMadeThere start order place commands documents → IsPrefix told (takens order) → AreMade (fold start told) named documents
 made_by start told commands named place at order documents is same long are begins =

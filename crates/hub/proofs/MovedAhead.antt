@@ -1,4 +1,4 @@
--- An edit that was moved in a state stays so as the order goes on.
+-- An edit that was moved in a state stays so as the order grows.
 use Rattle.std.proofs.Common.{◌≡◌, List, [], ◌∷◌, ◌++◌, refl, sym, ap, subst, ◌∙◌}
 use Rattle.std.proofs.lemmas.List.{map-append}
 use mathlib.Core.List.{IsPrefix}

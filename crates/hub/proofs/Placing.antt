@@ -123,7 +123,7 @@ module _ {A : Type 0} where
   parts (suc m) cs [] part = ap (λ l. l ++ []) part
   parts (suc m) cs (z ∷ zs) part = ap (λ l. l ++ drop m zs) part ∙ ap (λ l. z ∷ l) (parts m (take m zs) zs refl)
 
-  -- a beginning, and the part behind it
+  -- a prefix, and the part behind it
   pub part-behind : (xs cs zs : List A) (n : ℕ) → n ≡ length xs → IsPrefix xs zs → cs ≡ take (length cs) (drop n zs) → IsPrefix (xs ++ cs) zs
   part-behind [] cs zs zero is begin part = (drop (length cs) zs, parts (length cs) cs zs part)
   part-behind [] cs zs (suc n) is begin part = absurd (omega (arith, is))
@@ -173,7 +173,7 @@ part_of order commands taken fits bound within next = record {
   part = next ∙ (takens-take (length commands) (drop taken order) ∙ ap (take (length commands)) (takens-drop taken order));
 }
 
--- a run goes on with what is published
+-- a run continues what is published
 pub goes_on_by : (told commands named : List Taken) (place at : ℕ) (order copy : List Entry) → copy ≡ order → commands ≡ named → place ≡ at → at ≡ length told
     → IsPart commands place order → IsPrefix told (takens order) → IsPrefix (told ++ named) (takens copy)
 goes_on_by told commands named place at order copy same is there long part begin =

@@ -40,7 +40,7 @@ made_keep f i xs ys d e within same is =
 abbrev pub none : Awaited
 none = record { least = 0; most = 0 }
 
--- How far the places are gone through, of which each is looked at by what is awaited there.
+-- How far the places are gone through; each is looked at by what is awaited there.
 module _ (settled i : ℕ) (old now now' : List Awaited) (told told' : List Bool) (long : length old ≡ 64) (within : i < 64)
     (told_is : told ≡ made (is_covered settled) i old (replicate 64 false)) (now_is : now ≡ made (still_awaited settled) i old old) where
   inside : i < length old

@@ -1,4 +1,4 @@
--- What comes of a command that is submitted at a hub.
+-- The answer to a command that is submitted at a hub.
 use Rattle.std.specs.Prelude.{◌≡◌, ◌⊎◌, Bool, true, false, Some, Result, Ok, Err}
 use Rattle.refusal.specs.declared.Refusal.{Refusal}
 use Rattle.refusal.specs.declared.Refusal.TheVariants.{NoMemory, StoreFailed}
@@ -24,7 +24,7 @@ WasRefused start command refusal =
     ⊎ ((board : Inner Entry) × IsOfRun start board × (answer board.state command ≡ Refuses refusal))
 
 module _ {J : Type 0} where
-  -- What comes of a command that is submitted: a board's ticket or its refusal. That the store had failed or the hub had ended a token says.
+  -- The answer to a command that is submitted: a board's ticket or its refusal. That the store had failed or the hub had ended a token says.
   abbrev pub WasGiven : State → Command → Result Ticket (NotSubmitted J) → Type 0
   WasGiven start command (Ok ticket) = GaveTicket start command ticket
   WasGiven start command (Err (Stopped token)) = Unit {0}

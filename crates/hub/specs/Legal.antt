@@ -22,7 +22,7 @@ pub record Tally : Type 0 where
   pub seats : ℕ
   pub counted : ℕ
 
--- the order is a legal history from the start, of which the state is the fold
+-- the order is a legal history from the start, and the state is its fold
 pub record IsHistory (board : Inner Entry) : Type 0 where
   pub legal : IsLegal board.start board.order
   pub state : board.state ≡ fold board.start (takens board.order)

@@ -22,7 +22,7 @@ pub record IsPlaced (start : State) (order : List Entry) (ticket : Ticket) : Typ
   pub long : length order ≡ ticket.length
   pub reply : PlacedBy start order ticket.command ticket.reply
 
--- The order of the ticket, which is a legal history, is the first part of these commands.
+-- The order of the ticket, which is a legal history, is a prefix of these commands.
 pub record StandsFirst (start : State) (ticket : Ticket) (commands : List Taken) : Type 0 where
   pub order : List Entry
   pub legal : IsLegal start order

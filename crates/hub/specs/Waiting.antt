@@ -37,7 +37,7 @@ rest_of settled awaited = if nat_le awaited.most settled then nobody else record
 abbrev pub still_awaited : ℕ → Awaited → Awaited
 still_awaited settled awaited = if is_covered settled awaited then rest_of settled awaited else awaited
 
--- Just those places are told where the least that is awaited is settled, and what is noted there from then on is what isn't settled.
+-- Exactly those places are told where the least that is awaited is settled, and what is noted there from then on is what isn't settled.
 pub record AreWoken (settled : ℕ) (old new : List Awaited) (woken : List Bool) : Type 0 where
   pub covered : woken ≡ map (is_covered settled) old
   pub awaited : new ≡ map (still_awaited settled) old

@@ -10,7 +10,7 @@ use published::{Order, Ordered, Site, Told};
 use revision::{Command, MovedEdit};
 use std::marker::Model;
 
-/// An edit that is past what a beginning of the run's order took after its base. A seat that has it submits that edit in less time, since
+/// An edit that is past what a prefix of the life's order took after its base. A seat that has it submits that edit in less time, since
 /// only what was taken later is left to move it past. Contracts see it as the edit that was moved.
 #[derive(Drop)]
 pub struct Ahead<J: Site> {

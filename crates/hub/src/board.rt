@@ -29,7 +29,7 @@ use std::mem;
 use std::sync::ledger::{Blank, Book, Share};
 use world::{Board as Inner, Entry};
 
-/// So many code units the documents beside commands may have, if all are as long as the last one.
+/// The documents beside commands have at most so many code units, counted as if all were as long as the newest one.
 const MOST_UNITS: u64 = 1 << 22;
 
 /// The order of the commands that were taken since a store was opened, with the state after them, how many are taken off to be written
@@ -164,7 +164,7 @@ impl<D, J: Site> Board<D, J> {
         self.board.untaken().is_empty()
     }
 
-    /// A seat more, of which nothing is counted yet. Refused with `NoSeat` exactly when none is left to give, and then nothing has changed. It takes no memory.
+    /// A seat more, with nothing counted yet. Refused with `NoSeat` exactly when none is left, and then nothing has changed. It takes no memory.
     pub fn seat(&mut self) -> Result<Seat<J>, Refusal>
         ensures ok { OnOk result (self.old ≡ record self.new { left = self.new.left + 1 }) }
         ensures new { IfOk result (λ seat. seat ≡ 0) }
@@ -334,7 +334,7 @@ impl<D, J: Site> Board<D, J> {
         }
     }
 
-    /// Ends the board, of which all seats were given and are tallied: its order is a legal history, which begins as a token of it has it, and
+    /// Ends the board, whose seats were all given and are tallied: its order is a legal history, which begins as a token of it has it, and
     /// is as long as what the seats have counted. It gives that length, and takes no memory.
     pub fn end(self, seats: Tally<J>, ordered: &Ordered<J>) -> usize
         requires all { seats.seats + 1 ≡ J.parts }
@@ -395,7 +395,7 @@ fn order_taken<J: Site>(order: &mut Order<J>, board: &Inner, ticket: &world::Tic
 }
 
 // Keeps the document that the command of a ticket left, which the board has just given, if the board took it, memory suffices, and the
-// documents of all commands before it that aren't taken off are kept. The order is as it was before the command.
+// documents of all commands before it that aren't taken off are kept. The order is the one before the command.
 fn keep_made<J: Site>(
     alloc: Global,
     made: &mut Vec<Document>,
@@ -456,7 +456,7 @@ fn push_copy(alloc: Global, made: &mut Vec<Document>, document: &Document)
     }
 }
 
-// Parts documents after so many of them: the first ones stay, and it gives the others.
+// Parts documents after so many of them: the first `count` stay, and it gives the others.
 fn parted(made: &mut Vec<Document>, count: usize) -> Result<Vec<Document>, AllocError>
     ensures first { OnOk result (made.new.items ≡ take count made.old.items) }
     ensures rest { IfOk result (λ rest. rest.items ≡ drop count made.old.items) }

@@ -79,7 +79,7 @@ const YIELDS: u32 = 200;
 /// for work, and says where the store has failed: these calls ask for the hub's `Writer`, which that thread alone has. Who ends the hub
 /// has its `Closer`. A command takes the lock once. Who waits for a ticket looks at its place, which the flusher tells what is settled, and
 /// sleeps until the batch with its command is settled, which wakes all who wait for that batch at once. All calls by `&self` may wait.
-/// What a call does to the board under the lock is the board's own contract; here stands what the caller is told.
+/// What a call does to the board under the lock is the board's own contract; here stands what the caller gets.
 #[derive(Drop)]
 pub struct Hub<D, J: Site> {
     kept: Mutex<Kept<D, J>>,
@@ -315,8 +315,8 @@ impl<D, J: Site> Hub<D, J> {
         unreachable!()
     }
 
-    /// Waits until a command of the order isn't taken off, and answers with the token of that; with the other one where the end was called and
-    /// all are.
+    /// Waits for a command to take off, and answers with the token `Work`; or, once the end was called and no command is left, with the
+    /// token `Idle`.
     pub fn wait_work<R: Wait>(&self, rt: &R, writer: &mut Writer<J>) -> Result<Work<J>, Idle<J>> {
         let _ = writer;
         let mut kept = self.held(rt);
@@ -340,7 +340,7 @@ impl<D, J: Site> Hub<D, J> {
         ended
     }
 
-    /// A seat more, of which nothing is counted yet, as `Board::seat` gives it. Refused with `NoSeat` alone, where none is left to give. It
+    /// A seat more, with nothing counted yet, as `Board::seat` gives it. Refused with `NoSeat` alone, where none is left to give. It
     /// takes no memory.
     pub fn seat<R: Wait>(&self, rt: &R, closer: &mut Closer<J>) -> Result<Seat<J>, Refusal>
         ensures new { IfOk result (λ seat. seat ≡ 0) }

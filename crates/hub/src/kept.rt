@@ -63,7 +63,7 @@ impl<D, J: Site> Model for Kept<D, J> {
 }
 
 impl<D, J: Site> Kept<D, J> {
-    // A board at which nobody waits yet, and of which the end wasn't called, with the two rights to it. Nothing else makes them.
+    // A board at which nobody waits yet, and whose end wasn't called, with the two rights to it. Nothing else makes them.
     pub(crate) fn new(board: Board<D, J>) -> (Kept<D, J>, Writer<J>, Closer<J>)
         ensures board { result.0.board ≡ board }
         ensures nobody { result.0.awaited ≡ replicate 64 nobody }
@@ -200,7 +200,7 @@ impl<D, J: Site> Kept<D, J> {
         }
     }
 
-    // Submits a command, as `submit` does, and finds the order that is behind it then, which has first what was found before and what was
+    // Submits a command, as `submit` does, and finds the order that has it then, which begins with what was found before and what was
     // told.
     pub(crate) fn submit_after(
         &mut self,
@@ -357,7 +357,7 @@ impl<D, J: Site> Kept<D, J> {
     }
 }
 
-// Puts what comes of a submission behind others, for which there is room.
+// Puts the answer to a submission behind others; there is room for it.
 fn push_in_room<J: Site>(
     answers: &mut Vec<Result<Ticket<J>, NotSubmitted<J>>>,
     submitted: Result<Ticket<J>, NotSubmitted<J>>,

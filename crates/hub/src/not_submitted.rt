@@ -10,7 +10,7 @@ use refusal::Refusal;
 /// Why a hub has no ticket for a command.
 #[derive(Drop)]
 pub enum NotSubmitted<J: Site> {
-    /// The store had failed or the hub had ended, which is told as `StoreFailed`.
+    /// The store had failed or the hub had ended, which a session gets as `StoreFailed`.
     Stopped(Token<J>),
     /// The board refused it.
     ByBoard(Refusal),
@@ -28,7 +28,7 @@ impl<J: Site> NotSubmitted<J> {
         }
     }
 
-    /// What a session is told.
+    /// The refusal that a session gets.
     pub fn refusal(&self) -> Refusal
         ensures { result ≡ refusal_of self.now }
     {

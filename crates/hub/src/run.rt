@@ -76,7 +76,7 @@ impl<D, J: Site> Run<D, J> {
         self.place
     }
 
-    /// The order with its commands, where it goes on with what a token names: as many commands as the order has before its own.
+    /// The order with its commands, where it continues what a token names: as many commands as the order has before its own.
     pub fn goes_on(&self, told: &Told<D, J>) -> Ordered<J>
         requires { self.now.place ≡ length (commands_of told.now) }
         ensures next { IsPrefix (commands_of told.now ++ self.now.commands) (takens result) }
@@ -116,7 +116,7 @@ impl<D, J: Site> Run<D, J> {
         &self.batch
     }
 
-    /// The documents as its first commands leave them, where it goes on with what a token names: beside its last ones there may be none.
+    /// Element i is the document that command i leaves, where the run continues what a token names. Its last commands may have none.
     pub fn made(&self, told: &Told<D, J>) -> &[Document]
         requires { self.now.place ≡ length (commands_of told.now) }
         ensures { AreMade (fold J.start (commands_of told.now)) self.now.commands result.now }
@@ -125,7 +125,7 @@ impl<D, J: Site> Run<D, J> {
         self.made.as_slice()
     }
 
-    /// Ends a run that was committed, by the receipt of its commit, where it goes on with what a token names, and gives the documents as its
+    /// Ends a run that was committed, by the receipt of its commit, where it continues what a token names, and gives the documents as its
     /// first commands leave them, as `made` does.
     pub fn committed(self, receipt: &Receipt<D>, told: &Told<D, J>) -> Vec<Document>
         requires batch { receipt.now ≡ self.commands }

@@ -81,7 +81,7 @@ impl<J: Site> Model for Failed<J> {
 }
 
 impl<J: Site> Failed<J> {
-    // This board was told.
+    // Of a board that has failed, for this reason.
     pub(crate) fn by_board<D>(board: &Board<D, J>, refusal: Refusal) -> Failed<J>
         requires { board.now.failed ≡ true }
         ensures { result ≡ refusal }
@@ -93,7 +93,7 @@ impl<J: Site> Failed<J> {
         }
     }
 
-    /// Why.
+    /// The refusal that failed the store.
     pub fn refusal(&self) -> Refusal
         ensures { result ≡ self.now }
     {
@@ -109,7 +109,7 @@ pub struct Idle<J: Site> {
 }
 
 impl<J: Site> Idle<J> {
-    // What lies under a lock was found so.
+    // Of what lies under the hub's lock: the end was called, and nothing is left to take off.
     pub(crate) fn by_kept<D>(kept: &Kept<D, J>) -> Idle<J>
         requires ended { kept.now.ended ≡ true }
         requires idle { untaken kept.now.board.board ≡ [] }
@@ -126,7 +126,7 @@ pub struct Work<J: Site> {
 }
 
 impl<J: Site> Work<J> {
-    // This board had one.
+    // Of a board that has one.
     pub(crate) fn by_board<D>(board: &Board<D, J>) -> Work<J>
         requires { untaken board.now.board ≢ [] }
     {
@@ -142,7 +142,7 @@ pub struct Ended<J: Site> {
 }
 
 impl<J: Site> Ended<J> {
-    // What lies under a lock was found so.
+    // Of what lies under the hub's lock: the end was called.
     pub(crate) fn by_kept<D>(kept: &Kept<D, J>) -> Ended<J>
         requires { kept.now.ended ≡ true }
     {
@@ -159,7 +159,7 @@ pub struct Stopped<J: Site> {
 }
 
 impl<J: Site> Stopped<J> {
-    // This board had failed.
+    // Of a board that has failed.
     pub(crate) fn by_board<D>(board: &Board<D, J>) -> Stopped<J>
         requires { board.now.failed ≡ true }
     {
@@ -167,7 +167,7 @@ impl<J: Site> Stopped<J> {
         Stopped { of: PhantomData }
     }
 
-    // What lies under a lock was found ended.
+    // Of what lies under the hub's lock: the end was called.
     pub(crate) fn by_kept<D>(kept: &Kept<D, J>) -> Stopped<J>
         requires { kept.now.ended ≡ true }
     {
@@ -175,18 +175,18 @@ impl<J: Site> Stopped<J> {
         Stopped { of: PhantomData }
     }
 
-    // The hub was told that the store has failed.
+    // Of a hub that was told that the store has failed.
     pub(crate) fn by_failed(failed: &Failed<J>) -> Stopped<J> {
         let _ = failed;
         Stopped { of: PhantomData }
     }
 
-    /// Another one of the same.
+    /// A copy.
     pub fn copy(&self) -> Stopped<J> {
         Stopped { of: PhantomData }
     }
 
-    /// What a session is told of it.
+    /// The refusal that a session gets.
     pub fn refusal(&self) -> Refusal
         ensures { result ≡ Refusal.StoreFailed }
     {

@@ -1,4 +1,4 @@
--- Published batches, of which some begin others, and what they make of a state.
+-- Published batches, where some begin others, and what they make of a state.
 use Rattle.std.proofs.Common.{◌≡◌, ◌++◌, ◌&&◌, Bool, true, false, List, [], ◌∷◌, refl, sym, ap, subst, ◌∙◌, append_assoc}
 use mathlib.Core.List.{IsPrefix}
 use Rattle.revision.specs.Command.{Taken}
@@ -26,7 +26,7 @@ pub grow_behind : (front back : List Taken) (state : State) → all_grow state (
 grow_behind [] back state grow = (grow, refl)
 grow_behind (first ∷ others) back state grow = grow_behind others back (grown state first) (and_right (grows state first) (all_grow (grown state first) (others ++ back)) grow)
 
--- so what longer batches make of a start is later than what a beginning of them makes
+-- so what longer batches make of a start is later than what a prefix of them makes
 pub later_batches : (start : State) (old new : List (List Taken)) → IsPrefix old new → all_grow start (commands_of new) ≡ true
     → IsLater (fold start (commands_of old)) (fold start (commands_of new))
 later_batches start old new (back, is) grow =

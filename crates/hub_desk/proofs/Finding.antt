@@ -26,7 +26,7 @@ bytes_turned : (a b : List ℕ) → bytes_eq a b ≡ bytes_eq b a
 bytes_turned a b = same_from_decides (bytes_eq a b) (bytes_eq b a) (bytes_eq-Decides a b)
     ((λ e. sym ((bytes_eq-Decides b a).0 e)), (λ e. (bytes_eq-Decides b a).1 (sym e)))
 
--- a source's window has what was noted of it, and others are as they were
+-- a source's window has what was noted of it, and others are unchanged
 window_of-with_taken : (source by : List ℕ) (number revision : ℕ) (sources : Sources)
     → window_of source (with_taken by number revision sources) ≡ cond (bytes_eq by source) (taken_as number revision (window_of source sources)) (window_of source sources)
 window_of-with_taken source by number revision sources =

@@ -32,7 +32,7 @@ take_whole [] (suc i) so = refl
 take_whole (x ∷ xs) zero so = absurd (omega arith)
 take_whole (x ∷ xs) (suc i) so = ap (λ l. x ∷ l) (take_whole xs i (omega arith))
 
--- The next was refused for want of memory.
+-- The next was refused as out of memory.
 pub refused_more : (refusal : Refusal) (sent : List Sent) (i : ℕ) (item : Sent) → refusal ≡ NoMemory → i < length sent → item ≡ get_or sent i item
     → ((start : State) (desk : Desk) → Asks (PassesAtHub start) desk (exchanges_of (take i sent)) desk)
     → (start : State) (desk : Desk) → Asks (PassesAtHub start) desk (exchanges_of (take (i + 1) (set sent i (record { command = item.command; answer = Err refusal })))) desk

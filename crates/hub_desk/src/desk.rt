@@ -121,7 +121,7 @@ impl<'a, D, J: Site, R> HubDesk<'a, D, J, R> {
         true
     }
 
-    // Notes that the hub is stopped, and gives what the session is told of that.
+    // Notes that the hub is stopped, and gives the refusal that the session gets.
     fn stop(&mut self, token: Stopped<J>) -> Refusal
         ensures refusal { result ≡ Refusal.StoreFailed }
         ensures noted { self.new ≡ record self.old { stopped = true } }
@@ -131,7 +131,7 @@ impl<'a, D, J: Site, R> HubDesk<'a, D, J, R> {
         refusal
     }
 
-    // Notes why a command wasn't submitted, and gives what the session is told of that.
+    // Notes why a command wasn't submitted, and gives the refusal that the session gets.
     fn refused(&mut self, why: &NotSubmitted<J>) -> Refusal
         ensures refusal { result ≡ refusal_of why.now }
         ensures noted { self.new ≡ noted self.old why.now }
@@ -169,7 +169,7 @@ impl<D, J: Site, R: Wait> HubDesk<'_, D, J, R> {
     }
 
     // An edit that is late by many revisions, moved on past what the view shows. None where the command is no such edit, where nothing is
-    // shown, and for want of memory. The deltas are shared inside the view, and the edit is moved outside of it.
+    // shown, and where memory runs out. The deltas are shared inside the view, and the edit is moved outside of it.
     fn moved_on(&mut self, alloc: Global, command: &Command) -> Option<Ahead<J>>
         ensures { self.new ≡ self.old }
     {

@@ -1,4 +1,4 @@
--- Beginnings of a text that are written.
+-- Prefixes of a text that are written.
 use Rattle.std.proofs.Common.{◌≡◌, ◌++◌, ◌+◌, ◌≤◌, List, ℕ, [], ◌∷◌, suc, length, take, refl, subst, arith, Option, Some, None, Result, Ok, Err, OnErr, sym, ap, ◌∙◌}
 use Rattle.std.proofs.lemmas.List.{take_at, take-append-le, length-append}
 use Rattle.std.specs.Io.KnownBytes.{Appends, Keeps}
@@ -17,7 +17,7 @@ appends-kept (Some x) None c text written kept = absurd written
 appends-kept (Some x) (Some y) None text written kept = absurd kept
 appends-kept (Some x) (Some y) (Some z) text written kept = kept ∙ written
 
--- a first part of a text is a beginning of it
+-- the first part of a text is a prefix of it
 pub front-of : (a b : Option (List ℕ)) (done rest text : List ℕ) → done ++ rest ≡ text → Appends a b done → AppendsFront a b text
 front-of a b done rest text whole written = (
   length done,
@@ -31,7 +31,7 @@ take-behind (x ∷ xs) back n =
     ap (λ k. take k (x ∷ (xs ++ back))) (let one : length (x ∷ xs) + n ≡ suc (length xs + n) = omega arith in one)
     ∙ ap (λ (l : List ℕ). x ∷ l) (take-behind xs back n)
 
--- a text, and a beginning of another one behind it
+-- a text, and a prefix of another one behind it
 pub front-behind : (a b c : Option (List ℕ)) (front back : List ℕ) → Appends a b front → AppendsFront b c back → AppendsFront a c (front ++ back)
 front-behind a b c front back first (n, within, second) = (
   length front + n,
@@ -39,7 +39,7 @@ front-behind a b c front back first (n, within, second) = (
   subst (Appends a c) (sym (take-behind front back n)) (appends-both a b c front (take n back) first second),
 )
 
--- a beginning of a text is one of a longer text
+-- a prefix of a text is one of a longer text
 pub front-longer : (a b : Option (List ℕ)) (front back : List ℕ) → AppendsFront a b front → AppendsFront a b (front ++ back)
 front-longer a b front back (n, within, written) = (
   n,

@@ -23,14 +23,14 @@ module _ (line : DocumentRecord → List ℕ) where
   lines-last documents last =
       flat_map-append line documents (last ∷ []) ∙ ap (λ (l : List ℕ). flat_map line documents ++ l) (append-nil (line last))
 
-  -- the lines of a first part of the documents and the next one
+  -- the lines of a prefix of the documents and the next one
   pub lines-more : (documents : List PendingDocument) (i : ℕ) (next : PendingDocument) → i < length documents → next ≡ get_or documents i next
       → flat_map line (map record_of (take (i + 1) documents)) ≡ flat_map line (map record_of (take i documents)) ++ line (record_of next)
   lines-more documents i next within is =
       ap (λ (ds : List PendingDocument). flat_map line (map record_of ds)) (take_more documents i next within ∙ ap (λ (d : PendingDocument). take i documents ++ d ∷ []) (sym is))
       ∙ ap (λ (ds : List DocumentRecord). flat_map line ds) (map_push record_of (take i documents) next) ∙ lines-last (map record_of (take i documents)) (record_of next)
 
-  -- the lines of a first part of the documents and of the others
+  -- the lines of a prefix of the documents and of the others
   lines-parts : (documents : List PendingDocument) (i : ℕ)
       → flat_map line (map record_of (take i documents)) ++ flat_map line (map record_of (drop i documents)) ≡ flat_map line (map record_of documents)
   lines-parts documents i =
@@ -38,14 +38,14 @@ module _ (line : DocumentRecord → List ℕ) where
       ∙ ap (λ (ds : List DocumentRecord). flat_map line ds) (sym (map-append record_of (take i documents) (drop i documents)))
       ∙ ap (λ (ds : List PendingDocument). flat_map line (map record_of ds)) (take-append-drop i documents)
 
-  -- the lines of a first part of the documents are a beginning of all lines
+  -- the lines of a prefix of the documents are a prefix of all lines
   pub front-told : (documents : List PendingDocument) (records : List DocumentRecord) (i : ℕ) (a b : Option (List ℕ)) → map record_of documents ≡ records
       → Appends a b (flat_map line (map record_of (take i documents))) → AppendsFront a b (flat_map line records)
   front-told documents records i a b are written =
       front-of a b (flat_map line (map record_of (take i documents))) (flat_map line (map record_of (drop i documents))) (flat_map line records)
       (lines-parts documents i ∙ ap (λ (ds : List DocumentRecord). flat_map line ds) are) written
 
-  -- and so they are with a beginning of the next line
+  -- and so they are with a prefix of the next line
   pub front-within : (documents : List PendingDocument) (records : List DocumentRecord) (i : ℕ) (next : PendingDocument) (text : List ℕ) (a b c : Option (List ℕ))
       → map record_of documents ≡ records → i < length documents → next ≡ get_or documents i next → text ≡ line (record_of next)
       → Appends a b (flat_map line (map record_of (take i documents))) → AppendsFront b c text → AppendsFront a c (flat_map line records)

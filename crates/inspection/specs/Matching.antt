@@ -17,7 +17,7 @@ pub record PastsMatch (floor : ℕ) (a b : Past) : Type 0 where
   pub deltas : deltas_above a floor ≡ deltas_above b floor
 
 -- Two records match: their names, revisions, marks, units and sources are equal, and their pasts match from the lowest revision on that both
--- hold. Of `DocumentsAgree` this leaves out whose each of the changes is, of which the sources tell the last ones.
+-- hold. Of `DocumentsAgree` this leaves out whose each of the changes is; the sources tell it of the last ones.
 pub record DocumentsMatch (a b : DocumentRecord) : Type 0 where
   pub name : a.name ≡ b.name
   pub revision : revision_of a ≡ revision_of b

@@ -17,7 +17,7 @@ use std::alloc::{AllocError, Global};
 
 /// Writes one line for each document, in order of creation: name, revision, floor, `live` or `deleted`, its weight and what is left
 /// of the limit, how many sources it has and how many more it may have. Ends where a write fails (`Stream`), or with `NoMemory`, and then
-/// a beginning of the lines is written.
+/// a prefix of the lines is written.
 pub fn documents<O: Output>(alloc: Global, state: &State, output: &mut O) -> Result<(), Failure>
     ensures told { OnOk result (Appends (O.contents output.old) (O.contents output.new)
         (spec.lines_of state.now.limits state.now.documents)) }

@@ -10,7 +10,7 @@ use refusal::Refusal;
 use revision::{DocState, Limits, Name, Sources, State};
 use std::alloc::Global;
 
-/// Whether two states match. Refused for want of memory alone.
+/// Whether two states match. Refused as out of memory alone.
 pub(crate) fn states_match(alloc: Global, one: &State, other: &State) -> Result<bool, Refusal>
     ensures alike { result ≡ Ok true → Match one.now other.now }
     ensures differ { result ≡ Ok false → ¬ (Match one.now other.now) }

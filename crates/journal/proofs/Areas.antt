@@ -33,7 +33,7 @@ module _ (old : List ℕ) (place : Place) (bodies : List (List ℕ)) (stands : S
       ∙ ap (λ (l : List ℕ). take place.next l) stands.holds.split
       ∙ take_at (open_records bodies) (stands.holds.gate ∷ stands.holds.behind) place.next long
 
-  -- up to the gate all is as it was: the open records, and then what stands from the gate on
+  -- up to the gate all is unchanged: the open records, and then what stands from the gate on
   pub area_from : (content : List ℕ) → take gate content ≡ take gate old → area_bytes place content ≡ open_records bodies ++ take (place.size - place.next) (drop gate content)
   area_from content same =
       let bytes = drop place.at content in

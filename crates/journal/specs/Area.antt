@@ -33,7 +33,7 @@ pub record HoldsBodies (bodies : List (List ℕ)) (bytes : List ℕ) : Type 0 wh
   pub closed : gate ≢ open_gate
   pub each : AllByRecursion IsBody bodies
 
--- What a crash within a write behind a gate may leave: the gate as it was, and any bytes behind it, or the new bytes
+-- What a crash within a write behind a gate may leave: the gate unchanged, and any bytes behind it, or the new bytes
 -- behind a gate of any value.
 abbrev pub IsGated : ℕ → List ℕ → List ℕ → List ℕ → Type 0
 IsGated gate bytes old content =
@@ -50,7 +50,7 @@ pub record Place : Type 0 where
 abbrev pub area_bytes : Place → List ℕ → List ℕ
 area_bytes place content = take place.size (drop place.at content)
 
--- an area that stands for these bodies in a content
+-- an area that represents these bodies in a content
 pub record Stands (content : List ℕ) (place : Place) (bodies : List (List ℕ)) : Type 0 where
   pub holds : HoldsBodies bodies (area_bytes place content)
   pub next : place.next ≡ length (open_records bodies)

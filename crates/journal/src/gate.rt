@@ -15,12 +15,12 @@ pub const OPEN: u8 = 0xA5;
 pub const CLOSED: u8 = 0x00;
 
 /// Writes `bytes` behind the gate at this offset, syncs, opens the gate, and syncs: four calls of the device.
-/// Until the gate is opened in a write of its own, it stands as it was, whatever a crash leaves behind it.
+/// Until the gate is opened in a write of its own, it stays unchanged, whatever a crash leaves behind it.
 pub fn write_gated<D: Disk>(disk: &mut D, gate: u64, bytes: &[u8]) -> Result<(), Fault>
     requires fits { gate + 1 + length bytes.now ≤ length (D.seen disk.old) }
     requires bound { gate + 1 < 2 ^ 64 }
 
-    // From a synced device on, a crash at any moment leaves the gate as it was, or the bytes behind it.
+    // From a synced device on, a crash at any moment leaves the gate unchanged, or the bytes behind it.
     ensures any_moment { D.unsynced disk.old ≡ []
         → LeavesOnly ⟦<D as Disk>⟧ (IsGated gate bytes.now (D.seen disk.old)) disk.old disk.new }
     ensures seen { OnOk result (D.seen disk.new

@@ -1,4 +1,4 @@
--- How a run goes on by one call, and what its answers then say.
+-- How a run continues by one call, and what its answers then say.
 use Rattle.std.proofs.Common.{◌≡◌, ◌≢◌, ◌≤◌, ◌<◌, ◌⊎◌, inl, inr, ℕ, suc, zero, ◌+◌, false, Option, Some, None, List, [], ◌∷◌, ◌++◌, length, take, get_or, refl, sym, ◌∙◌, ap, subst, arith, append-nil}
 use Rattle.std.specs.Prelude.{Result, Ok, Err, OnOk, OnErr, IfOk, IfErr, IsErrOf, slice_get, min, true, ◌↔◌, ◌^◌, ◌-◌}
 use Rattle.std.proofs.lemmas.Bool.{false≢true}
@@ -371,7 +371,7 @@ turned_not old after count took none =
 pub handed_on : {T : Type 0} (P : Refusal → Type 0) (r : Result T Refusal) (e f : Refusal) → r ≡ Err e → e ≡ f → P f → IfErr r P
 handed_on P r e f was from p = subst (λ o. IfErr o P) (sym was) (subst P (sym from) p)
 
--- each of these is neither want of memory nor a publish that is refused
+-- each of these is neither out of memory nor a publish that is refused
 not_full : (refusal : Refusal) → refusal ≡ JournalFull → refusal ≢ NoMemory
 not_full refusal is memory = cc
 

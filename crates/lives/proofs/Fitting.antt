@@ -61,7 +61,7 @@ module _ {D : Type 0} {disk : Ghosts D} where
       subst (λ (b : Board Entry). MaySettle b receipt (length (commands_of token))) (sym boards)
       (subst (λ (r : List Taken). MaySettle (taken_more here.board (length run)) r (length (commands_of token))) (sym same) here_may)
 
-  -- a run that is taken off goes on with what is published
+  -- a run that is taken off continues what is published
   pub goes_next : (start : State) (here : Standing D disk) (place : ℕ) → IsCalm start here → place ≡ here.board.taken → place ≡ length (commands_of here.told)
   goes_next start here place calm is =
       let stands = calm_stands start here calm in

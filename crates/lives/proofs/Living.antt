@@ -22,7 +22,7 @@ use Rattle.world.specs.steps.Holding.{Stands, Counts, WasSent, StandsSettled, Is
 use Rattle.world.proofs.CallerLemmas.{shown-fold, fold_shown-append, placed-take, stands-take, begun-holds, run-holds, acks-stay, acks-one_revision, taken-once, nothing-taken_back, taken-is_again, state-is_fold}
 use Rattle.lives.proofs.Scheduling.{run_is_schedule}
 
--- a board of which everything is settled
+-- a board with everything settled
 abbrev settled_board : State → List Entry → ℕ → State → Board Entry
 settled_board start order settled state = record { start = start; order = order; state = state; taken = settled; settled = settled }
 
@@ -96,7 +96,7 @@ take-behind {A = A} [] more n = ap (λ (k : ℕ). take k more) (let none : 0 + n
 take-behind {A = A} (x ∷ others) more n =
     ap (λ (k : ℕ). take k (x ∷ (others ++ more))) (let next : length (x ∷ others) + n ≡ suc (length others + n) = omega arith in next) ∙ ap (λ (l : List A). x ∷ l) (take-behind others more n)
 
--- a ticket stands as the order goes on
+-- a ticket still stands as the order continues
 stands-before : (documents : List Shown) (first more : List Entry) (ticket : Ticket) → Stands documents first ticket → Stands documents (first ++ more) ticket
 stands-before documents first more ticket stands = record {
   within = omega (arith, stands.within, length-append first more);

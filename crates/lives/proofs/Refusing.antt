@@ -33,7 +33,7 @@ needed_not_memory : StillNeeded ≡ NoMemory → ⊥
 needed_not_memory is = cc
 
 module _ {D : Type 0} {disk : Ghosts D} where
-  -- a store that works, where a call was refused for want of memory alone
+  -- a store that works, where a call was refused as out of memory alone
   pub fails_not : {T : Type 0} (store : Store D disk) (result : Result T Refusal) → has_failed store ≡ false → IfErr result (λ e. e ≡ NoMemory) → has_failed store ≡ true ↔ IsErrOf result Fault
   fails_not store (Ok answer) works only = (λ failed. absurd (false≢true (sym works ∙ failed)), λ is. absurd (no_error answer Fault is))
   fails_not store (Err refusal) works only = (λ failed. absurd (false≢true (sym works ∙ failed)), λ is. absurd (memory_not_fault (sym only ∙ same_of refusal Fault is)))

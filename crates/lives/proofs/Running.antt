@@ -1,4 +1,4 @@
--- How a thread's run goes on from one calm moment to the next.
+-- How a thread's run continues from one calm moment to the next.
 use Rattle.std.proofs.Common.{◌≡◌, ◌≤◌, inl, false, List, [], ◌++◌, length, refl, sym, ◌∙◌, ap, subst, arith, append_assoc, append-nil}
 use Rattle.disk.specs.declared.device.Disk.{Ghosts}
 use Rattle.revision.specs.Command.{Taken}

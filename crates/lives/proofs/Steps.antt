@@ -112,7 +112,7 @@ module _ {D : Type 0} {disk : Ghosts D} where
       (ap (λ (l : List (List Taken)). here.told ++ l) held) (ap (λ (b : Board Entry). b.settled) boards)
       (subst (λ (c : List Taken). Goes (IsWithOrWithout (state_of here.store) c) here.store store) (sym (append-nil run)) goes)
 
-  -- the same, where what was published is as it was by an equation
+  -- the same, where an equation says that what was published is unchanged
   pub run_refused_by : (start : State) (here : Standing D disk) (board : Board Entry) (known told committed waiting : List (List Taken)) (store : Store D disk) (run : List Taken) → IsCalm start here
       → run ≡ takens (next_run here.board (length run)) → here.board.taken + length run ≤ length here.board.order → board ≡ taken_more here.board (length run) → committed ++ waiting ≡ run ∷ []
       → Goes (IsWithOrWithout (state_of here.store) run) here.store store → told ≡ here.told

@@ -60,8 +60,8 @@ module _ {D : Type 0} {disk : Ghosts D} where
       ((board-after ≡ board) × (store-after ≡ store))
       ⊎ ((count : ℕ) × IsLongest cap (untaken board.board) count × (1 ≤ count) × (board-after ≡ record board { board = taken_more board.board count }))
 
-  -- What a call leaves that was begun and isn't answered: no ticket is given, and nothing more is settled. A submission leaves all as it
-  -- was, and an acknowledgement is always answered. A milestone leaves the board and the tickets, and where the store works still,
+  -- What a call leaves that was begun and isn't answered: no ticket is given, and nothing more is settled. A submission leaves all
+  -- unchanged, and an acknowledgement is always answered. A milestone leaves the board and the tickets, and where the store works still,
   -- memory ran out, and no more is changed of the store than that the document's job is dropped. A retirement leaves the board and the
   -- tickets, and the store has failed.
   abbrev pub IsUnanswered : ℕ → Between D disk → Call → Between D disk → Type 0
@@ -140,7 +140,7 @@ stop_of (Err refusal) = Some refusal
 
 module _ {D J : Type 0} {disk : Ghosts D} where
   -- Why the write of a run is refused, where neither the device failed nor memory ran out, and what that leaves: the run isn't committed,
-  -- since it finds no room in the journal, of which the last segment is opened.
+  -- since it finds no room in the journal, whose last segment is opened.
   pub record IsRunRefused (store : Store D disk) (run : List Taken) (refusal : Refusal) (after : Flusher D J disk) : Type 0 where
     pub why : (refusal ≡ JournalFull) ⊎ (refusal ≡ StillNeeded)
     pub no_room : has_room store run ≡ false

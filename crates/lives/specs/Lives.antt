@@ -29,7 +29,7 @@ pub data Life (D J : Type 0) (disk : Ghosts D) (start : State) : Board Entry →
       → Life D J disk start board acks sent → begin.board.board ≡ board → begin.tickets ≡ [] → AreNumbered calls → Answered cap begin calls answers here
       → Life D J disk start here.board.board (acks ++ acked here.tickets calls answers) (sent ++ commands_in calls)
 
--- How a run goes on the life that came to its board: the calls that were answered bring it to a board that has the order which the run
+-- How a run continues the life that came to its board: the calls that were answered bring it to a board that has the order which the run
 -- leaves, and as many settled.
 pub record LifeGoesOn (D J : Type 0) (disk : Ghosts D) (start : State) (after : Board Entry) (acks : List Ticket) (sent : List Command) : Type 0 where
   pub last : Board Entry
@@ -47,7 +47,7 @@ pub data Lives (D J : Type 0) (disk : Ghosts D) (start : State) : List Entry →
       → left ≤ length board.order → All (λ (ack : Ticket). ack.length ≤ left) (take heard given) → Agree next (fold now (takens (take left board.order)))
       → Lives D J disk start (stand ++ take left board.order) (acks ++ counted_from (length stand) (take heard given)) (sent ++ asked) next
 
--- What is promised of an order of commands since a start, of which so many are settled and which has this state, of the acknowledgements,
+-- What is promised of an order of commands since a start, with so many of them settled and with this state, of the acknowledgements,
 -- and of the commands that were sent.
 pub record IsPromised (start : State) (order : List Entry) (settled : ℕ) (state : State) (acks : List Ticket) (sent : List Command) : Type 0 where
   -- No acknowledged edit is missing.
@@ -84,8 +84,8 @@ OneLife D J disk =
     (start : State) (board : Board Entry) (given : List Ticket) (asked : List Command) → Life D J disk start board given asked
     → IsPromised start board.order board.settled board.state given asked
 
--- How a life ends, and the next one begins, by what `drive` and `Store::open` promise: a crash leaves a content that stands for the first
--- commands of the order, so many at least, and what is opened then agrees with whatever that content stands for. `heard` tells how many of
+-- How a life ends, and the next one begins, by what `drive` and `Store::open` promise: a crash leaves a content that represents the first
+-- commands of the order, so many at least, and what is opened then agrees with whatever that content represents. `heard` tells how many of
 -- the acknowledgements had come back, which ask for no more: all of them once `drive` has returned.
 abbrev pub LivesGoOn : (D J : Type 0) (disk : Ghosts D) → Type 0
 LivesGoOn D J disk =
@@ -97,7 +97,7 @@ LivesGoOn D J disk =
     → (left : ℕ) × (least ≤ left)
     × Lives D J disk start (stand ++ take left board.order) (acks ++ counted_from (length stand) (take heard given)) (sent ++ asked) next
 
--- A run that was answered as `drive` promises, up to where it stopped or whole, goes on the life that came to its board.
+-- A run that was answered as `drive` promises, up to where it stopped or whole, continues the life that came to its board.
 abbrev pub RunGoesOn : (D J : Type 0) (disk : Ghosts D) → Type 0
 RunGoesOn D J disk =
     (start : State) (cap : ℕ) (begin after : Between D disk) (calls : List Call) (answers : List (Answer D J)) (acks : List Ticket) (sent : List Command)

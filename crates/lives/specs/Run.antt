@@ -1,4 +1,4 @@
--- How a thread's run goes on from one moment to another, and which commands of the order a content stands for.
+-- How a thread's run continues from one moment to another, and which commands of the order a content represents.
 use Rattle.std.specs.Prelude.{◌≡◌, ◌≤◌, ℕ, false, List, ◌++◌, length, take}
 use Rattle.disk.specs.declared.device.Disk.{Ghosts}
 use Rattle.disk.specs.Crash.{MayLeaveNow}
@@ -10,7 +10,7 @@ use Rattle.recovery.specs.Goes.{Goes}
 use Rattle.flusher.specs.Batches.{IsBeginning}
 use Rattle.flusher.specs.Standing.{Standing, IsEven}
 
--- The content stands for a state that agrees with the one after the first commands of the order, so many of them at least, and where
+-- The content represents a state that agrees with the one after the first commands of the order, so many of them at least, and where
 -- these end a batch ends.
 pub record IsFirst (least : ℕ) (start : State) (order : List Taken) (batches : List (List Taken)) (content : List ℕ) : Type 0 where
   pub count : ℕ

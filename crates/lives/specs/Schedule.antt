@@ -92,7 +92,7 @@ module _ {D J : Type 0} {disk : Ghosts D} where
         × (run (at_rest begin.board.board earlier acks sent composed) (schedule (length earlier) calls answers)
         ≡ at_rest here.board.board (earlier ++ here.tickets) (acks ++ acked here.tickets calls answers) (sent ++ commands_in calls) more)
 
--- Each run of calls that were answered one after another, from a board of which all that is taken off is settled, is a schedule.
+-- Each run of calls that were answered one after another, from a board where all that is taken off is settled, is a schedule.
 abbrev pub RunIsSchedule : (D J : Type 0) (disk : Ghosts D) → Type 0
 RunIsSchedule D J disk =
     (cap : ℕ) (begin here : Between D disk) (calls : List Call) (answers : List (Answer D J)) → IsAllSettled begin.board.board → begin.tickets ≡ []

@@ -255,7 +255,7 @@ fn stopped_by(ended: Result<(), Refusal>) -> Option<Refusal>
 /// nothing.
 ///
 /// A crash at any moment of the run leaves the first commands of the board's order up to the end of a batch, and one after its return
-/// no fewer than are settled then, so no fewer than the ticket asks for of which an `Ack` gave a token.
+/// no fewer than are settled then, so no fewer than a ticket asks for whose `Ack` gave a token.
 pub fn drive<D: Disk, J: Site, R: Wait>(
     rt: &R,
     alloc: Global,

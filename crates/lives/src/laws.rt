@@ -15,7 +15,7 @@ pub fn run_is_a_schedule<D: Disk, J: Site>()
     ensures first { FirstIsSchedule D J ⟦<D as Disk>⟧ }
 {}
 
-/// Over all lives of a server, of which each began with what the crash before it had left: no acknowledged edit is missing, none is taken
+/// Over all lives of a server, where each began with what the crash before it had left: no acknowledged edit is missing, none is taken
 /// twice, and none changes its revision. What was acknowledged in any life and comes again is answered as a retry, with its revision,
 /// unless its source has sent a greater number since.
 pub fn lives<D: Disk, J: Site>()

@@ -12,7 +12,7 @@
 //! - `any_moment`, `holds`: each content that a crash may leave at any moment since the run began is found, whichever cell of a document
 //!   is used, as a state that agrees with the first commands of the board's order up to the end of a batch; once it has returned, with no
 //!   fewer commands than are settled then.
-//! - `acknowledged`: each ticket of which an acknowledgement gave a token asks for no more than is settled then. So a crash loses nothing
+//! - `acknowledged`: each ticket whose acknowledgement gave a token asks for no more than is settled then. So a crash loses nothing
 //!   that was acknowledged.
 //! - `answered`, `whole`: each answer is what specs/Driving.antt says by `Gives` of its call, of the board, the tickets and the store; a
 //!   run that isn't stopped answers all. A run stops out of memory, at a fault of the device, and where a turn is refused, by `Stops`

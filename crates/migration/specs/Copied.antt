@@ -33,11 +33,11 @@ pub record Suits (old shape : Shape) (size : ℕ) : Type 0 where
   pub fits : Fits shape size
   pub room : HasRoomFor old shape
 
--- A content stands for a state: this is read of it, or a store that ran with this state has left it.
+-- A content represents a state: this is read of it, or a store that ran with this state has left it.
 abbrev pub StandsFor : List ℕ → State → Type 0
 StandsFor content state = Found content Newer state ⊎ FoundAs content state
 
--- A content names this shape, and is found as a store of it that goes on, whose state agrees with this one but for the limits: each document
+-- A content names this shape, and is found as a store of it that can be opened, whose state agrees with this one but for the limits: each document
 -- has its number, its name, its newest revision with its content and its mark, and its sources with their windows. Its past begins there.
 pub record IsCopied (shape : Shape) (state : State) (content : List ℕ) : Type 0 where
   pub names : Names content shape

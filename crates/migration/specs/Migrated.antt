@@ -28,7 +28,7 @@ pub record AreCut (state : State) (start : List Cell) : Type 0 where
 abbrev pub AreSpelled : List Cell → Type 0
 AreSpelled start = (number : ℕ) (cell : Cell) → slice_get start number ≡ Some cell → IsCell number cell
 
--- A content names this shape, is found as the store of it which began with the documents of a state, cut, and goes on.
+-- A content names this shape, is found as the store of it which began with the documents of a state, cut, and can be opened.
 pub record IsMigrated (shape : Shape) (state : State) (content : List ℕ) : Type 0 where
   pub names : Names content shape
   pub start : List Cell

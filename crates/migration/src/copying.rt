@@ -52,7 +52,7 @@ pub fn copy<A: Disk, B: Disk>(alloc: Global, old: A, new: &mut B, shape: Shape) 
         × ¬ IsOldFormat (A.seen old) × ((found : StateValue) → ¬ Found (A.seen old) Newer found) }
 
     // From the first sync of a device without a store on, a crash at any moment leaves that device without one, or with one of this shape
-    // that is found as the documents of the old one, and that goes on; at Ok the latter.
+    // that is found as the documents of the old one, and that can be opened; at Ok the latter.
     ensures from_sync { A.honest result.old → IsUnformatted (B.seen new.old) → (state : StateValue)
         → StandsFor (A.seen old) state
         → LeavesFromSync (IsUnformattedOrCopied shape state) (history_of ⟦<B as Disk>⟧ new.old)
@@ -62,7 +62,7 @@ pub fn copy<A: Disk, B: Disk>(alloc: Global, old: A, new: &mut B, shape: Shape) 
         → StandsFor (A.seen old) state → IsCopied shape state (B.seen new.new)) }
     ensures synced { OnOk result.made (B.unsynced new.new ≡ []) }
 
-    // A new device that has a store is told of, and stays; so is one that is too short, and a shape that is too small.
+    // A new device that has a store is refused, and stays unchanged; so is one that is too short, and a shape that is too small.
     ensures already_formatted { result.made ≡ Err Refusal.AlreadyFormatted → B.honest new.new → IsFormatted (B.seen new.old) }
     ensures formatted { OnOk result.made (B.honest new.new → ¬ IsFormatted (B.seen new.old)) }
     ensures formatted_first { result.made ≡ Err Refusal.BadShape → B.honest new.new → ¬ IsFormatted (B.seen new.old) }
@@ -75,7 +75,7 @@ pub fn copy<A: Disk, B: Disk>(alloc: Global, old: A, new: &mut B, shape: Shape) 
     // All but `Fault` and `NoMemory` come before the first write.
     ensures refused { IfErr result.made (λ e. (e ≡ Refusal.Fault) ⊎ ((e ≡ Refusal.NoMemory)
         ⊎ IsOnlySynced (history_of ⟦<B as Disk>⟧ new.old) (history_of ⟦<B as Disk>⟧ new.new))) }
-    // Neither is told of before the old store is found.
+    // Neither refusal comes before the old store is found.
     ensures old_first { IfErr result.made (λ e. (e ≡ Refusal.AlreadyFormatted) ⊎ (e ≡ Refusal.BadShape)
         → A.honest result.old → (state : StateValue) × Found (A.seen old) Newer state) }
     ensures memory { result.made ≡ Err Refusal.NoMemory → IsUnformatted (B.seen new.old) → IsUnformatted (B.seen new.new) }

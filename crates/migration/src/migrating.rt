@@ -53,7 +53,7 @@ pub fn migrate<A: Disk, B: Disk>(alloc: Global, old: &mut A, new: &mut B) -> Res
         × ¬ IsOfFormat Two (A.seen old.old) × ((found : StateValue) → ¬ FoundIn One (A.seen old.old) Newer found) }
 
     // From the first sync of a device without a store on, a crash at any moment leaves that device without one, or with one of the old
-    // shape that is found as the documents of the old one with their windows cut, and that goes on; at Ok the latter.
+    // shape that is found as the documents of the old one with their windows cut, and that can be opened; at Ok the latter.
     ensures from_sync { A.honest old.new → IsUnformatted (B.seen new.old) → (state : StateValue)
         → (is : FoundIn One (A.seen old.old) Newer state)
         → LeavesFromSync (IsUnformattedOrMigrated is.shape state) (history_of ⟦<B as Disk>⟧ new.old)
@@ -64,7 +64,7 @@ pub fn migrate<A: Disk, B: Disk>(alloc: Global, old: &mut A, new: &mut B) -> Res
         → (is : FoundIn One (A.seen old.old) Newer state) → IsMigrated is.shape state (B.seen new.new)) }
     ensures synced { OnOk result (B.unsynced new.new ≡ []) }
 
-    // A new device that has a store is told of, and stays; so is one that is too short.
+    // A new device that has a store is refused, and stays unchanged; so is one that is too short.
     ensures already_formatted { result ≡ Err Refusal.AlreadyFormatted → B.honest new.new → IsFormatted (B.seen new.old) }
     ensures formatted { OnOk result (B.honest new.new → ¬ IsFormatted (B.seen new.old)) }
     ensures too_short { result ≡ Err Refusal.BadShape → B.honest new.new → ¬ IsFormatted (B.seen new.old) }
@@ -75,7 +75,7 @@ pub fn migrate<A: Disk, B: Disk>(alloc: Global, old: &mut A, new: &mut B) -> Res
     // All but `Fault` and `NoMemory` come before the first write.
     ensures refused { IfErr result (λ e. (e ≡ Refusal.Fault) ⊎ ((e ≡ Refusal.NoMemory)
         ⊎ IsOnlySynced (history_of ⟦<B as Disk>⟧ new.old) (history_of ⟦<B as Disk>⟧ new.new))) }
-    // Neither is told of before the old store is found.
+    // Neither refusal comes before the old store is found.
     ensures old_first { IfErr result (λ e. (e ≡ Refusal.AlreadyFormatted) ⊎ (e ≡ Refusal.BadShape) → A.honest old.new
         → (state : StateValue) × FoundIn One (A.seen old.old) Newer state) }
     ensures memory { result ≡ Err Refusal.NoMemory → IsUnformatted (B.seen new.old) → IsUnformatted (B.seen new.new) }

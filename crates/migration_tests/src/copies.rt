@@ -24,7 +24,7 @@ const SHORT_LEN: usize = 5_976;
 // What is left of the range that is open.
 const LEFT: [Left; 4] = [Left::Nothing, Left::All, Left::Byte(0xa5), Left::FirstHalf];
 
-// A device that isn't formatted, of which all else looks like open gates.
+// A device that isn't formatted, where all else looks like open gates.
 fn unformatted(rt: &(impl Abort + AllocGlobal), len: usize) -> Vec<u8> {
     let mut bytes = vec![in rt.alloc(); 0xa5u8; len].expect(rt, "memory");
     if let Some(gate) = bytes.first_mut() {

@@ -17,7 +17,7 @@ const LEFT: [Left; 6] = [
     Left::Byte(0xff),
 ];
 
-// A device that isn't formatted, of which all else looks like open gates.
+// A device that isn't formatted, where all else looks like open gates.
 fn filled(rt: &(impl Abort + AllocGlobal)) -> Vec<u8> {
     with_bytes_at(rt, &[0xa5; LEN], 0, &[0])
 }

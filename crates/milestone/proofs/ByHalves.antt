@@ -97,7 +97,7 @@ module _ (n : ℕ) (deltas : List (List Operation)) (first second : List Operati
             (begins.whole d (defined-take n d deltas defined) (none-take n d deltas none)) (second-whole d defined none);
       })
 
-  -- and they are refused for want of memory alone
+  -- and they are refused as out of memory alone
   pub both-memory : (e : Refusal) → IsPart deltas → base_of first + out_of first ≤ lengths_of (take n deltas) → base_of second + out_of second ≤ lengths_of (drop n deltas)
       → IsComposeRefused first second e → e ≡ NoMemory
   both-memory CutsPair part first-short second-short refused =

@@ -33,7 +33,7 @@ behind_gate q size old content some same =
     λ l. ap (λ k. drop 1 (take k (drop q l))) (sym one_less) ∙ drop-take 1 (size - 1) (drop q l) ∙ ap (λ (m : List ℕ). take (size - 1) m) (drop-drop 1 q l) in
     part content ∙ ap (λ (l : List ℕ). take (size - 1) l) same.after ∙ sym (part old)
 
--- a gate that is closed afterwards, or all is as it was where it was open
+-- a gate is closed afterwards, or all is unchanged, where it was open
 pub gate_written : (q size : ℕ) (old content : List ℕ) → 0 < size → q + size ≤ length old → SameOutside q 1 old content → get_or (bytes_at q size old) 0 0 ≡ open_gate
     → (get_or (bytes_at q size content) 0 0 ≢ open_gate) ⊎ (bytes_at q size content ≡ bytes_at q size old)
 gate_written q size old content some within same gate = elim (cases_eq (get_or (bytes_at q size content) 0 0) open_gate) [
@@ -74,7 +74,7 @@ module _ (q size : ℕ) (bytes old : List ℕ) (fit : 1 + length bytes ≤ size)
       ∙ ap (λ k. take k ((value ∷ bytes) ++ drop (q + 1 + length bytes) old)) sum
       ∙ take-append-add (value ∷ bytes) (drop (q + 1 + length bytes) old) (size - (1 + length bytes))
 
-  -- a crash leaves nothing else changed, and the gate closed as it was, or open before the bytes
+  -- a crash leaves nothing else changed, and the gate still closed, or open before the bytes
   pub gating : get_or (bytes_at q size old) 0 0 ≢ open_gate → (content : List ℕ) → IsGated q bytes old content
       → SameOutside q size old content × ((get_or (bytes_at q size content) 0 0 ≢ open_gate) ⊎ (bytes_at q size content ≡ (open_gate ∷ bytes) ++ left))
   gating closed content (inl same) = (

@@ -23,7 +23,7 @@ pub part_none : (units : List Element) (deltas : List (List Operation)) → Stan
 part_none units [] turn = tt
 part_none units (first ∷ others) turn = (turn.0.1, part_none (apply units (counted first)) others turn.1)
 
--- so they are refused for want of memory alone
+-- so they are refused as out of memory alone
 pub wants_memory : (deltas : List (List Operation)) (e : Refusal) → IsPart deltas
     → ((d : List Element) → AreDefined d deltas → PartNone d deltas → lengths_of deltas ≤ 2 ^ 48 → e ≡ NoMemory) → e ≡ NoMemory
 wants_memory deltas e part refused =

@@ -35,7 +35,7 @@ module _ {X : Type 0} where
   above-last [] e name all = (and_parts (is_lt (by_bytes e.0 name)) true all).0
   above-last (f ∷ es) e name all = above-last es e name (and_parts (is_lt (by_bytes f.0 name)) (above (es ++ e ∷ []) name) all).1
 
-  -- a name is above the last just where it is above all
+  -- a name is above the last exactly where it is above all
   pub record IsLast (es : List (List ℕ × X)) (last : List ℕ) : Type 0 where
     pub reaches : (name : List ℕ) → is_lt (by_bytes last name) ≡ true → above es name ≡ true
     pub back : (name : List ℕ) → 1 ≤ length name → above es name ≡ true → is_lt (by_bytes last name) ≡ true

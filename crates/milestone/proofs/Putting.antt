@@ -13,7 +13,7 @@ use Rattle.milestone.specs.declared.cells.Cells.{Cells}
 use Rattle.milestone.proofs.Holding.{first_changed, second_changed, putting_cell, put_cell, put_outside}
 use Rattle.milestone.proofs.Freeing.{open_of, holds_there}
 
--- a cell of which no revision is known is closed
+-- a cell with no known revision is closed
 pub closed_of : (cell : Option Cell) → None ≡ revision_in cell → cell ≡ None
 closed_of None known = refl
 closed_of (Some x) known = absurd (none-some x.revision known)

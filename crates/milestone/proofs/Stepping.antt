@@ -93,7 +93,7 @@ module _ {D : Type 0} (disk : Ghosts D) where
       held = as_it_was content cells pair (fits_before content left) (end_before content left);
     })
 
-    -- one write, of which a fact about two contents tells all
+    -- one write, where a fact about two contents tells all
     pub one_step : (May : Pair → Type 0) (at count : ℕ) (new : D) → LeavesOnly disk (IsLeftOutside at count (history_of disk old).now) old new
         → ((before content : List ℕ) → Fits before cells pair → cells.place + 2 * cells.size ≤ length before
         → take (2 * cells.size) (drop cells.place before) ≡ take (2 * cells.size) (drop cells.place (disk.seen old))

@@ -178,7 +178,7 @@ read_more revision given count w bytes named counted rest numbered is_count same
 
 -- ---- revisions, one by one
 
--- what is known of so many revisions of which some were read: those that may still follow, and whatever the bytes spell
+-- what is known of so many revisions, with some of them read: those that may still follow, and whatever the bytes spell
 pub record AreRead (count high last : ℕ) (bytes rest : List ℕ) (revisions : List ℕ) : Type 0 where
   pub split : bytes ≡ revisions_bytes revisions ++ rest
   pub follow : (more : List ℕ) → ascend last high more ≡ true → ascend 0 high (revisions ++ more) ≡ true

@@ -11,7 +11,7 @@ use Rattle.history.specs.Cell.{Cell}
 use Rattle.milestone.specs.Milestone.{IsMilestone}
 
 -- The document's number in order of creation, its name, the revision, the inserts that make the units at some revision up to that, the deltas
--- in turn, the first of which stands on these units, whether the document is live or deleted, and the sources at the revision.
+-- in turn, where the first stands on these units, whether the document is live or deleted, and the sources at the revision.
 pub record Job : Type 0 where
   pub document : ℕ
   pub name : List ℕ

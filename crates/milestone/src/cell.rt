@@ -124,7 +124,7 @@ fn read_range<D: Disk>(alloc: Global, disk: &mut D, at: u64, len: u64) -> Result
     Ok(bytes)
 }
 
-/// Writes the first of the two cells of a document with its gate open, on a device of which nothing counts yet: the body behind the
+/// Writes the first of the two cells of a document with its gate open, on a device where nothing counts yet: the body behind the
 /// gate, then the gate, and no sync. `NoMemory` comes before any call of the device. A crash leaves anything in the cell's range, and
 /// outside it what one could have left before.
 pub fn write_open<D: Disk>(

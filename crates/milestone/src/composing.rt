@@ -71,7 +71,7 @@ pub fn compose_job(alloc: Global, job: Job) -> Result<Composed, Uncomposed>
     }
 }
 
-/// Makes the milestone of a job of its two halves, each of which was composed by itself: applies the one delta of the first to the units
+/// Makes the milestone of a job of its two halves, each composed by itself: applies the one delta of the first to the units
 /// of the job, and then that of the second. Refused as `Stranger` exactly when the two aren't the first and the second half of this job, in
 /// this order, else as out of memory alone; and then the job comes back.
 pub fn join_parts(

@@ -12,8 +12,8 @@ use revision::delta_width;
 use std::alloc::Global;
 
 impl Milestone {
-    /// The delta that makes the document of the empty one, by inserts alone, as a cell spells it. Refused with `TooHeavy` just
-    /// where the delta's spelling has 2^32 bytes or more, which is more than a cell of any size has, and where memory runs out.
+    /// The delta that makes the document of the empty one, by inserts alone, as a cell spells it. Refused exactly where the delta's
+    /// spelling has 2^32 bytes or more (`TooHeavy`), which is more than a cell of any size has, and where memory runs out (`NoMemory`).
     pub fn content(&self, alloc: Global) -> Result<Delta, Refusal>
         ensures delta { IfOk result (λ delta. delta ≡ inserts_of self.now.content.units) }
         ensures spellable { IfOk result (λ _. IsSpellable (inserts_of self.now.content.units)) }

@@ -10,7 +10,7 @@
 //! milestone is put where one is closed. How a cell spells a milestone in a `Format` stands in specs/CellSpelling.antt; the second format is
 //! written, and either one is read, what two cells hold in
 //! specs/OneCell.antt, and what a crash at any moment of a call leaves of them in specs/Cells.antt. Milestones of many documents are put by three
-//! steps, each of which is made for all of them before one sync (specs/Together.antt). The crate stands on `history`, whose cells it holds, on `revision` and `compose`, and on `journal` and `disk`.
+//! steps, each made for all of them before one sync (specs/Together.antt). The crate stands on `history`, whose cells it holds, on `revision` and `compose`, and on `journal` and `disk`.
 //!
 //! A caller, with its contract, which `store_tests` proves as it stands:
 //!

@@ -181,7 +181,7 @@ fn mark_in_byte(bytes: &[u8]) -> Result<(bool, &[u8]), Unread>
     Ok((live, rest))
 }
 
-// the mark that a byte stands for
+// the mark that a byte represents
 fn mark_of(byte: u8) -> Option<bool>
     ensures found { IfSome result (λ live. byte ≡ spelling.mark_byte live) }
     ensures none { IfNone result ((live : Bool) → byte ≡ spelling.mark_byte live → ⊥) }

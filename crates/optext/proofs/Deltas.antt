@@ -37,7 +37,7 @@ delta_by-same a b base out normal =
 pub bounded_delta : (ops : List Operation) → IsBounded ops → delta_by (Some ops) ≡ Ok (nf (counted ops))
 bounded_delta ops bounded = let base = bounded.base in let out = bounded.out in grind (arith, nat_tests)
 
--- the operations so far, with those that are left, of which one may be none
+-- the operations so far, with those that are left, where one of these may be none
 abbrev pub delta_with : List Operation → Option (List Operation) → Result (List Operation) Refusal
 delta_with done found = delta_by (option_map (λ rest. done ++ rest) found)
 
@@ -46,7 +46,7 @@ delta_with-nothing None = refl
 delta_with-nothing (Some ops) = refl
 
 module _ (pieces : BuiltInPieces) (normal : NormalOfBuilt) (lengths : LengthsOfBuilt) where
-  -- the built form of the operations so far stands for them
+  -- the built form of the operations so far represents them
   delta_with-built : (done rest : List Operation) → delta_by (Some (built done ++ rest)) ≡ delta_by (Some (done ++ rest))
   delta_with-built done rest =
       delta_by-same (built done ++ rest) (done ++ rest)

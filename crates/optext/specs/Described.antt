@@ -41,7 +41,7 @@ abbrev pub change_of : Data → Option (Option Scalar)
 change_of null = Some None
 change_of value = option_map Some (scalar_of value)
 
--- a map with an object's members, each of which must have a name and a value that may stand there
+-- a map with an object's members, where each must have a name and a value that may stand there
 abbrev pub with_members : {X : Type 0} → (Data → Option X) → Map X → Members → Option (Map X)
 with_members value_of m no_members = Some m
 with_members value_of m (member name value others) =

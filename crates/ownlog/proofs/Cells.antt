@@ -52,7 +52,7 @@ module _ {T : Type 0} where
   homes_more cells key [] entry homes home = (home, tt)
   homes_more cells key (first ∷ log) entry homes home = (homes.0, homes_more cells first.next log entry homes.1 home)
 
-  -- where the word that the last entry names isn't at home, the log goes on by nothing
+  -- where the word that the last entry names isn't at home, nothing follows in the log
   pub alone : (cells : List Cell) (key : ℕ) (log more : List (Link T)) → AreHome cells key (log ++ more) → (cell cells (last_key key log)).1 ≡ false → more ≡ []
   alone cells key [] [] homes away = refl
   alone cells key [] (first ∷ more) homes away = absurd (cc (homes.0, away))
@@ -70,7 +70,7 @@ module _ {T : Type 0} where
   items_join [] more = refl
   items_join (first ∷ log) more = ap (λ l. first.items ++ l) (items_join log more) ∙ sym (append_assoc first.items (items_of log) (items_of more))
 
-  -- the items of a beginning begin the items
+  -- the items of a prefix of the log are a prefix of its items
   pub prefix_items : (log all : List (Link T)) → IsPrefix log all → IsPrefix (items_of log) (items_of all)
   prefix_items log all pre = (items_of pre.0, sym (items_join log pre.0) ∙ ap items_of pre.1)
 

@@ -2,7 +2,7 @@
 --
 -- Each entry names the word whose coming home makes the next one, by its key; the first entry is made by the word of key 2. A pen is the
 -- right to bring such a word home, and who has one knows that the word isn't at home. So who has the pen of the word that the last entry
--- names knows that the log goes on by nothing.
+-- names knows that nothing follows in the log.
 use Rattle.std.specs.Prelude.{ℕ, ◌≡◌, ◌<◌, ◌==◌, true, false, List, [], ◌∷◌, ◌++◌, length, MatchBool}
 use Rattle.logbook.specs.Pages.{Cell, cell, Step, View, Book, Named, nib, may_make}
 use Rattle.ownlog.specs.declared.link.Link.{Link}

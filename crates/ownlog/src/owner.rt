@@ -80,7 +80,7 @@ impl<T> Owner<T> {
         self.pen = pen;
     }
 
-    /// Each token of the log has a beginning of what its owner has. It takes no memory.
+    /// Each token of the log has a prefix of what its owner has. It takes no memory.
     pub fn covers(&mut self, front: &Front<T>)
         requires { front.now.book ≡ self.old.book }
         ensures begins { IsPrefix front.now.items self.old.items }

@@ -41,11 +41,11 @@ pub commands_more : (batches : List (List Taken)) (batch : List Taken) → comma
 commands_more [] batch = append-nil batch
 commands_more (first ∷ batches) batch = ap (λ l. first ++ l) (commands_more batches batch) ∙ sym (append_assoc first (commands_of batches) batch)
 
--- what was taken of a beginning begins what was taken of all
+-- the commands of a prefix are a prefix of the commands of all
 pub takens_begin : (entries all : List Entry) → IsPrefix entries all → IsPrefix (takens entries) (takens all)
 takens_begin entries all begin = (takens begin.0, sym (map-append (λ (e : Entry). e.taken) entries begin.0) ∙ ap takens begin.1)
 
--- one batch more, which goes on with the order
+-- one batch more, which continues in the order
 pub ordered_more : (start : List State) (state : State) (batches : List (List Taken)) (batch : List Taken) (order : List Entry) → start ≡ state ∷ []
     → IsLegal state order → IsPrefix (commands_of batches ++ batch) (takens order) → AreOrdered start (batches ++ batch ∷ []) order
 ordered_more start state batches batch order is legal begin =
@@ -60,7 +60,7 @@ takens_long : (entries : List Entry) → length (takens entries) ≡ length entr
 takens_long [] = refl
 takens_long (first ∷ others) = ap (λ n. suc n) (takens_long others)
 
--- of two beginnings of one order the shorter begins the longer
+-- of two prefixes of one order the shorter begins the longer
 pub covered : (commands : List Taken) (here there all : List Entry) → IsPrefix commands (takens here) → IsPrefix here all → IsPrefix there all
     → length there ≤ length commands → IsPrefix (takens there) commands
 covered commands here there all begin first second le =
@@ -104,7 +104,7 @@ begins_by_order start state log told here all order is same has begin whole =
     (subst (λ o. IsPrefix (commands_of log) (takens o)) whole
     (prefix_trans (commands_of log) (takens here) (takens all) (ordered_parts start state log here is has).1 (takens_begin here all begin)))
 
--- the order of a mark goes on with what it names
+-- the order of a mark has what it names as a prefix
 pub ordered_by : (start : List State) (state : State) (log told : List (List Taken)) (here copy : List Entry) → start ≡ state ∷ [] → log ≡ told
     → AreOrdered start log here → copy ≡ here → IsPrefix (commands_of told) (takens copy)
 ordered_by start state log told here copy is same has alike =

@@ -5,11 +5,11 @@ use Rattle.revision.specs.Command.{Taken}
 use Rattle.revision.specs.State.{State}
 use Rattle.published.specs.Books.{Books}
 
--- the other list begins with this one, and goes on
+-- this list is a prefix of the other one, and shorter
 abbrev pub IsShorter : List (List Taken) → List (List Taken) → Type 0
 IsShorter batches others = IsPrefix batches others × (length batches < length others)
 
--- which run, its start as a list of one, and a beginning of the batches in its log
+-- which run, its start as a list of one, and a prefix of the batches in its log
 pub record Mark : Type 0 where
   pub book : Books
   pub start : List State

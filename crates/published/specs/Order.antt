@@ -20,7 +20,7 @@ abbrev pub IsLegal : State → List Entry → Type 0
 IsLegal state [] = Unit {0}
 IsLegal state (first ∷ others) = WasTaken state first × IsLegal (grown state first.taken) others
 
--- The commands of these batches are a beginning of the order, which is a legal history from the start. A mark has its start as a list of one.
+-- The commands of these batches are a prefix of the order, which is a legal history from the start. A mark has its start as a list of one.
 abbrev pub AreOrdered : List State → List (List Taken) → List Entry → Type 0
 AreOrdered [] batches order = ⊥
 AreOrdered (start ∷ others) batches order = IsLegal start order × IsPrefix (commands_of batches) (takens order)

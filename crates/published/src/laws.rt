@@ -15,7 +15,7 @@ pub fn commands_join()
         → commands_of (first ++ batch ∷ []) ≡ commands_of first ++ batch }
 {}
 
-/// A list begins with itself, and with the beginnings of its beginnings. Of two beginnings of one list the shorter begins the longer, and
+/// A list is a prefix of itself, and a prefix of its prefix is a prefix of it. Of two prefixes of one list the shorter begins the longer, and
 /// one that is no shorter than the list is all of it.
 pub fn beginnings()
     ensures itself { (batches : List (List Taken)) → IsPrefix batches batches }

@@ -1,4 +1,4 @@
-//! A beginning of a log, without the run's name.
+//! A prefix of a log, without the run's name.
 ghost use Rattle.std.specs.Prelude.{◌≡◌};
 
 use crate::batch::Batch;
@@ -7,7 +7,7 @@ use revision::State;
 use std::marker::Model;
 use world::Entry;
 
-/// A beginning of the log that was seen, with the log's own name, and a beginning of the order that has its commands. It is what a
+/// A prefix of the log that was seen, with the log's own name, and a prefix of the order that has its commands. It is what a
 /// `Told` has inside, for a type that can't carry the run's name, and takes no memory.
 #[derive(Drop)]
 pub struct Mark {

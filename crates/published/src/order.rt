@@ -69,7 +69,7 @@ impl<J: Site> Order<J> {
     }
 }
 
-/// A beginning of the run's order that was seen, which is a legal history. Contracts see it as its entries. It takes no memory.
+/// A prefix of the run's order that was seen, which is a legal history. Contracts see it as its entries. It takes no memory.
 #[derive(Drop)]
 pub struct Ordered<J: Site> {
     pub(crate) front: Front<Entry>,

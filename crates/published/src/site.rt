@@ -1,4 +1,4 @@
-//! Which run it is.
+//! The life of a server that a value belongs to.
 use std::marker::Brand;
 use std::sync::ledger::Ledger;
 

@@ -13,7 +13,7 @@ use crate::site::Site;
 use recovery::Receipt;
 use std::marker::{Model, PhantomData};
 
-/// A token of what was published: a beginning of the run's log that was seen. Its commands are a beginning of the run's order. Contracts
+/// A token of what was published: a prefix of the run's log that was seen. Its commands are a prefix of the run's order. Contracts
 /// see it as its batches, the oldest first.
 #[derive(Drop)]
 pub struct Told<D, J: Site> {
@@ -114,7 +114,7 @@ impl<D, J: Site> Told<D, J> {
         }
     }
 
-    /// Publishes a batch that was committed behind the batches of this token, which has to be of the whole log, and gives the token that ends
+    /// Publishes a batch that was committed after the batches of this token, which has to be of the whole log, and gives the token that ends
     /// with it. The batch has to be the next part of the order, and the log counts fewer than 2^64 commands. It takes no memory.
     pub fn add(&self, log: &mut Log<D, J>, receipt: &Receipt<D>, ordered: &Ordered<J>) -> Told<D, J>
         requires whole { log.old ≡ self.now }

@@ -140,7 +140,7 @@ none_put shape content in_range is = record {
   slots = is.slots;
 }
 
--- the first ones, and the one behind them
+-- the first `count` cells, and the one behind them
 get_take-other : (start : List Cell) (count number : ℕ) → (number ≡ count → ⊥) → slice_get (take (suc count) start) number ≡ slice_get (take count start) number
 get_take-other [] zero number differ = refl
 get_take-other [] (suc count) number differ = refl

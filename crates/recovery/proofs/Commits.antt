@@ -1,4 +1,4 @@
--- What a content stands for after an append to the ring, or within one.
+-- What a content represents after an append to the ring, or within one.
 use Rattle.std.proofs.Common.{◌≡◌, ◌⊎◌, inl, inr, ℕ, ◌*◌, true, Option, List, [], ◌∷◌, ◌++◌, length, refl, sym, ◌∙◌, ap, subst}
 use Rattle.std.proofs.lemmas.List.{length-set, map_push}
 use Rattle.std.proofs.lemmas.List.Elements.{All-append, All-cons, All-nil}
@@ -27,13 +27,13 @@ use Rattle.recovery.proofs.Layouts.{laid_out_again, slots_held, as_many}
 use Rattle.recovery.proofs.Folds.{commands_of-push, fold-limits}
 use Rattle.recovery.proofs.Runs.{found_as, found_open}
 
--- a table that stands for the same bodies
+-- a table with the same bodies
 pub record SameBodies (before now : List (Option Segment)) : Type 0 where
   pub bodies : bodies_of now ≡ bodies_of before
   pub count : length now ≡ length before
   pub differ : NumbersDiffer (numbers_of now)
 
--- a content of which nothing was changed
+-- a content in which nothing was changed
 pub as_it_was : (content : List ℕ) (ring : Ring) (table : List (Option Segment)) → Fits content ring table → HoldsInRing content ring table content
 as_it_was content ring table fits = record { outside = record { same_length = refl; before = refl; after = refl }; holds = fits.holds }
 
@@ -63,7 +63,7 @@ module _ {D : Type 0} {disk : Ghosts D} (store : Store D disk) (is_open : IsOpen
       laid_out_again old content store.shape is_open.cells is_open.table now laid_out outside
       (slots_held content store.shape (at_of store.ring) (size_of store.ring) now is_open.ring_at is_open.ring_size (count ∙ laid_out.in_slots.count) held.holds)
 
-  -- the table that a body is appended to stands for the same
+  -- the table that a body is appended to has the same bodies
   pub ready_same : (len : ℕ) (ready : List (Option Segment)) → IsReady store.ring len is_open.table ready → SameBodies is_open.table ready
   ready_same len ready (inl fits) = subst (SameBodies is_open.table) (sym fits.1) (record { bodies = refl; count = refl; differ = is_open.fits.holds.differ })
   ready_same len ready (inr opened) = record {

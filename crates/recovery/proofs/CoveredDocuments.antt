@@ -196,7 +196,7 @@ module _ {D : Type 0} {disk : Ghosts D} where
           | inl low ↦ absurd (needed (omega (arith, low, all n)))
         ]
 
-    -- behind the last document all are covered
+    -- after the last document all are covered
     pub all_covered : (bound : ℕ) → ((n : ℕ) → bound ≤ n → marked n ≡ 0) → AreCoveredTo bound marked start is_open new → AreCovered segment (known_marks start) start is_open new
     all_covered bound none_past covered = record {
       goes_on = covered.goes_on;
@@ -220,7 +220,7 @@ pub err_map : {A : Type 0} (P Q : Refusal → Type 0) (result : Result A Refusal
 err_map P Q (Ok answer) implies has = tt
 err_map P Q (Err refusal) implies has = implies refusal has
 
--- want of memory tells no need
+-- `NoMemory` isn't `StillNeeded`
 pub memory_needs : {A : Type 0} (refusal : Refusal) → refusal ≡ NoMemory → IsErrOf {T = A} {E = Refusal} (Err refusal) StillNeeded → ⊥
 memory_needs {A} refusal is told = let same : NoMemory ≡ StillNeeded = sym is ∙ ap (refusal_or {T = A} StillNeeded) told in cc
 

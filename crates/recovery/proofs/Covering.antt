@@ -68,7 +68,7 @@ marks_more segment place marks mark inside is =
     length-filter_more (is_of segment) marks place mark inside ∙ ap (λ (m : Mark). length (within_segment segment (take place marks)) + cond (is_of segment m) 1 0) is
 
 module _ {D : Type 0} {disk : Ghosts D} where
-  -- behind all marks the oldest segment may be retired
+  -- after all marks the oldest segment may be retired
   pub may_go : (old mid : Store D disk) (is_open : IsOpen old) (slot number : ℕ) → KeepsSegments old mid → IsOldest (known_numbers old.ring) slot number
       → 2 ≤ open_count (known_numbers old.ring) → (covered : AreCovered number (known_marks old) old is_open mid) → MayRetire covered.goes_on.table covered.goes_on.cells
   may_go old mid is_open slot number keeps oldest two covered =
@@ -121,7 +121,7 @@ module _ {D : Type 0} {disk : Ghosts D} where
           ]
   freed_by old mid new slot number (Err refusal) oldest covered jobs done = tt
 
-  -- a store that was left as it was is freed still
+  -- a store that was left unchanged is freed still
   pub freed_still : (old mid new : Store D disk) (is_open : IsOpen old) → IsUnchanged mid new → IsFreedNow old is_open mid → IsFreedNow old is_open new
   freed_still old mid new is_open same freed = record {
     goes_on = now;

@@ -66,7 +66,7 @@ pub record ReadTo (pairs : List Pair) (pick : Pick) (entries : List Taken) (list
   pub gap : (number : ℕ) → length state.documents ≤ number → number < length pairs
       → (picked pick (cells_at pairs number) ≡ None) × (get_or lists number [] ≡ [])
 
--- What is read so far of a content, of which the cells are known where the device is honest.
+-- What is read so far of a content, whose cells are known where the device is honest.
 pub record SoFar (format : Format) (honest : Type 0) (content : List ℕ) (shape : Shape) (pick : Pick) (lists : List (List Taken)) (known : List Cells) (state : State) : Type 0 where
   pub pairs : List Pair
   pub count : length pairs ≡ length known
@@ -90,7 +90,7 @@ entered-limits state None = refl
 entered-limits state (Some cell) = refl
 
 module _ (pick : Pick) (entries : List Taken) (lists : List (List Taken)) (by : AreByDocument entries lists) where
-  -- a number of which nothing is there
+  -- a number that has neither a cell nor an entry
   passed : (pairs : List Pair) (pair : Pair) (own : List Taken) (state after : State) → ReadTo pairs pick entries lists state
       → own ≡ get_or lists (length pairs) [] → is_there (picked pick pair) own ≡ false → after ≡ state → ReadTo (pairs ++ pair ∷ []) pick entries lists after
   passed pairs pair own state after to is_own none same =
@@ -157,7 +157,7 @@ module _ (pick : Pick) (entries : List Taken) (lists : List (List Taken)) (by : 
       (ap (picked pick) (cells-past pairs number past), sym (by number) ∙ get_or_past lists number [] (omega (arith, all, past))))
       (cases_lt number (length pairs)))
 
--- Where the parts stand for a state, the next number's document is read.
+-- Where the parts represent a state, the next number's document is read.
 module _ (pick : Pick) (entries : List Taken) (lists : List (List Taken)) (by : AreByDocument entries lists) (pairs whole : List Pair) (state found : State)
     (to : ReadTo pairs pick entries lists state) (alike : (n : ℕ) → n < length pairs → cells_at whole n ≡ cells_at pairs n)
     (stand : StandFor state.limits whole entries pick found)
@@ -330,7 +330,7 @@ all_read format honest content shape pick lists known state so_far count lists_c
       (ends pick entries lists by so_far.pairs state (so_far.reads entries by) (omega (arith, lists_count, count, so_far.count)));
 }
 
--- Where the next number can't be read, the parts stand for no state.
+-- Where the next number can't be read, the parts represent no state.
 pub none_stand : (format : Format) (honest : Type 0) (content : List ℕ) (shape : Shape) (pick : Pick) (lists : List (List Taken)) (known : List Cells) (state : State) (own : List Taken)
     → SoFar format honest content shape pick lists known state → honest → length known < shape.docs → own ≡ get_or lists (length known) []
     → ((pair : Pair) → HoldsPairIn format (cells_place shape (length known)) shape.cell (length known) content pair

@@ -211,7 +211,7 @@ nothing_done at_start = record { seen = refl; time = NoStep refl }
 pub just_synced : {P : List ℕ → Type 0} {old new : History} → IsOnlySynced old new → LeavesFromSync P old new
 just_synced {P} {old} {new} synced = record { synced = new; first = synced; later = inl refl }
 
--- a run that goes on with writes
+-- a run with writes after that
 pub synced_and_written : {P : List ℕ → Type 0} {old mid new : History} → IsOnlySynced old mid → mid.now.unsynced ≡ [] → IsUnformatted old.now.seen → (mid.now.unsynced ≡ [] → IsUnformatted mid.now.seen → Leaves P mid new) → LeavesFromSync P old new
 synced_and_written {P} {old} {mid} {new} synced rest unformatted writes =
     record { synced = mid; first = synced; later = inr (rest, writes rest (subst IsUnformatted (sym synced.seen) unformatted)) }

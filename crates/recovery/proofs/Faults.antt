@@ -40,7 +40,7 @@ module _ {D : Type 0} {disk : Ghosts D} where
     honest = (λ honest. honest, λ honest. honest);
   }
 
-  -- a call behind one that was Ok
+  -- a call after one that was Ok
   pub faults_on : {A B : Type 0} {old mid new : Store D disk} (answer : A) (result : Result B Refusal)
       → FailsAtFaults (Ok answer) old mid → FailsAtFaults result mid new → FailsAtFaults result old new
   faults_on {A} {B} {old} {mid} {new} answer result first second = record {
@@ -65,7 +65,7 @@ module _ {D : Type 0} {disk : Ghosts D} where
     honest = faults.honest;
   }
 
-  -- one that was refused, told by itself or by another refusal, where the one is a fault just where the other is
+  -- one that was refused, told by itself or by another refusal, where the one is a fault exactly when the other is
   pub faults_as : {A B : Type 0} {old new : Store D disk} (refusal told : Refusal) → (told ≡ Fault → refusal ≡ Fault) → (refusal ≡ Fault → told ≡ Fault)
       → FailsAtFaults {A = A} (Err refusal) old new → FailsAtFaults {A = B} (Err told) old new
   faults_as {A} {B} {old} {new} refusal told there back faults = record {

@@ -80,7 +80,7 @@ parts_once format content shape other cells other_cells table other_table batche
       batches_are = batches_same table other_batches batches (subst (λ (t : List (Option Segment)). SpellBatches (bodies_of t) other_batches) tables here.spell) holds.spell;
     }
 
--- what is found of a content that holds these parts, they stand for
+-- what is found of a content that holds these parts, they represent
 pub stand_in : (format : Format) (content : List ℕ) (shape : Shape) (cells : List Pair) (table : List (Option Segment)) (batches : List (List Taken))
     → HoldsPartsIn format content shape cells table batches → (pick : Pick) (state : State) → FoundIn format content pick state
     → StandFor (limits_in format shape) cells (commands_of batches) pick state

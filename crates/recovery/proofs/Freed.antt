@@ -1,4 +1,4 @@
--- A commit behind a segment that was freed for it.
+-- A commit after a segment was freed for it.
 use Rattle.std.proofs.Common.{◌≡◌, ◌↔◌, ◌⊎◌, inl, inr, true, false, Bool, refl, ℕ, ◌+◌, ◌*◌, ◌≤◌, List, length, sym, ◌∙◌, ap, arith}
 use Rattle.std.specs.Prelude.{Result, Ok, Err, IfErr, IsErrOf}
 use Rattle.std.proofs.lemmas.Bool.{false≢true}

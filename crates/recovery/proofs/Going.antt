@@ -1,4 +1,4 @@
--- How what calls of a store keep is shown for one call, and goes on over others.
+-- How what calls of a store keep is shown for one call, and holds over others.
 use Rattle.std.proofs.Common.{◌≡◌, ◌≢◌, ◌↔◌, ◌⊎◌, inl, inr, ℕ, Bool, true, false, List, [], refl, sym, ◌∙◌, ap, subst}
 use Rattle.std.specs.Prelude.{Result, Ok, Err, OnOk, IfErr, IsErrOf}
 use Rattle.std.proofs.lemmas.Bool.{false≢true}
@@ -32,7 +32,7 @@ either true = inl refl
 either false = inr refl
 
 module _ {D : Type 0} {disk : Ghosts D} where
-  -- a store that a call left as it was is open still
+  -- a store that a call left unchanged is open still
   pub open_unchanged : {old new : Store D disk} → IsUnchanged old new → IsOpen old → IsOpen new
   open_unchanged {old} {new} same is_open = record {
     synced = subst (λ (d : D). disk.unsynced d ≡ []) (sym same.device) is_open.synced;
@@ -71,7 +71,7 @@ module _ {D : Type 0} {disk : Ghosts D} where
   unfolding open_unchanged
   unchanged_table same is_open = refl
 
-  -- a call that left the store as it was left no more than it holds
+  -- a call that left the store unchanged left no more than it holds
   pub unchanged_leaves : {P : List ℕ → Type 0} {old new : Store D disk} → IsUnchanged old new → IsOpen old → P (disk.seen (device_of old)) → LeavesOnly disk P (device_of old) (device_of new)
   unchanged_leaves {P} {old} {new} same is_open has = subst (LeavesOnly disk P (device_of old)) (sym same.device) (begins (history_of disk old.device) is_open.synced has)
 
@@ -146,7 +146,7 @@ module _ {D : Type 0} {disk : Ghosts D} where
       moments works is_open (inl failed) = subst (LeavesOnly disk P (device_of old)) (sym (second.stays failed).0) (first.any_moment works is_open)
       moments works is_open (inr unfailed) = goes_on_run (first.any_moment works is_open) (second.any_moment unfailed (first.opens unfailed is_open))
 
-  -- calls that leave the state, one behind the other
+  -- calls that leave the state, one after the other
   pub goes_same : {old mid new : Store D disk} → state_of mid ≡ state_of old → Goes (λ content. FoundAs content (state_of old)) old mid
       → Goes (λ content. FoundAs content (state_of mid)) mid new → Goes (λ content. FoundAs content (state_of old)) old new
   goes_same {old} {mid} {new} same first second =

@@ -32,7 +32,7 @@ module _ {D : Type 0} {disk : Ghosts D} (steps : List StoreStep) (old : Store D 
     });
   }
 
-  -- and over a step behind it
+  -- and over a step after it
   pub kept_on : (now new : Store D disk) (least count : ℕ) → count ≤ least → IsKeptFrom count steps old now
       → LeavesOnly disk (IsAfterSome least (state_of old) steps) (device_of now) (device_of new) → IsKeptFrom count steps old new
   kept_on now new least count below kept moments = record {

@@ -1,4 +1,4 @@
--- The jobs that a store keeps, as it goes on.
+-- The jobs that a store keeps, from call to call.
 use Rattle.std.proofs.Common.{◌≡◌, ℕ, ◌≤◌, true, false, Bool, List, [], ◌∷◌, ◌++◌, filter, not, refl, sym, ◌∙◌, ap, subst, arith}
 use Rattle.std.specs.Prelude.{◌==◌, All}
 use Rattle.std.proofs.lemmas.Bool.{false≢true, eq-eqb}

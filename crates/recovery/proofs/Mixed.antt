@@ -1,4 +1,4 @@
--- A store of which the cells of many documents change, each by itself.
+-- A store where the cells of many documents change, each by itself.
 use Rattle.std.proofs.Common.{◌≡◌, ◌⊎◌, inl, inr, ℕ, zero, suc, ◌+◌, ◌*◌, ◌≤◌, ◌<◌, true, false, Bool, Option, Some, None, List, [], ◌∷◌, length, refl, sym, ◌∙◌, ap, subst, arith}
 use Rattle.std.specs.Prelude.{nat_lt, cond, slice_get, unwrap_or}
 use Rattle.std.proofs.lemmas.Bool.{cond_both}
@@ -86,7 +86,7 @@ replaced_below cell (Some first, Some second) below =
     cond_both (nat_lt second.revision first.revision) (Some first, None) (None, Some second) (λ (p : Pair). highest (with_cell cell p) ≤ cell.revision)
     (λ e. omega (arith, below)) (λ e. omega (arith, below))
 
--- what a running store may hold of a document: cells of it, of which the lower one isn't below what the lower one was
+-- what a running store may hold of a document: cells of it whose lower one isn't below what the lower one was
 abbrev pub MayStand : Order → Pair → ℕ → Pair → Type 0
 MayStand order before number pair = OfBoth (IsCellAt order number) pair × (lowest before ≤ lowest pair)
 

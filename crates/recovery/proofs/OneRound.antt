@@ -95,7 +95,7 @@ module _ {D : Type 0} (disk : Ghosts D) where
       → LeavesOnly disk (IsLeftTogether shape (disk.seen old) Q) old new
   left_then shape P Q old mid new outside implies first second = goes_on_run first (leaves_map (together_then shape (disk.seen old) (disk.seen mid) P Q outside implies) second)
 
-  -- the faults of calls behind good ones
+  -- the faults of calls after good ones
   pub counts_on : {A E : Type 0} (result : Result A E) (old mid new : D) → disk.faults mid ≡ disk.faults old → CountsFaults disk result mid new → CountsFaults disk result old new
   counts_on result old mid new same counts = record {
     good = subst (λ n. OnOk result (disk.faults new ≡ n)) same counts.good;

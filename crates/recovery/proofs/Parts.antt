@@ -113,7 +113,7 @@ grouped (s ∷ segments) batches is each =
       is = ap (λ (l : List (List Taken)). parts.first ++ l) later.is ∙ parts.is;
     }
 
--- Where parts stand for a state, each entry is of a document that the state may have.
+-- Where parts represent a state, each entry is of a document that the state may have.
 first-of : (t : Taken) (others : List Taken) → of_document t.document (t ∷ others) ≡ [] → ⊥
 first-of t others is =
     let own : t ∷ of_document t.document others ≡ [] =

@@ -35,7 +35,7 @@ none_of : {A : Type 0} (one : Option A) → ((a : A) → one ≡ Some a → ⊥)
 none_of None nothing = refl
 none_of (Some a) nothing = absurd (nothing a refl)
 
--- want of memory speaks against no milestone
+-- a milestone is never refused as `NoMemory` by its document and its revision
 never_memory : (found : Option DocumentRecord) (high revision : ℕ) → no_job_for found high revision ≡ Some NoMemory → ⊥
 never_memory None high revision is = let same : NoDocument ≡ NoMemory = same_some _ _ is in cc
 never_memory (Some found) high revision is =
@@ -69,7 +69,7 @@ module _ {D : Type 0} {disk : Ghosts D} where
   still {old} {mid} device failed keeps works is_open =
       (goes_still {P = λ content. FoundAs content (state_of old)} {old = old} {new = mid} device failed keeps (λ is_open. found_as _ _ (found_open old is_open))).any_moment works is_open
 
-  -- the call behind one that called nothing began where that one did
+  -- the call after one that called nothing began where that one did
   pub from_there : (old mid new : Store D disk) → device_of mid ≡ device_of old → state_of mid ≡ state_of old
       → LeavesOnly disk (λ content. FoundAs content (state_of mid)) (device_of mid) (device_of new)
       → LeavesOnly disk (λ content. FoundAs content (state_of old)) (device_of old) (device_of new)
@@ -77,7 +77,7 @@ module _ {D : Type 0} {disk : Ghosts D} where
       subst (λ (d : D). LeavesOnly disk (λ content. FoundAs content (state_of old)) d (device_of new)) device
       (subst (λ (s : State). LeavesOnly disk (λ content. FoundAs content s) (device_of mid) (device_of new)) state leaves)
 
-  -- a store goes on after a retirement, and where it was refused
+  -- a store is open after a retirement, and where it was refused
   pub goes_on_retired : {A : Type 0} (old new : Store D disk) (result : Result A Refusal)
       → OnOk result ((is_open : IsOpen old) → IsRetiredNow is_open.cells is_open.table new) → OnOk result (IsOpen old → IsOpen new)
   goes_on_retired old new (Ok answer) done = λ is_open. (done is_open).goes_on

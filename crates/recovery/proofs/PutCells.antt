@@ -1,4 +1,4 @@
--- What a store stands for when the two cells of one document change.
+-- What a store represents when the two cells of one document change.
 use Rattle.std.proofs.Common.{◌≡◌, ◌⊎◌, ⊎_elim, inl, inr, ℕ, zero, suc, ◌+◌, ◌-◌, ◌*◌, ◌≤◌, ◌<◌, Option, Some, List, [], ◌∷◌, length, set, take, drop, refl, sym, ◌∙◌, ap, subst, arith}
 use Rattle.std.specs.Prelude.{slice_get}
 use Rattle.std.proofs.lemmas.Bool.{cases_eq}
@@ -111,7 +111,7 @@ module _ (shape : Shape) (number : ℕ) (old content : List ℕ) (same : SameOut
       };
     }
 
--- what holds of the one that is set and of the others as they were holds of each
+-- what holds of the one that is set and of the others before holds of each
 pub set_each : {A : Type 0} (P : ℕ → A → Type 0) (xs : List A) (number : ℕ) (x : A) → P number x
     → ((n : ℕ) (a : A) → (number ≡ n → ⊥) → slice_get xs n ≡ Some a → P n a) → (n : ℕ) (a : A) → slice_get (set xs number x) n ≡ Some a → P n a
 set_each P [] number x here each n a is = absurd (omega (arith, slice_get_within [] n a is))

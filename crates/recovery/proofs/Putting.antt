@@ -205,7 +205,7 @@ module _ {D : Type 0} {disk : Ghosts D} (store : Store D disk) (job : Job) (cont
   pub placed_later : (later : Cells) → SameCells one later → AreCellsOf store.shape (set store.cells.items document later)
   placed_later later same = cells_put store.shape store.cells.items document one later store.placed (store.placed.each document one there) same
 
-  -- put back as they were
+  -- put back unchanged
   pub put_back : (later : Cells) → later ≡ one → set store.cells.items document later ≡ store.cells.items
   put_back later same =
       ap (λ (c : Cells). set store.cells.items document c) (same ∙ read) ∙ set-get_or store.cells.items document one

@@ -13,7 +13,7 @@ refusal_or other (Err refusal) = refusal
 pub ok≢err : {T : Type 0} (value : T) (refusal : Refusal) → ◌≡◌ {A = Result T Refusal} (Ok value) (Err refusal) → ⊥
 ok≢err value refusal is = cc
 
--- want of memory is no failed device
+-- `NoMemory` isn't `Fault`
 pub memory_no_fault : {refusal : Refusal} → refusal ≡ NoMemory → refusal ≡ Fault → ⊥
 memory_no_fault memory fault = let same : NoMemory ≡ Fault = sym memory ∙ fault in cc
 

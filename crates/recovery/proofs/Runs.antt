@@ -1,4 +1,4 @@
--- Steps of a run, and what contents stand for within it.
+-- Steps of a run, and what contents represent within it.
 use Rattle.std.proofs.Common.{◌≡◌, inl, inr, ℕ, ◌+◌, ◌<◌, List, [], ◌∷◌, ◌++◌, length, take, get_or, refl, sym, ◌∙◌, ap, subst, arith}
 use Rattle.std.proofs.lemmas.List.{take_more, take_all}
 use Rattle.disk.specs.declared.device.Disk.{Ghosts}
@@ -15,7 +15,7 @@ use Rattle.recovery.specs.Open.{IsOpen, IsUnchanged, IsWithOrWithout}
 use Rattle.recovery.specs.Run.{batch_of, state_after, IsAfterSome}
 use Rattle.recovery.proofs.FoundOnce.{stand_at}
 
--- a call that does nothing leaves a store as it was, and so do two that do
+-- a call that does nothing leaves a store unchanged, and so do two such calls
 pub unchanged : {D : Type 0} {disk : Ghosts D} (store : Store D disk) → IsUnchanged store store
 unchanged store = record { device = refl; shape = refl; ring = refl; cells = refl; marks = refl; jobs = refl; state = refl; failed = refl }
 

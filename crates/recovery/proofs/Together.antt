@@ -258,7 +258,7 @@ module _ {D : Type 0} (disk : Ghosts D) where
     apart = λ n below away. apart_synced (cells_place shape n) (2 * shape.cell) (disk.unsynced start) together.synced;
   }
 
-  -- and behind the step of one more
+  -- and after the step of one more
   module _ (shape : Shape) (ms : List Member) (k : ℕ) (m : Member) (inside : k < length ms) (is : get_or ms k m ≡ m) (within : m.document < shape.docs)
       (May : ℕ → Pair → Type 0) (f : ℕ → Pair) (start now next : D) (known : List Cells) (way : IsUnderWay disk shape ms k May f start now known)
       (are : AreCellsOf shape known) (one : Cells) (at : slice_get known m.document ≡ Some one) (not_yet : is_in (take k ms) m.document ≡ false) where
@@ -288,7 +288,7 @@ module _ {D : Type 0} (disk : Ghosts D) where
           (way.apart n below (not_before ms k m inside is n away));
     }
 
-  -- the sync behind all steps
+  -- the sync after all steps
   pub counts_sync : {E : Type 0} (start mid new : D) (result : Result (Unit {0}) E) → disk.faults mid ≡ disk.faults start
       → OnOk result ((disk.faults new ≡ disk.faults mid) × (disk.faults mid < most_faults)) → OnErr result (disk.faults new ≡ min (disk.faults mid + 1) most_faults)
       → CountsFaults disk result start new

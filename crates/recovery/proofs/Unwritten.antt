@@ -15,7 +15,7 @@ module _ {D : Type 0} {disk : Ghosts D} where
   pub but_jobs : {old new : Store D disk} → IsUnchanged old new → IsUnchangedButJobs old new
   but_jobs same = record { device = same.device; shape = same.shape; ring = same.ring; cells = same.cells; marks = same.marks; state = same.state; failed = same.failed }
 
-  -- one call behind another
+  -- one call after another
   pub but_jobs_on : {old mid new : Store D disk} → IsUnchangedButJobs old mid → IsUnchangedButJobs mid new → IsUnchangedButJobs old new
   but_jobs_on first second = record {
     device = second.device ∙ first.device;

@@ -1,4 +1,4 @@
--- What contents stand for, computed in a small shape: zeros, a formatted device, the device after a first and a second
+-- What contents represent, computed in a small shape: zeros, a formatted device, the device after a first and a second
 -- creation, and one on which the second one lies in a slot of its own, before the first.
 use Rattle.std.proofs.Common.{◌≡◌, ◌<◌, Bool, true, ℕ, zero, suc, Option, Some, None, List, [], ◌∷◌, ◌++◌, get_or, refl, sym, ◌∙◌, ap, subst, lit<, lit≤, arith}
 use Rattle.std.proofs.lemmas.Bool.{ne_eqb}
@@ -92,7 +92,7 @@ of_another number taken others apart =
 pub stands_nowhere : (number : ℕ) (entries : List Taken) → of_document number entries ≡ [] → StandsFor (limits_of small) None (of_document number entries) None
 stands_nowhere number entries is = subst (λ (l : List Taken). StandsFor (limits_of small) None l None) (sym is) (record { cell_keeps = tt; continue = refl; is = refl })
 
--- zeros have no superblock, so they stand for nothing
+-- zeros have no superblock, so they represent nothing
 abbrev zeros : List ℕ
 zeros = replicate 1600 0
 
@@ -102,7 +102,7 @@ zeros_unformatted is = zero_is_closed is.gate
 pub zeros_not_found : (pick : Pick) (state : State) → Found zeros pick state → ⊥
 zeros_not_found pick state found = zeros_unformatted found.holds.laid_out.names.formatted
 
--- a formatted device stands for no documents
+-- a formatted device represents no documents
 abbrev formatted : List ℕ
 formatted = 165 ∷ superblock small ++ replicate 1567 0
 

@@ -1,4 +1,4 @@
--- What a content with two open cells stands for by each pick, computed. The document "d" was created with "z", then "x" was appended:
+-- What a content with two open cells represents by each pick, computed. The document "d" was created with "z", then "x" was appended:
 -- its first cell has it at revision 1, its second one at revision 2, and the journal holds the command that made revision 2.
 use Rattle.std.proofs.Common.{◌≡◌, ℕ, zero, suc, Some, None, List, [], ◌∷◌, ◌++◌, refl, sym, ap, true, lit<, lit≤, arith}
 use Rattle.std.specs.Prelude.{replicate, slice_get}

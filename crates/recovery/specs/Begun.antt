@@ -13,13 +13,13 @@ use Rattle.recovery.specs.Open.{IsOpen, IsUnchanged, IsWithOrWithout, device_of,
 use Rattle.recovery.specs.Run.{AreTaken, MayPut, batch_of}
 use Rattle.recovery.specs.Unwritten.{IsUnwritten}
 
--- the jobs that are kept behind a step: a milestone that is put drops the job of its document
+-- the jobs that are kept after a step: a milestone that is put drops the job of its document
 abbrev pub jobs_behind : StoreStep → List Job → List Job
 jobs_behind (Commit batch) jobs = jobs
 jobs_behind (Milestone document revision) jobs = without_job document jobs
 jobs_behind Retire jobs = jobs
 
--- and behind steps in order
+-- and after steps in order
 abbrev pub jobs_after : List StoreStep → List Job → List Job
 jobs_after [] jobs = jobs
 jobs_after (step ∷ steps) jobs = jobs_after steps (jobs_behind step jobs)
@@ -43,7 +43,7 @@ module _ {D : Type 0} {disk : Ghosts D} where
         → LeavesOnly disk (IsWithOrWithout (state_of old) (batch_of step)) (device_of old) (device_of new)
     pub memory : refusal ≡ NoMemory → IsLeftByMemory step old new
 
-  -- A run stopped at a step, and began nothing behind it: those before it were taken, and of the store that they led to no more is changed than
+  -- A run stopped at a step, and began nothing after it: those before it were taken, and of the store that they led to no more is changed than
   -- this step changes where it is refused.
   pub record IsBegun (steps : List StoreStep) (at : ℕ) (refusal : Refusal) (old new : Store D disk) : Type 0 where
     pub last : Store D disk

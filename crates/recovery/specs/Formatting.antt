@@ -27,7 +27,7 @@ IsUnformatted content = IsClosed content 0
 abbrev pub empty_table : Shape → List (Option Segment)
 empty_table shape = replicate shape.slots None
 
--- a store of this shape, in which no slot is open, and which stands for no documents
+-- a store of this shape, in which no slot is open, and which represents no documents
 pub record IsEmptyStore (shape : Shape) (content : List ℕ) : Type 0 where
   pub laid_out : IsLaidOut content shape (replicate shape.docs no_cells) (empty_table shape)
   pub found : FoundAs content (empty_state shape)
@@ -36,7 +36,7 @@ pub record IsEmptyStore (shape : Shape) (content : List ℕ) : Type 0 where
 abbrev pub IsUnformattedOrEmpty : Shape → List ℕ → Type 0
 IsUnformattedOrEmpty shape content = IsUnformatted content ⊎ IsEmptyStore shape content
 
--- What a store of this shape may begin with: documents that keep its limits, each of which has a spelling as the cell of its number.
+-- What a store of this shape may begin with: documents that keep its limits, and each has a spelling as the cell of its number.
 pub record MayBegin (shape : Shape) (start : List Cell) : Type 0 where
   pub state : IsState (begun_with (limits_of shape) start)
   pub keep : All (CellKeeps (limits_of shape)) start

@@ -1,4 +1,4 @@
--- Which parts the content of a device holds, and which state they stand for.
+-- Which parts the content of a device holds, and which state they represent.
 use Rattle.std.specs.Prelude.{◌≡◌, ℕ, ◌-◌, true, Option, List, [], map, All}
 use Rattle.std.specs.List.{flat_map}
 use Rattle.revision.specs.Command.{Taken, edits}
@@ -61,7 +61,7 @@ pub record HoldsPartsIn (format : Format) (content : List ℕ) (shape : Shape) (
   pub spell : SpellBatches (bodies_of table) batches
   pub entries : AreEntriesIn format (commands_of batches)
 
--- The state that the whole content of a device stands for, by a pick of the newer or the older cell of each document. Where a rule
+-- The state that the whole content of a device represents, by a pick of the newer or the older cell of each document. Where a rule
 -- fails there is none.
 pub record FoundIn (format : Format) (content : List ℕ) (pick : Pick) (state : State) : Type 0 where
   pub shape : Shape
@@ -78,7 +78,7 @@ HoldsParts content shape cells table batches = HoldsPartsIn Two content shape ce
 abbrev pub Found : List ℕ → Pick → State → Type 0
 Found content pick state = FoundIn Two content pick state
 
--- by a pick the content stands for a state that agrees with this one
+-- by a pick the content represents a state that agrees with this one
 pub record FoundBy (pick : Pick) (content : List ℕ) (state : State) : Type 0 where
   pub there : State
   pub found : Found content pick there
@@ -96,7 +96,7 @@ pub record RunsWith (content : List ℕ) (state : State) : Type 0 where
   pub limits : state.limits ≡ limits_of shape
   pub runs : Runs order cells (commands_of batches) state
 
--- The content stands, by either pick, for a state that agrees with this one, and a store that is opened on it goes on.
+-- The content represents, by either pick, a state that agrees with this one, and a store that is opened on it continues from there.
 pub record FoundAs (content : List ℕ) (state : State) : Type 0 where
   pub by_either : (pick : Pick) → FoundBy pick content state
   pub runs : RunsWith content state

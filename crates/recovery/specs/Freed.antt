@@ -94,8 +94,8 @@ module _ {D : Type 0} {disk : Ghosts D} where
     pub marks : length (known_marks new) ≤ length (known_marks old) + length batch
 
   -- A batch is not committed, and why. The documents stay, and where the batch had room, all of the store. Where it had none, it is refused
-  -- as `JournalFull` behind a segment that was freed, and as `StillNeeded` where none could be, and then the numbers of segments are used up; as
-  -- `Stranger` behind a segment that was freed; and where memory ran out, one is freed or partly freed, and nothing of the batch is written.
+  -- as `JournalFull` after a segment was freed, and as `StillNeeded` where none could be, and then the numbers of segments are used up; as
+  -- `Stranger` after a segment was freed; and where memory ran out, one is freed or partly freed, and nothing of the batch is written.
   pub record IsUncommitted (refusal : Refusal) (batch : List Taken) (old new : Store D disk) : Type 0 where
     pub only : ((refusal ≡ JournalFull) ⊎ ((refusal ≡ StillNeeded) ⊎ (refusal ≡ Stranger))) ⊎ ((refusal ≡ NoMemory) ⊎ (refusal ≡ Fault))
     pub state : state_of new ≡ state_of old

@@ -1,4 +1,4 @@
--- What calls of a store keep, one behind another: each law is promised by a function of `laws`.
+-- What calls of a store keep, one after another: each law is promised by a function of `laws`.
 use Rattle.std.specs.Prelude.{◌≡◌, ◌≢◌, ◌↔◌, ℕ, true, false, List, Result, OnOk, IfErr, IsErrOf}
 use Rattle.disk.specs.declared.device.Disk.{Ghosts}
 use Rattle.disk.specs.Crash.{LeavesOnly, MayLeaveNow}

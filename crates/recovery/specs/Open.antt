@@ -25,7 +25,7 @@ use Rattle.recovery.specs.Marked.{AreMarked}
 use Rattle.recovery.specs.Jobs.{jobs_of, jobs_for, CanAllBePut}
 use Rattle.recovery.specs.Found.{limits_of, commands_of, HoldsParts, FoundAs}
 
--- a content that stands for a state that agrees with the one before a batch, or with the one with it
+-- a content that represents a state that agrees with the one before a batch, or with the one with it
 abbrev pub IsWithOrWithout : State → List Taken → List ℕ → Type 0
 IsWithOrWithout state batch content = FoundAs content state ⊎ FoundAs content (fold state batch)
 
@@ -123,7 +123,7 @@ module _ {D : Type 0} {disk : Ghosts D} where
     pub kept : CanAllBePut order cells (kept_jobs store)
 
 module _ {D : Type 0} {disk : Ghosts D} where
-  -- After a commit: the store goes on over the same cells. The batch was appended to the newest segment where it fits there, and else,
+  -- After a commit: the store is open over the same cells. The batch was appended to the newest segment where it fits there, and else,
   -- and only then, to one for which the next slot was opened. The kept jobs stay.
   pub record IsCommittedNow (commands : List Taken) (old : Store D disk) (is_open : IsOpen old) (new : Store D disk) : Type 0 where
     pub goes_on : IsOpen new
@@ -133,7 +133,7 @@ module _ {D : Type 0} {disk : Ghosts D} where
     pub appended : IsAppended ready (spelled commands) goes_on.table
     pub jobs : kept_jobs new ≡ kept_jobs old
 
-  -- After a retirement: the store goes on over the same cells, and the slot of the oldest segment is closed.
+  -- After a retirement: the store is open over the same cells, and the slot of the oldest segment is closed.
   pub record IsRetiredNow (cells : List Pair) (table : List (Option Segment)) (store : Store D disk) : Type 0 where
     pub goes_on : IsOpen store
     pub same_cells : goes_on.cells ≡ cells
@@ -147,7 +147,7 @@ module _ {D : Type 0} {disk : Ghosts D} where
   abbrev pub HasNone : ℕ → ℕ → Store D disk → Type 0
   HasNone segment document store = greatest_marked segment document (known_marks store) ≡ 0
 
-  -- After room was made in the journal: the store goes on, and the slot of the oldest segment is closed. The cells of each document that had no
+  -- After room was made in the journal: the store is open, and the slot of the oldest segment is closed. The cells of each document that had no
   -- entry there are unchanged. Both cells of each other document hold it at its newest revision, and no job of it is kept.
   pub record IsFreedNow (old : Store D disk) (is_open : IsOpen old) (new : Store D disk) : Type 0 where
     pub goes_on : IsOpen new
@@ -166,7 +166,7 @@ module _ {D : Type 0} {disk : Ghosts D} where
   IsRaised old new goes_on document =
       AreBothNewest (state_of old) document (cells_at goes_on.cells document) × (jobs_for document (kept_jobs new) ≡ [])
 
-  -- Room was being made when it was given up, in the milestones of one document: the store goes on over the same slots. Each document that has no
+  -- Room was being made when it was given up, in the milestones of one document: the store is open over the same slots. Each document that has no
   -- entry in the oldest segment is left unchanged, with its kept jobs. So is each other one, or it has both its milestones and no kept job;
   -- the one document has some of them, and no kept job.
   pub record IsHalfFreed (old : Store D disk) (is_open : IsOpen old) (new : Store D disk) : Type 0 where
@@ -183,7 +183,7 @@ module _ {D : Type 0} {disk : Ghosts D} where
     pub others : (document : ℕ) → document ≢ under_way → ¬ HasNone segment document old
         → IsLeft old is_open new goes_on document ⊎ IsRaised old new goes_on document
 
-  -- After a commit for which room was made: the oldest segment was freed first, and the batch committed behind that.
+  -- After a commit for which room was made: the oldest segment was freed first, and the batch committed after that.
   pub record IsCommittedBehind (commands : List Taken) (old : Store D disk) (is_open : IsOpen old) (new : Store D disk) : Type 0 where
     pub mid : Store D disk
     pub freed : IsFreedNow old is_open mid
@@ -193,14 +193,14 @@ module _ {D : Type 0} {disk : Ghosts D} where
   abbrev pub KeepsJobs : ℕ → Store D disk → Store D disk → Type 0
   KeepsJobs segment old new = (document : ℕ) → HasNone segment document old → jobs_for document (kept_jobs new) ≡ jobs_for document (kept_jobs old)
 
-  -- After a milestone was put: the store goes on over the same slots, and the cell that comes of the job is open in its document's pair,
+  -- After a milestone was put: the store is open over the same slots, and the job's cell is open in its document's pair,
   -- in place of the older one where both were open. The other documents' cells are unchanged.
   pub record IsPutNow (cells : List Pair) (table : List (Option Segment)) (job : Job) (store : Store D disk) : Type 0 where
     pub goes_on : IsOpen store
     pub same_table : goes_on.table ≡ table
     pub put : goes_on.cells ≡ with_pair job.document (with_cell (cell_of_job job) (freed (cells_at cells job.document))) cells
 
-  -- After a job was handed out: the store goes on over the same cells and slots.
+  -- After a job was handed out: the store is open over the same cells and slots.
   pub record IsStillOver (cells : List Pair) (table : List (Option Segment)) (store : Store D disk) : Type 0 where
     pub goes_on : IsOpen store
     pub same_cells : goes_on.cells ≡ cells

@@ -34,7 +34,7 @@ abbrev pub state_after : State → List StoreStep → State
 state_after state [] = state
 state_after state (step ∷ steps) = state_after (fold state (batch_of step)) steps
 
--- A content stands for a state that agrees with the one after some of the steps, the first ones of them, and no fewer
+-- A content represents a state that agrees with the one after a prefix of the steps, which has no fewer
 -- than so many.
 pub record IsAfterSome (least : ℕ) (state : State) (steps : List StoreStep) (content : List ℕ) : Type 0 where
   pub count : ℕ
@@ -83,7 +83,7 @@ module _ {D : Type 0} {disk : Ghosts D} where
     pub may : MayRetire is_open.table is_open.cells
     pub retired : IsRetiredNow is_open.cells is_open.table new
 
-  -- A step was taken, by a store that goes on: its batch was committed, or its milestone may be put and was, or the oldest segment retired.
+  -- A step was taken, and the store is open after it: its batch was committed, or its milestone may be put and was, or the oldest segment retired.
   abbrev pub IsTaken : StoreStep → Store D disk → Store D disk → Type 0
   IsTaken (Commit batch) old new =
       (has_failed new ≡ false) × (all_grow (state_of old) batch ≡ true) × (state_of new ≡ fold (state_of old) batch)
@@ -94,7 +94,7 @@ module _ {D : Type 0} {disk : Ghosts D} where
   IsTaken Retire old new =
       (has_failed new ≡ false) × (state_of new ≡ state_of old) × ((is_open : IsOpen old) → IsGivenUp old is_open new)
 
-  -- steps were taken, one behind the other
+  -- steps were taken, one after the other
   abbrev pub AreTaken : List StoreStep → Store D disk → Store D disk → Type 0
   AreTaken [] old new = new ≡ old
   AreTaken (step ∷ steps) old new = (mid : Store D disk) × IsTaken step old mid × AreTaken steps mid new
@@ -116,7 +116,7 @@ module _ {D : Type 0} {disk : Ghosts D} where
   IsWhy Retire refusal store = (refusal ≡ StillNeeded) × ((is_open : IsOpen store) → ¬ MayRetire is_open.table is_open.cells)
 
   -- A run stopped at a step: those before it were taken, and the store that they led to refused it for this reason, and was left
-  -- as it was, where neither its device failed nor memory ran out.
+  -- unchanged, where neither its device failed nor memory ran out.
   pub record IsStopped (steps : List StoreStep) (at : ℕ) (refusal : Refusal) (old new : Store D disk) : Type 0 where
     pub last : Store D disk
     pub taken : AreTaken (take at steps) old last

@@ -7,7 +7,7 @@ use Rattle.recovery.specs.Jobs.{IsJobTo, IsMadeOf, with_job, without_job}
 use Rattle.recovery.specs.Open.{known_cells, known_marks, kept_jobs, state_of}
 
 module _ {D : Type 0} {disk : Ghosts D} where
-  -- a call has left all of the store as it was but for the jobs that it keeps
+  -- a call has left all of the store unchanged but for the jobs that it keeps
   pub record IsUnchangedButJobs (old new : Store D disk) : Type 0 where
     pub device : new.device ≡ old.device
     pub shape : new.shape ≡ old.shape

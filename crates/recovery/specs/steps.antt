@@ -1,4 +1,4 @@
--- What the steps of reading and of writing a device need. What a content stands for stands in the files beside this folder.
+-- What the steps of reading and of writing a device need. What a content represents is said in the files beside this folder.
 pub mod Reading
 pub mod Appending
 pub mod Group

@@ -39,7 +39,7 @@ pub fn format_device<D: Disk>(alloc: Global, disk: &mut D, shape: Shape) -> Resu
     ensures done { OnOk result (IsEmptyStore shape (D.seen disk.new)) }
     ensures synced { OnOk result (D.unsynced disk.new ≡ []) }
 
-    // A device that is formatted already stays so, and is told of.
+    // A device that is formatted already stays so, and is refused.
     ensures kept { D.honest disk.new → IsFormatted (D.seen disk.old)
         → IsOnlySynced (history_of ⟦<D as Disk>⟧ disk.old) (history_of ⟦<D as Disk>⟧ disk.new) }
     ensures formatted { D.honest disk.new → IsFormatted (D.seen disk.old)
@@ -97,7 +97,7 @@ pub fn format_with<D: Disk>(
     ensures done { OnOk result (IsBegunStore shape milestones.now (D.seen disk.new)) }
     ensures synced { OnOk result (D.unsynced disk.new ≡ []) }
 
-    // A device that is formatted already stays so, and is told of.
+    // A device that is formatted already stays so, and is refused.
     ensures kept { D.honest disk.new → IsFormatted (D.seen disk.old)
         → IsOnlySynced (history_of ⟦<D as Disk>⟧ disk.old) (history_of ⟦<D as Disk>⟧ disk.new) }
     ensures formatted { D.honest disk.new → IsFormatted (D.seen disk.old)

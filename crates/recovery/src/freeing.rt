@@ -58,7 +58,7 @@ impl<D: Disk> Store<D> {
     }
 
     /// Commits a batch as `commit` does; where it finds no room for it, it frees the oldest segment first, as `free_oldest` does. So
-    /// in an open store neither `JournalFull` nor `StillNeeded` comes before the segments' numbers are used up, of which 2^64 - 1 is
+    /// in an open store neither `JournalFull` nor `StillNeeded` comes before the segments' numbers are used up; 2^64 - 1 is
     /// the last one. Whatever was freed for it, no refusal changes the documents.
     pub fn commit_freeing(
         &mut self,

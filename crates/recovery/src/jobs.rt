@@ -13,7 +13,7 @@ pub struct Jobs {
 }
 
 impl Jobs {
-    /// None. It takes no memory.
+    /// No jobs. It takes no memory.
     pub fn new(alloc: Global) -> Jobs
         ensures { jobs_of result ≡ [] }
     {

@@ -1,4 +1,4 @@
-//! Laws of what a content stands for, for the layers above. Each is a function that does nothing: its contract is the law,
+//! Laws of what a content represents, for the layers above. Each is a function that does nothing: its contract is the law,
 //! and the proofs of the layers above cite it as proofs/CallerLemmas.antt has it.
 ghost use Rattle.std.specs.Prelude.{◌≡◌, ℕ, true, List, [], ◌∷◌};
 ghost use Rattle.revision.specs.Command.{Taken};

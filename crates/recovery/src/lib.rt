@@ -1,10 +1,10 @@
 //! The store: how a device is formatted, opened and written.
 //!
-//! A device has a superblock that names the store's shape, two cells for each document, each of which may hold the document at
+//! A device has a superblock that names the store's shape, two cells for each document, where each may hold the document at
 //! a revision, and the slots of the journal's ring. To the layer above the crate promises which state the content of a device
-//! stands for, by the newer or the older cell of each document, and what a crash at any moment of a call leaves of it. It
+//! represents, by the newer or the older cell of each document, and what a crash at any moment of a call leaves of it. It
 //! stands on `segments`, `milestone`, `journal` and `disk`, and on `document` for documents that are given beside a batch; crate
-//! `history` says, over values alone, what the parts of a store stand for.
+//! `history` says, over values alone, what the parts of a store represent.
 //!
 //! A caller, with its contract, which is proved as it stands:
 //!
@@ -19,7 +19,7 @@
 //! use revision::Batch;
 //! use std::alloc::Global;
 //!
-//! /// Commits a batch whose documents aren't at hand. A crash at any moment leaves the state without it or with it, and at Ok the store goes on.
+//! /// Commits a batch whose documents aren't at hand. A crash at any moment leaves the state without it or with it, and at Ok the store is open.
 //! pub fn commit_batch<D: Disk>(
 //!     alloc: Global,
 //!     store: &mut Store<D>,

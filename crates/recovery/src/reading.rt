@@ -37,7 +37,7 @@ use segments::{RecoveredRing, Ring};
 use std::alloc::Global;
 
 /// What was read of a device: its shape, the ring of its slots, the cells of each document number in order, the marks of its
-/// segments, and the state that it stands for.
+/// segments, and the state that it represents.
 #[derive(Drop)]
 pub struct RecoveredStore {
     pub shape: Shape,
@@ -49,7 +49,7 @@ pub struct RecoveredStore {
 
 /// Reads a device after a sync of it, by the newer or the older cell of each document, and writes nothing. `NotFormatted` comes
 /// where the superblock's gate is closed or the device has less than 64 bytes, `OldFormat` where it has the first format, and `Damaged`
-/// where it is formatted otherwise and its content stands for no state by this pick.
+/// where it is formatted otherwise and its content represents no state by this pick.
 pub fn read_store<D: Disk>(
     alloc: Global,
     disk: &mut D,
@@ -92,13 +92,13 @@ pub fn read_store<D: Disk>(
 pub struct OldStore {
     /// The numbers that the store was made with.
     pub shape: Shape,
-    /// The documents that it stands for, within the limits of the first format.
+    /// The documents that it represents, within the limits of the first format.
     pub state: State,
 }
 
 /// Reads a device of the first format after a sync of it, by the newer cell of each document, and writes nothing. `NotFormatted` comes
 /// exactly where the superblock's gate is closed or the device has less than 64 bytes, `NotOld` exactly where it has the second format,
-/// and `Damaged` exactly where it is formatted otherwise and its content stands for no state.
+/// and `Damaged` exactly where it is formatted otherwise and its content represents no state.
 pub fn read_old<D: Disk>(alloc: Global, disk: &mut D) -> Result<OldStore, Refusal>
     ensures found { IfOk result (λ old. D.honest disk.new → FoundIn One (D.seen disk.old) Newer old.state) }
     ensures only_state { IfOk result (λ old. D.honest disk.new → (state : StateValue)

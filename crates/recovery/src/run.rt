@@ -1,4 +1,4 @@
-//! Whole runs of a store.
+//! Whole runs of a store, for tests: no program makes one.
 ghost use Rattle.std.specs.Prelude.{◌≡◌, ◌≢◌, ◌⊎◌, ◌↔◌, ◌+◌, ◌*◌, ◌<◌, ◌≤◌, ℕ, List, [], true, false, length, take, All, OnOk, OnErr, IfErr, IsErrOf};
 ghost use Rattle.disk.specs.Device.{Rose};
 ghost use Rattle.disk.specs.Crash.{LeavesOnly, MayLeaveNow};
@@ -53,7 +53,7 @@ impl<D: Disk> Store<D> {
         // Of the kept jobs a milestone drops its document's, and no other step drops one.
         ensures jobs { OnOk result (kept_jobs self.new ≡ jobs_after steps.now (kept_jobs self.old)) }
 
-        // What comes behind the step at which it stopped was not begun.
+        // What comes after the step at which it stopped was not begun.
         ensures begun { IfErr result (λ stop. IsBegun steps.now stop.at stop.refusal self.old self.new) }
 
         // Why it stopped: by the store that the steps before led to, and by the one that it left.

@@ -6,7 +6,7 @@ ghost use Rattle.recovery.specs.Found.{limits_of, limits_in};
 use milestone::Format;
 use revision::Limits;
 
-/// How large a store is: how many parts of which size its device has, and how much it may hold.
+/// How large a store is: how many parts its device has and of what size, and how much it may hold.
 #[derive(Clone, Copy, Debug, PartialEq, Eq)]
 pub struct Shape {
     /// Slots of the ring, 2 to 1,024.

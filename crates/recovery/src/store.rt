@@ -41,7 +41,7 @@ pub struct OpenFault<D> {
     pub refusal: Refusal,
 }
 
-/// A store over a device: the documents that the device stands for, and where the next batch goes.
+/// A store over a device: the documents that the device represents, and where the next batch goes.
 #[derive(Drop)]
 pub struct Store<D: Disk> {
     pub(crate) device: D,
@@ -80,17 +80,17 @@ impl<D: Disk> Store<D> {
     /// that pick, `Fault` exactly when a call of the device failed, and `NoMemory`. The device comes back with the refusal, and
     /// its content is unchanged on every path.
     pub fn open(alloc: Global, disk: D, pick: Pick) -> Result<Store<D>, OpenFault<D>>
-        // What is read stands, by this pick, for the state that the store holds, and for no other.
+        // What is read represents, by this pick, the state that the store holds, and no other.
         ensures found { IfOk result (λ store. D.honest (device_of store) → Found (D.seen disk) pick (state_of store)) }
         ensures only_state { IfOk result (λ store. D.honest (device_of store) → (state : StateValue)
             → Found (D.seen disk) pick state → state ≡ state_of store) }
-        // And whoever wrote it, the ring, the cells and the marks that the store goes on with are those of its parts.
+        // And whoever wrote it, the ring, the cells and the marks that the store has from here on are those of its parts.
         ensures knows { IfOk result (λ store. D.honest (device_of store) → Knows (D.seen disk) pick store) }
         ensures works { IfOk result (λ store. has_failed store ≡ false) }
         ensures no_jobs { IfOk result (λ store. kept_jobs store ≡ []) }
 
-        // Where the content is that of a store which ran with some state, the store goes on, with a state that agrees with
-        // that one, and nothing but the device or want of memory can refuse it.
+        // Where the content is that of a store which ran with some state, the store is open, with a state that agrees with
+        // that one, and nothing but the device or a lack of memory can refuse it.
         ensures open { IfOk result (λ store. D.honest (device_of store) → (state : StateValue)
             → FoundAs (D.seen disk) state
             → IsOpen store × Agree (state_of store) state) }
@@ -221,7 +221,7 @@ impl<D: Disk> Store<D> {
 
     /// Writes a batch, and answers with its receipt once it is on the disk: two syncs, and two more where a slot is opened for it.
     /// First comes `JournalFull`, exactly when the batch has more bytes than the newest segment has left and no slot is free. Next
-    /// comes `Stranger`, where it doesn't continue the state: of its first command that is told before memory is taken, and of a
+    /// comes `Stranger`, where it doesn't continue the state: for its first command before memory is taken, and for a
     /// later one unless memory runs out before. `NoMemory` comes before any call of the device, and leaves all unchanged. After `Fault`
     /// the store has failed: every later call answers `Fault`, until the device is opened again. The documents change only once
     /// the batch is on the disk, and no refusal changes them.
@@ -242,7 +242,7 @@ impl<D: Disk> Store<D> {
         // What an Ok hands out names just this batch.
         ensures receipt { IfOk result (λ receipt. receipt ≡ batch.now) }
 
-        // When each refusal comes. Want of memory may be told in place of `Stranger`, but not where the first command continues nothing.
+        // When each refusal comes. `NoMemory` may come in place of `Stranger`, but not where the first command continues nothing.
         ensures faults { FailsAtFaults result self.old self.new }
         ensures full { has_failed self.old ≡ false
             → (IsErrOf result Refusal.JournalFull ↔ (has_room self.old batch.now ≡ false)) }
@@ -277,7 +277,7 @@ impl<D: Disk> Store<D> {
         ensures unwritten { IsErrOf result Refusal.NoMemory → IsOpen self.old
             → LeavesOnly ⟦<D as Disk>⟧ (λ content. FoundAs content (state_of self.old)) (device_of self.old)
             (device_of self.new) }
-        // Once it is Ok, the device is synced and stands for the state with the batch: the cells are those of before, and so are the
+        // Once it is Ok, the device is synced and represents the state with the batch: the cells are those of before, and so are the
         // slots but for the batch, which a slot is opened for exactly when it doesn't fit the newest segment.
         ensures committed { OnOk result ((is_open : IsOpen self.old)
             → IsCommittedNow batch.now self.old is_open self.new) }

@@ -58,7 +58,7 @@ pub enum Refusal {
     BadName = 8,
     /// The number is not the next one.
     Gap = 9,
-    /// The number lies behind the source's last one.
+    /// The number is below those of the source's window.
     OldNumber = 10,
     /// The document has as many sources as it may have.
     TooManySources = 11,
@@ -92,7 +92,7 @@ pub enum Refusal {
     NotFormatted = 30,
     /// The device holds a store already.
     AlreadyFormatted = 31,
-    /// The device's bytes stand for no state.
+    /// The device's bytes represent no state.
     Damaged = 32,
     /// A number of the shape is out of range, or the device is too short.
     BadShape = 33,

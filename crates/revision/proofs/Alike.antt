@@ -87,7 +87,7 @@ module _ (s t : State) (command : Command) (agree : Agree s t) where
         → change s n a command (late delta (deltas_above a.past base)) ≡ change t m b command (late delta (deltas_above b.past base))
     edit-rest base delta over other within = change-same n m a b _ _ number both (ap (late delta) (since-same base over other within))
 
-    -- an edit, of which the last test is given
+    -- an edit, given the outcome of its last test
     edit-by : (base : ℕ) (delta : List Operation) (place future : Bool) (P : Answer → Answer → Type 0) → ((x : Answer) → P x x)
         → (future ≡ false → P (cond (nat_lt base a.past.floor) (Refuses TooOld) (change s n a command (late delta (deltas_above a.past base))))
         (cond (nat_lt base b.past.floor) (Refuses TooOld) (change t m b command (late delta (deltas_above b.past base)))))

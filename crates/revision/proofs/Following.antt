@@ -148,7 +148,7 @@ suits-edits Edits h = refl
 suits-edits Deletes h = refl
 suits-edits Revives h = absurd (true≢false (sym h))
 
--- a creation begins a document just where it edits and follows the empty one
+-- a creation begins a document exactly where it edits and follows the empty one
 pub follows-empty : (limits : Limits) (name : List ℕ) (taken : Taken) → IsLimits limits → edits taken.step ≡ true
     → follows limits (with_prepared limits.keep (record { name = name; past = record { past = empty_past; next = [] } })) taken ≡ begins limits taken
 follows-empty limits name taken is edit =

@@ -1,4 +1,4 @@
--- What a past keeps, as it goes on and its floor rises.
+-- What a past keeps, as it continues and its floor rises.
 use Rattle.std.proofs.Common.{ℕ, zero, suc, ◌≤◌, ◌^◌, List, [], ◌∷◌, ◌++◌, length, take, drop, arith}
 use Rattle.std.specs.Prelude.{All}
 use Rattle.std.proofs.lemmas.List.Elements.{All-nil, All-cons}

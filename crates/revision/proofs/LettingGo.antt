@@ -50,14 +50,14 @@ later_parts parts gone sources passed = record {
 }
 
 module _ (parts : Parts) (is : AreParts parts) (gone : ℕ) (sources : Sources) (passed : ℕ) (within : gone ≤ parts.floor - parts.start) where
-  -- what stands there at the last revision taken is as it was
+  -- what stands there at the last revision taken is unchanged
   taken-same : taken_content (later_parts parts gone sources passed) ≡ taken_content parts
   taken-same =
       let sum : gone + (parts.count - gone) ≡ parts.count = omega (arith, within, is.start, is.floor) in
       ap (λ u. record { units = u; live = parts.live })
       (applied-take gone (parts.count - gone) parts.units parts.deltas ∙ ap (λ n. applied parts.units (take n parts.deltas)) sum)
 
-  -- what is prepared is as it was, too
+  -- what is prepared is unchanged, too
   rest-same : {X : Type 0} (xs : List X) → drop (parts.count - gone) (drop gone xs) ≡ drop parts.count xs
   rest-same xs =
       let sum : gone + (parts.count - gone) ≡ parts.count = omega (arith, within, is.start, is.floor) in

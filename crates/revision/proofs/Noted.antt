@@ -39,7 +39,7 @@ neither : (a b : Bool) → a ≡ false → b ≡ false → (a || b) ≡ false
 neither false b p q = q
 neither true b p q = cc
 
--- one that was noted is there, and is as it was once it's given what it had
+-- a source that was noted is there, and all is unchanged once it's given what it had
 pub there-noted : (source : List ℕ) (window : Window) (sources after : Sources) → after ≡ insert sources source window → is_some (get after source) ≡ true
 there-noted source window sources after is =
     ap (λ (m : Sources). is_some (get m source)) is

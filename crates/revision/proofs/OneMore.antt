@@ -101,13 +101,13 @@ module _ (limits : Limits) (documents : List PendingDocument) (taken : Taken) (n
       ∙ ap (λ found. set_document (length ds) (record_by_name limits.keep found taken (Some name)) ds) (sym (none-past ds))
       ∙ ap₂ (λ i n. set_document i (record_by_name limits.keep (slice_get ds i) taken n) ds) (same_length limits.keep documents ∙ sym at) (sym named)
 
--- a command that changes a document continues a state just where it continues the document
+-- a command that changes a document continues a state exactly where it continues the document
 pub changed_as : (state : State) (taken : Taken) → taken.name ≡ None
     → grows state taken ≡ continues_by_name state.limits (slice_get state.documents taken.document) taken None
 changed_as state taken named =
     ap (λ n. has_room state taken.document n && continues_by_name state.limits (slice_get state.documents taken.document) taken n) named
 
--- a creation continues a state just where it has room there, and begins its document
+-- a creation continues a state exactly where it has room there, and begins its document
 module _ (state : State) (taken : Taken) (name : List ℕ) (named : taken.name ≡ Some name) where
   by_name : grows state taken
       ≡ (has_room state taken.document (Some name) && continues_by_name state.limits (slice_get state.documents taken.document) taken (Some name))

@@ -113,7 +113,7 @@ can-pass edit [] room = tt
 can-pass edit (taken ∷ others) room =
     (bounded-after taken edit others room, can-pass (second_past taken edit true) others (room-past taken edit others room))
 
--- with room for it, only want of memory is a refusal
+-- with room for it, out of memory is the only refusal
 pub only_memory : (edit : List Operation) (since : List (List Operation)) (refusal : Refusal) → HasRoom edit since
     → IsPassRefused since edit refusal → refusal ≡ NoMemory
 only_memory edit since BadOps room refused = absurd (refused (can-pass edit since room))

@@ -98,7 +98,7 @@ last-decides live (first ∷ second ∷ others) zero t many same = absurd (omega
 last-decides live (first ∷ second ∷ others) (suc n) t many same =
     last-decides (leaves_live first.step) (second ∷ others) n t (omega (arith, many)) same
 
--- nothing stands in a document that is deleted, however it goes on by steps that suit it
+-- nothing stands in a document that is deleted, however it continues by steps that suit it
 step-content : (content : Content) (step : Step) (delta : List Operation) → is_content content ≡ true → suits content.live step ≡ true
     → is_content (content_after content step delta) ≡ true
 step-content content Edits delta may suit = ap (λ b. b || (length (apply content.units (counted delta)) == 0)) suit
@@ -133,7 +133,7 @@ lead-take (suc n) content [] deltas lead = tt
 lead-take (suc n) content (taker ∷ takers) [] lead = tt
 lead-take (suc n) content (taker ∷ takers) (delta ∷ deltas) lead = (lead.0, lead-take n (content_after content taker.step delta) takers deltas lead.1)
 
--- a past with a step more, of which nothing is let go, with the mark that it then has
+-- a past with a step more and nothing let go, with the mark that it then has
 abbrev one_more : Past → Step → Change → Past
 one_more whole step change = record {
   floor = whole.floor;

@@ -1,4 +1,4 @@
--- Documents of which nothing is prepared.
+-- Documents with nothing prepared.
 use Rattle.std.proofs.Common.{◌≡◌, ◌≢◌, ℕ, zero, suc, ◌⊎◌, inl, inr, List, [], ◌∷◌, ◌++◌, length, map, take, Some, refl, sym, ap, ap₂, subst, ◌∙◌}
 use Rattle.std.specs.Prelude.{slice_get}
 use Rattle.std.proofs.lemmas.Option.{none-some, same_Some}
@@ -97,7 +97,7 @@ last_read : {X : Type 0} (xs : List X) (x y : X) → slice_get (xs ++ x ∷ []) 
 last_read [] x y read = same_Some x y read
 last_read (z ∷ zs) x y read = last_read zs x y read
 
--- a document more of which nothing is prepared
+-- one more document, with nothing prepared
 pub rest-one : (is : List ℕ) (documents : List PendingDocument) (d : PendingDocument) → d.past.next ≡ []
     → UntouchedRest is documents → UntouchedRest is (documents ++ d ∷ [])
 rest-one is documents d none rest i e read = by_place (read_of_more documents d i e read) where

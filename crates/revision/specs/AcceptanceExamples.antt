@@ -29,7 +29,7 @@ text us = letters us empty
 abbrev small : State
 small = record { limits = record { docs = 2; sources = 4; weight = 128; width = 237; keep = 2; retry = 8 }; documents = [] }
 
--- one of which the documents may be heavier
+-- one whose documents may be heavier
 abbrev roomy : State
 roomy = record { limits = record { docs = 2; sources = 4; weight = 1000; width = 237; keep = 2; retry = 8 }; documents = [] }
 

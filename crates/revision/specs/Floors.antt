@@ -5,7 +5,7 @@ use Rattle.revision.specs.Sources.{with_taken}
 use Rattle.revision.specs.State.{DocumentRecord}
 use Rattle.revision.specs.Past.{Change, Past, content_after, newest, newest_content, newest_sources, content_at, sources_at, from_floor, with_step}
 
--- the past with a change more, of which nothing is let go
+-- the past with a change more and nothing let go
 abbrev pub longer : Past → Change → Past
 longer past change = record past { changes = past.changes ++ change ∷ [] }
 

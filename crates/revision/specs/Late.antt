@@ -41,7 +41,7 @@ abbrev pub InsertedStay : Type 0
 InsertedStay = (units : List Element) (taken : List Operation) → base_of taken ≤ length units
     → inserted_of taken ≤ length (apply units (counted taken))
 
--- a command's delta has room past all that a document holds: at most 65,536 deltas, each of which inserts at most 2^29 units
+-- a command's delta has room past all that a document holds: at most 65,536 deltas, each inserting at most 2^29 units
 abbrev pub RoomForCommands : Type 0
 RoomForCommands = (edit : List Operation) (since : List (List Operation)) → base_of edit ≤ 2 ^ 44 → out_of edit ≤ 2 ^ 44
     → length since ≤ 65536 → All (λ taken. inserted_of taken ≤ 2 ^ 29) since → HasRoom edit since

@@ -41,7 +41,7 @@ abbrev pub MadeFirst : Type 0
 MadeFirst = (state : State) (commands : List Taken) (documents : List (List Element)) (count : ℕ)
     → AreMade state commands documents → AreMade state (take count commands) (take count documents)
 
--- The others with theirs, on what the first ones make.
+-- The others with theirs, on what the first `count` make.
 abbrev pub MadeRest : Type 0
 MadeRest = (state : State) (commands : List Taken) (documents : List (List Element)) (count : ℕ)
     → AreMade state commands documents → AreMade (fold state (take count commands)) (drop count commands) (drop count documents)

@@ -10,6 +10,6 @@ use Rattle.compose.specs.steps.PairTest.{cuts_units}
 abbrev pub parts_pair : List Operation → List Element → Bool
 parts_pair delta units = cuts_units units (counted delta)
 
--- it tells just where the delta cuts a pair
+-- it is true exactly where the delta cuts a pair
 abbrev pub PartsTold : Type 0
 PartsTold = (delta : List Operation) (units : List Element) → (parts_pair delta units ≡ true) ↔ Cuts units (counted delta)

@@ -108,7 +108,7 @@ deltas_in changes = map (λ (change : Change). change.delta) changes
 abbrev pub deltas_of : Past → List (List Operation)
 deltas_of past = deltas_in past.changes
 
--- the sources after changes, the first of which is that of the revision after this one
+-- the sources after changes, where the first is that of the revision after this one
 abbrev pub sources_after : ℕ → Sources → List Change → Sources
 sources_after revision sources [] = sources
 sources_after revision sources (first ∷ others) =
@@ -237,7 +237,7 @@ LeadInTurn content (first ∷ others) (delta ∷ deltas) =
     LeadsTo content first.step delta × LeadInTurn (content_after content first.step delta) others deltas
 
 -- What the program keeps of a past: the document and the sources at a revision that isn't above the floor, the start; the deltas after it
--- with their takers, of which so many are taken, and the others are prepared; documents at some of the revisions taken, some with their
+-- with their takers, so many of them taken and the others prepared; documents at some of the revisions taken, some with their
 -- sources; and the mark at the last of these.
 pub record Parts : Type 0 where
   pub start : ℕ

@@ -37,7 +37,7 @@ rests_on_delta (Refuses TooHeavy) = true
 rests_on_delta (Refuses TooWide) = true
 rests_on_delta (Refuses other) = false
 
--- Want of memory may be told in place of this answer: of a creation and of a deletion only where it is taken, since a creation's delta is
+-- `NoMemory` may come in place of this answer: of a creation and of a deletion only where it is taken, since a creation's delta is
 -- looked at as it stands, and a deletion has none; of an edit or an undo only where the answer rests on the delta to be taken, which has to be made first.
 abbrev pub may_want_memory : Action → Answer → Bool
 may_want_memory (Create delta) due = takes_command due
@@ -70,7 +70,7 @@ reply_of (Ok (replies.Taken revision)) = TakenAt revision
 reply_of (Ok (replies.Again revision)) = AgainAt revision
 reply_of (Err refusal) = Refused refusal
 
--- the reply and the state after it are those that are due, or memory ran out and the state is as it was
+-- the reply and the state after it are those that are due, or memory ran out and the state is unchanged
 abbrev pub IsDecided : State → Command → Result replied.Reply Refusal → State → Type 0
 IsDecided old command result new = (decide old command ≡ (reply_of result, new)) ⊎ ((result ≡ Err NoMemory) × (new ≡ old))
 

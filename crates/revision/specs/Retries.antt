@@ -53,7 +53,7 @@ abbrev pub CutWeighs : Type 0
 CutWeighs = (limits free : Limits) (entries : List (List ℕ × Window)) → limits.retry ≤ 64 → free.retry ≡ 0
     → total_of (window_weight limits) (map cut entries) ≡ total_of (window_weight free) entries
 
--- Of a source of which nothing was taken before them, the commands' numbers are their places, counted from 1: a number among the last ones
+-- For a source with nothing taken before them, the commands' numbers are their places, counted from 1: a number among the last ones
 -- has the revision that stands at its place.
 abbrev pub FromNothing : Type 0
 FromNothing = (taken : List ℕ) (number : ℕ) → 1 ≤ number → revision_in number (taken_all nothing_taken taken)

@@ -15,7 +15,7 @@ pub record Window : Type 0 where
   pub number : ℕ
   pub revisions : List ℕ
 
--- what a source has of which nothing was taken
+-- the window of a source with nothing taken
 abbrev pub nothing_taken : Window
 nothing_taken = record { number = 0; revisions = [] }
 

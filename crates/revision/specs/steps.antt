@@ -1,4 +1,4 @@
--- What stands in memory as what it stands for, and what the contracts of single steps cite: for a reader of a body, beside the
+-- What stands in memory as what it represents, and what the contracts of single steps cite: for a reader of a body, beside the
 -- definitions of the subject.
 pub mod Actions
 pub mod TakenView

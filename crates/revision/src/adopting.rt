@@ -18,14 +18,14 @@ use std::alloc::Global;
 const LAST: u64 = (1 << 53) - 1;
 
 impl State {
-    /// Adds a document at a revision with what stands in it and with its sources, of which no past is held. One that isn't live is
+    /// Adds a document at a revision with what stands in it and with its sources, and holds no past of it. One that isn't live is
     /// deleted.
     ///
-    /// Refused with `Stranger` just where there are `docs` documents, one of this name is there, something stands in it though it is
-    /// deleted, the revision isn't 1 to 2^53 - 1, or is 1 though it is deleted, there are more than `sources` sources, the last number
-    /// of one of them isn't 1 to 2^53 - 1, its window has no number or more than there are up to the last, the revisions there don't
-    /// ascend strictly from 1 on up to the document's, or the weight with them is above the limit: this is told before memory is taken.
-    /// Refused else for want of memory alone (`NoMemory`). A refusal leaves the state unchanged, and what was given is dropped.
+    /// Refused with `Stranger`, which is decided before memory is taken, exactly where one of these holds: there are `docs` documents; one
+    /// of them has this name; a deleted one has text, or revision 1; the revision isn't 1 to 2^53 - 1; there are more than `sources`
+    /// sources; a source's last number isn't 1 to 2^53 - 1, or its window has no number, or more than there are up to the last; the
+    /// revisions of a window don't ascend strictly, from 1 on and up to the document's; the weight with the sources is above the limit.
+    /// Else refused as out of memory alone (`NoMemory`). A refusal leaves the state unchanged, and what was given is dropped.
     pub fn adopt(
         &mut self,
         alloc: Global,

@@ -9,7 +9,7 @@ use refusal::Refusal;
 use std::alloc::Global;
 
 impl DocState {
-    /// An equal document, of which nothing is prepared, as of no document of a state. Refused for want of memory alone.
+    /// An equal document with nothing prepared, as is true of each document of a state. Refused as out of memory alone.
     #[tactic(auto, using(crate::proofs::Raising::raised_none))]
     pub fn copy(&self, alloc: Global) -> Result<DocState, Refusal>
         ensures same { IfOk result (λ copy. copy
@@ -21,7 +21,7 @@ impl DocState {
 }
 
 impl State {
-    /// An equal state. Refused for want of memory alone.
+    /// An equal state. Refused as out of memory alone.
     pub fn copy(&self, alloc: Global) -> Result<State, Refusal>
         ensures same { IfOk result (λ copy. copy ≡ self.now) }
         ensures only { IsOkUnless result Refusal.NoMemory }
@@ -30,7 +30,7 @@ impl State {
     }
 
     /// The same documents, each held from the revision on that stands at its number in `floors`: from its own floor on where that
-    /// is higher or none stands there, and from its newest revision on where that is lower. Refused for want of memory alone.
+    /// is higher or none stands there, and from its newest revision on where that is lower. Refused as out of memory alone.
     pub fn copy_from(&self, alloc: Global, floors: &[u64]) -> Result<State, Refusal>
         ensures same { IfOk result (λ copy. copy
             ≡ record self.now { documents = raised_each floors.now self.now.documents }) }

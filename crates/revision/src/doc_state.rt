@@ -78,7 +78,7 @@ impl DocState {
     }
 
     /// A document whose past begins at a revision with what stands in it, at most 2^29 units, and with its sources. Nothing stands in
-    /// one that isn't live. Refused for want of memory alone.
+    /// one that isn't live. Refused as out of memory alone.
     pub(crate) fn adopted(
         alloc: Global,
         name: Name,
@@ -120,7 +120,7 @@ impl DocState {
 
     /// Prepares a change that follows what is prepared so far, as `place_for` tells; its source is looked for first at the place that
     /// `place_for` gave. Its delta is moved into the past, and of a deletion one that deletes all. Where the document that it leaves is
-    /// given, it is taken over, and none is made. Refused for want of memory alone, and then nothing more is prepared. What is read stays as
+    /// given, it is taken over, and none is made. Refused as out of memory alone, and then nothing more is prepared. What is read stays as
     /// it is.
     pub(crate) fn prepare_next(
         &mut self,
@@ -253,7 +253,7 @@ impl DocState {
         self.past.let_go(alloc);
     }
 
-    /// The same document, held from a revision on, of which nothing is prepared. Refused for want of memory alone.
+    /// The same document, held from a revision on, with nothing prepared. Refused as out of memory alone.
     pub(crate) fn copy_from(&self, alloc: Global, revision: u64) -> Result<DocState, Refusal>
         ensures same { IfOk result (λ copy. copy
             ≡ record { name = self.now.name; past = record { past = raised revision self.now.past.past; next = [] } }) }
@@ -333,7 +333,7 @@ impl DocState {
         self.past.since(revision)
     }
 
-    /// What stood in it at a revision that is held. Refused for want of memory alone.
+    /// What stood in it at a revision that is held. Refused as out of memory alone.
     pub fn document_at(&self, alloc: Global, revision: u64) -> Result<Document, Refusal>
         requires held { self.now.past.past.floor ≤ revision }
         requires there { revision ≤ newest self.now.past.past }
@@ -344,7 +344,7 @@ impl DocState {
     }
 
     /// What a revision that is held is made of: the nearest document that is at hand, the deltas from there in turn, and the sources at
-    /// the revision. To the newest revision it is the document and no delta. Refused for want of memory alone.
+    /// the revision. To the newest revision it is the document and no delta. Refused as out of memory alone.
     #[tactic(auto, using(crate::proofs::NewestReplay::newest_replay))]
     pub fn replay_to(&self, alloc: Global, revision: u64) -> Result<Replay, Refusal>
         requires held { self.now.past.past.floor ≤ revision }
@@ -380,7 +380,7 @@ impl DocState {
     }
 
     /// An edit that was made on a revision that is held, late past what was taken since. Its lengths are those of a
-    /// command's delta, at most 2^44 UTF-16 code units each. Refused for want of memory alone.
+    /// command's delta, at most 2^44 UTF-16 code units each. Refused as out of memory alone.
     pub fn late(&self, alloc: Global, edit: &Delta, base: u64) -> Result<Delta, Refusal>
         requires held { self.now.past.past.floor ≤ base }
         requires there { base ≤ newest self.now.past.past }
@@ -418,7 +418,7 @@ impl DocState {
         self.late(alloc, edit, base)
     }
 
-    /// The delta that undoes a revision above the floor, late past what was taken since. Refused for want of memory alone.
+    /// The delta that undoes a revision above the floor, late past what was taken since. Refused as out of memory alone.
     pub fn undo(&self, alloc: Global, revision: u64) -> Result<Delta, Refusal>
         requires held { self.now.past.past.floor < revision }
         requires there { revision ≤ newest self.now.past.past }
@@ -560,7 +560,7 @@ struct Change {
     delta: Delta,
 }
 
-// A change of this document: that of a command which was taken on it, where a deletion has the delta that deletes all. Refused for want of
+// A change of this document: that of a command which was taken on it, where a deletion has the delta that deletes all. Refused as out of
 // memory alone.
 fn change_on(alloc: Global, document: &Document, taken: Taken) -> Result<Change, Refusal>
     requires blank { IsBlankFor taken.step document.now }
@@ -588,7 +588,7 @@ fn change_on(alloc: Global, document: &Document, taken: Taken) -> Result<Change,
     })
 }
 
-// The delta that leads from this document to what stands after a step. Refused for want of memory alone.
+// The delta that leads from this document to what stands after a step. Refused as out of memory alone.
 fn kept_delta(
     alloc: Global,
     document: &Document,
@@ -636,7 +636,7 @@ fn after_taken(alloc: Global, document: &Document, taken: &Delta) -> Result<Docu
     }
 }
 
-// Prepares a change in the past, and gives its source. Refused for want of memory alone, and then the past is unchanged. What lies
+// Prepares a change in the past, and gives its source. Refused as out of memory alone, and then the past is unchanged. What lies
 // below the floor is let go of, as far as memory goes.
 fn add_to(alloc: Global, past: &mut Past, change: Change) -> Result<Name, Refusal>
     requires named { is_source_name change.source ≡ true }
@@ -658,7 +658,7 @@ fn add_to(alloc: Global, past: &mut Past, change: Change) -> Result<Name, Refusa
     Ok(source)
 }
 
-// Prepares a change in the past and in the table of sources, where its source is looked for first at a place. Refused for want of
+// Prepares a change in the past and in the table of sources, where its source is looked for first at a place. Refused as out of
 // memory alone, and then both are unchanged.
 fn note(
     alloc: Global,

@@ -91,8 +91,8 @@ impl Documents {
         }
     }
 
-    /// Prepares a command that was taken. Refused with `Stranger` just where it doesn't continue what was prepared, which is
-    /// told before memory is taken; else for want of memory alone (`NoMemory`). A refusal leaves all as it is.
+    /// Prepares a command that was taken. Refused with `Stranger` exactly where it doesn't continue what was prepared, which is
+    /// decided before memory is taken; else as out of memory alone (`NoMemory`). A refusal leaves all as it is.
     pub(crate) fn prepare(&mut self, alloc: Global, taken: &Taken) -> Result<(), Refusal>
         ensures ok { OnOk result (self.new ≡ record self.old { after = grown self.old.after taken.now }) }
         ensures grow { OnOk result (grows self.old.after taken.now ≡ true) }
@@ -295,8 +295,8 @@ impl Documents {
         Ok(())
     }
 
-    /// Prepares a document of which nothing is prepared; there has to be room for it, and its name has to be new. Refused for
-    /// want of memory alone, and then all is as it was.
+    /// Prepares a document that has nothing prepared; there has to be room for it, and its name has to be new. Refused as
+    /// out of memory alone, and then all is unchanged.
     pub(crate) fn adopt(&mut self, alloc: Global, document: DocState) -> Result<(), Refusal>
         requires room { length self.old.after.documents < self.old.after.limits.docs }
         requires new { is_none (find document.name 0 self.old.after.documents) ≡ true }
@@ -479,7 +479,7 @@ fn begin(
     Ok(document)
 }
 
-// Adds a document with its name. Refused for want of memory alone, and then both are as they were.
+// Adds a document with its name. Refused as out of memory alone, and then both are unchanged.
 fn push_named(
     alloc: Global,
     documents: &mut Vec<DocState>,

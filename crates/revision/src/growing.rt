@@ -13,7 +13,7 @@ impl State {
     /// Prepares commands in order, all of them or none. Refused with `Stranger` where one of them doesn't continue what
     /// those before it make, unless memory runs out before that one is looked at (`NoMemory`). The first command is looked at
     /// before any memory is taken, so for it alone the order is sure: where it doesn't continue the state, the refusal is
-    /// `Stranger`. The state then comes back as it was.
+    /// `Stranger`. The state then comes back unchanged.
     ///
     /// Of the first commands the documents may be given as they leave them: these are then taken over, and neither made nor weighed.
     #[tactic(auto, using(crate::proofs::Keeping::all_keep))]
@@ -48,8 +48,8 @@ impl State {
         }
     }
 
-    /// Adds a command that was taken. Refused with `Stranger` just where it doesn't continue the state, which is told before
-    /// memory is taken; else for want of memory alone (`NoMemory`). A refusal leaves the state unchanged.
+    /// Adds a command that was taken. Refused with `Stranger` exactly where it doesn't continue the state, which is decided before
+    /// memory is taken; else as out of memory alone (`NoMemory`). A refusal leaves the state unchanged.
     pub fn absorb(&mut self, alloc: Global, taken: &Taken) -> Result<(), Refusal>
         ensures ok { OnOk result (self.new ≡ grown self.old taken.now) }
         ensures grow { OnOk result (grows self.old taken.now ≡ true) }

@@ -8,7 +8,7 @@ use std::alloc::Global;
 use xform::move_past_all;
 
 /// An edit past the deltas that were taken since its base, in turn from the oldest, each with priority. With room for it,
-/// which a command's delta has past all deltas that a document holds (`laws::late_room`), it is refused for want of memory
+/// which a command's delta has past all deltas that a document holds (`laws::late_room`), it is refused as out of memory
 /// alone. The edit is copied once.
 pub(crate) fn late(alloc: Global, edit: &Delta, since: &[Delta]) -> Result<Delta, Refusal>
     requires { HasRoom edit.now since.now }

@@ -41,7 +41,7 @@ pub fn parts_stand()
     ensures { PartsStand }
 {}
 
-/// The test of a parted pair tells just where a delta cuts one.
+/// The test of a parted pair is true exactly where a delta cuts one.
 pub fn parts_told()
     ensures { PartsTold }
 {}

@@ -2,8 +2,8 @@
 //!
 //! A state is the documents in order of creation, each a document of rich text with its past as far back as it is held, and with its
 //! sources. A document may be deleted, and created again, and its revisions go on. `State::plan` answers a command by the first case that
-//! holds and leaves the state alone; `State::prepare` and `PreparedState::accept` add what was taken, in two steps of which the second
-//! can't fail, and `State::decide` does all in one. `State::adopt` adds a document whose past isn't held. `State::find`, `at` and `since`
+//! holds and leaves the state alone; `State::prepare` and `PreparedState::accept` add what was taken, in two steps (the second
+//! can't fail), and `State::decide` does all in one. `State::adopt` adds a document whose past isn't held. `State::find`, `at` and `since`
 //! read. The definitions stand in specs/Command.antt, specs/State.antt and specs/Acceptance.antt; what a document's past is, in
 //! specs/Past.antt, and how an edit is made late in specs/Late.antt; what every state keeps, in specs/Invariants.antt, and when two
 //! states hold the same, in specs/Agree.antt. `laws` has what holds of them. It stands on `delta`, `document`, `compose` and `xform`.

@@ -34,7 +34,7 @@ impl Model for LateEdit {
 }
 
 impl LateEdit {
-    /// The edit past these deltas. It takes time linear in all of them where none lies apart from it. Refused for want of memory alone.
+    /// The edit past these deltas. It takes time linear in all of them where none lies apart from it. Refused as out of memory alone.
     pub fn moved(self, alloc: Global) -> Result<MovedEdit, Refusal>
         ensures moved { IfOk result (λ m. m ≡ moved_of self) }
         ensures only { IsOkUnless result Refusal.NoMemory }
@@ -94,7 +94,7 @@ impl MovedEdit {
         self.document == number && self.base == base && is_same_delta(&self.edit, edit)
     }
 
-    // The edit past all of these deltas, the first of which it is past already.
+    // The edit past all of these deltas; it is past the first `count` of them already.
     pub(crate) fn past(&self, alloc: Global, since: &[Delta]) -> Result<Delta, Refusal>
         requires room { HasRoom self.now.edit since.now }
         requires count { self.now.count ≤ length since.now }
@@ -107,8 +107,8 @@ impl MovedEdit {
 }
 
 impl State {
-    /// The edit that a command asks for, with the deltas of the revisions after its base, of which there are `least` or more. None where
-    /// the command asks for something else or its document isn't there or doesn't hold the base, and for want of memory.
+    /// The edit that a command asks for, with the deltas of the revisions after its base, `least` or more of these. None where
+    /// they are fewer, the command asks for something else, its document isn't there or doesn't hold the base, or memory runs out.
     pub fn late_edit(&self, alloc: Global, command: &Command, least: usize) -> Option<LateEdit>
         ensures { IfSome result (λ l. IsLateIn self.now l) }
     {

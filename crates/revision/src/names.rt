@@ -14,7 +14,7 @@ pub(crate) struct Names {
 }
 
 impl Names {
-    /// None. It takes no memory.
+    /// A table without names. It takes no memory.
     pub(crate) fn new(alloc: Global) -> Names
         ensures { (q : List ℕ) → get_by_text result.map q ≡ None }
     {
@@ -30,7 +30,7 @@ impl Names {
         self.map.get(name.as_str()).copied()
     }
 
-    /// Gives a name its number. Refused for want of memory alone, and then unchanged.
+    /// Gives a name its number. Refused as out of memory alone, and then unchanged.
     pub(crate) fn insert(&mut self, alloc: Global, name: &Name, number: u32) -> Result<(), Refusal>
         ensures ok { OnOk result ((q : List ℕ)
             → get_by_text self.new.map q ≡ cond (bytes_eq name.now q) (Some number) (get_by_text self.old.map q)) }

@@ -27,7 +27,7 @@ use refusal::Refusal;
 use std::alloc::Global;
 use std::marker::Model;
 
-/// So many revisions lie below the floor at most before they are let go of.
+/// The revisions below the floor are let go of once there are so many of them.
 const MOST_BELOW: u64 = 512;
 
 /// So many revisions at least lie between two documents that `keep_apart` keeps, and between two with the sources beside them, which
@@ -155,7 +155,7 @@ impl Past {
         &self.deltas.as_slice()[from..self.count]
     }
 
-    /// The document at a revision that is held: it applies the deltas since the last document that is kept. Refused for want of memory
+    /// The document at a revision that is held: it applies the deltas since the last document that is kept. Refused as out of memory
     /// alone.
     pub fn document_at(&self, alloc: Global, revision: u64) -> Result<Document, Refusal>
         requires held { self.now.past.floor ≤ revision }
@@ -170,7 +170,7 @@ impl Past {
 
     /// What a revision that is held is made of: a copy of the nearest document that is at hand, of the deltas from there, and of the
     /// sources at the revision. It applies a delta only where no document is kept between the floor and the revision, to come to what
-    /// stands at the floor. Refused for want of memory alone.
+    /// stands at the floor. Refused as out of memory alone.
     pub fn replay_to(&self, alloc: Global, revision: u64) -> Result<Replay, Refusal>
         requires held { self.now.past.floor ≤ revision }
         requires there { revision ≤ newest self.now.past }
@@ -216,7 +216,7 @@ impl Past {
     }
 
     /// An edit that was made on a revision that is held, late past what was taken since. Its lengths are those of a
-    /// command's delta, at most 2^44 each. Refused for want of memory alone.
+    /// command's delta, at most 2^44 each. Refused as out of memory alone.
     pub fn late(&self, alloc: Global, edit: &Delta, revision: u64) -> Result<Delta, Refusal>
         requires held { self.now.past.floor ≤ revision }
         requires there { revision ≤ newest self.now.past }
@@ -228,7 +228,7 @@ impl Past {
         late(alloc, edit, self.since(revision))
     }
 
-    /// The delta that undoes a revision above the floor, late past what was taken since. Refused for want of memory alone.
+    /// The delta that undoes a revision above the floor, late past what was taken since. Refused as out of memory alone.
     pub fn undo(&self, alloc: Global, revision: u64) -> Result<Delta, Refusal>
         requires held { self.now.past.floor < revision }
         requires there { revision ≤ newest self.now.past }
@@ -257,7 +257,7 @@ impl Past {
 
     /// Prepares the change of the revision after all that was prepared: its source's name has 1 to 32 characters, what it does suits the
     /// document's mark there, and its delta leads to what stands there after it, that of a deletion to nothing. The document takes it,
-    /// and stays short. What is seen of the past stays as it is. Refused for want of memory alone, and then nothing more is prepared.
+    /// and stays short. What is seen of the past stays as it is. Refused as out of memory alone, and then nothing more is prepared.
     pub fn prepare(
         &mut self,
         source: Name,
@@ -463,7 +463,7 @@ impl Past {
         }
     }
 
-    /// An equal past, of which nothing is prepared. Refused for want of memory alone.
+    /// An equal past with nothing prepared. Refused as out of memory alone.
     pub fn copy_held(&self, alloc: Global) -> Result<Past, Refusal>
         ensures same { IfOk result (λ copy. copy ≡ record { past = self.now.past; next = [] }) }
         ensures only { IsOkUnless result Refusal.NoMemory }
@@ -516,7 +516,7 @@ fn up_to_turn(takers: &[Taker]) -> usize
     count
 }
 
-// The floor of a past with a newest revision after changes that follow it, of which so many lead up to the last that isn't an edit.
+// The floor of a past with a newest revision after changes that follow it, where so many of them lead up to the last that isn't an edit.
 fn turned_floor(newest: u64, floor: u64, turns: usize) -> u64
     requires { newest + turns < 2 ^ 53 }
     ensures { result ≡ spec_turned_floor newest floor turns }
@@ -641,7 +641,7 @@ pub(crate) fn copies_of_deltas(alloc: Global, deltas: &[Delta]) -> Result<Vec<De
     Ok(copies)
 }
 
-// Adds to both lists. Refused for want of memory alone, and then both are unchanged.
+// Adds to both lists. Refused as out of memory alone, and then both are unchanged.
 fn push_both(
     takers: &mut Vec<Taker>,
     deltas: &mut Vec<Delta>,
@@ -662,7 +662,7 @@ fn push_both(
     Ok(())
 }
 
-// The document after the first `count` of the deltas of its past, which stand on it in turn. Refused for want of memory
+// The document after the first `count` of the deltas of its past, which stand on it in turn. Refused as out of memory
 // alone. The document is copied once, and each delta applied to the copy.
 fn document_after(
     alloc: Global,
@@ -682,7 +682,7 @@ fn document_after(
     Ok(document)
 }
 
-/// Applies a delta that was taken on the document. Refused for want of memory alone, and then the document is as it was.
+/// Applies a delta that was taken on the document. Refused as out of memory alone, and then the document is unchanged.
 pub(crate) fn apply_taken(
     alloc: Global,
     document: &mut Document,
@@ -700,7 +700,7 @@ pub(crate) fn apply_taken(
 }
 
 // The delta that undoes one of these deltas, which stand in turn on the document: what takes it back, late past all that
-// come after it. Refused for want of memory alone, given that all units inserted stay within the bound of 2^48.
+// come after it. Refused as out of memory alone, given that all units inserted stay within the bound of 2^48.
 fn undo_one(
     alloc: Global,
     base: &Document,
@@ -869,7 +869,7 @@ fn count_up_to(kept: &[Kept], revision: u64) -> usize
 }
 
 // The sources after the first `count` of the changes of a past. Those that are kept nearest to them are copied, and the changes from
-// there on noted. Refused for want of memory alone.
+// there on noted. Refused as out of memory alone.
 fn sources_after_first(
     alloc: Global,
     start: u64,
@@ -924,7 +924,7 @@ fn noted_up_to<'a>(
     (start, sources)
 }
 
-// The sources after these changes. Refused for want of memory alone.
+// The sources after these changes. Refused as out of memory alone.
 fn noted_all(
     alloc: Global,
     sources: &Sources,
@@ -946,7 +946,7 @@ fn noted_all(
     Ok(noted)
 }
 
-// Adds copies of these. Refused for want of memory alone.
+// Adds copies of these. Refused as out of memory alone.
 fn push_copies(alloc: Global, all: &mut Vec<Delta>, deltas: &[Delta]) -> Result<(), Refusal>
     ensures ok { OnOk result (all.new.items ≡ all.old.items ++ deltas.now) }
     ensures only { IsOkUnless result Refusal.NoMemory }

@@ -60,7 +60,7 @@ impl State {
     /// where it parts a surrogate pair. Of all: `TooHeavy` and `TooWide` where the document's weight or the entry's bytes would be above
     /// the limit; else it is taken. specs/Acceptance.antt states it as `answer`.
     ///
-    /// All that is told by names and numbers alone is told before memory is taken. So want of memory (`NoMemory`) comes only in
+    /// All that names and numbers alone decide is decided before memory is taken. So `NoMemory` (out of memory) comes only in
     /// place of the last five answers, and for a creation, whose delta is looked at as it stands, and a deletion only where it would be
     /// taken.
     pub fn plan(&self, alloc: Global, command: &Command) -> Result<Plan, Refusal>
@@ -91,8 +91,8 @@ impl State {
         self.answer_to(alloc, command, moved)
     }
 
-    /// Answers a command, and adds what is taken. The reply and the refusals are those of `plan`; refused, the state is as it
-    /// was. specs/Acceptance.antt states it as `decide`.
+    /// Answers a command, and adds what is taken. The reply and the refusals are those of `plan`; if refused, the state is
+    /// unchanged. specs/Acceptance.antt states it as `decide`.
     pub fn decide(&mut self, alloc: Global, command: &Command) -> Result<Reply, Refusal>
         ensures decided { IsDecided self.old command.now result self.new }
         ensures memory { IsErrOf result Refusal.NoMemory
@@ -178,7 +178,7 @@ fn plan_existing(
     }
 }
 
-// a creation of a document that is deleted, as revision 2 or above, of which the number is the source's next one
+// a creation of a document that is deleted, as revision 2 or above, whose number is the source's next one
 fn plan_revival(
     alloc: Global,
     state: &State,
@@ -439,7 +439,7 @@ fn plan_change(
     Ok(Plan::Taken(Taken::edit(number, revision + 1, source, command.number(), delta)))
 }
 
-// Whether a number is a retry, of which the revision comes back, or the source's next one; else it is refused.
+// Whether a number is a retry, whose revision comes back, or the source's next one; else it is refused.
 fn turn(window: &Window, number: u64) -> Result<Option<u64>, Refusal>
     ensures turn { IsTurn result window.now number }
     ensures no_memory { IfErr result (λ e. e ≢ Refusal.NoMemory) }

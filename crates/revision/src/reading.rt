@@ -14,7 +14,7 @@ use std::alloc::Global;
 
 impl State {
     /// What stood in a document at a revision. Refused with `NoDocument`, `Deleted` where it is deleted now, `Future` where the revision
-    /// is above the newest one, `TooOld` where it is below the floor, which is told before memory is taken; else for want of memory
+    /// is above the newest one, `TooOld` where it is below the floor, which is decided before memory is taken; else as out of memory
     /// alone. specs/Readings.antt states it as `document_at`.
     pub fn at(&self, alloc: Global, name: &Name, revision: u64) -> Result<Document, Refusal>
         ensures document { (result ≡ document_at self.now name.now revision) ⊎ (result ≡ Err Refusal.NoMemory) }

@@ -60,7 +60,7 @@ impl Model for SourceTable {
 }
 
 impl SourceTable {
-    /// None. It takes no memory.
+    /// A table without sources. It takes no memory.
     pub fn new(alloc: Global) -> SourceTable
         ensures { result ≡ record { accepted = empty; prepared = empty } }
     {
@@ -72,7 +72,7 @@ impl SourceTable {
         }
     }
 
-    /// These sources, and nothing prepared. Refused for want of memory alone.
+    /// These sources, and nothing prepared. Refused as out of memory alone.
     pub fn from_sources(alloc: Global, sources: &Sources) -> Result<SourceTable, Refusal>
         ensures ok { IfOk result (λ table. table ≡ record { accepted = sources.now; prepared = sources.now }) }
         ensures only { IsOkUnless result Refusal.NoMemory }
@@ -106,7 +106,7 @@ impl SourceTable {
     }
 
     /// Prepares a command of a source, whose name has 1 to 32 characters. It is looked for first at the place that it has among the
-    /// sources after what is prepared, as far as the caller knows. Refused for want of memory alone, and then nothing more is prepared.
+    /// sources after what is prepared, as far as the caller knows. Refused as out of memory alone, and then nothing more is prepared.
     pub fn prepare(
         &mut self,
         alloc: Global,
@@ -142,7 +142,7 @@ impl SourceTable {
         self.ahead.take(alloc, source, number, revision, near)
     }
 
-    /// Prepares a command of a source as `prepare` does, and applies its delta to a document: both, or neither. Refused for want of
+    /// Prepares a command of a source as `prepare` does, and applies its delta to a document: both, or neither. Refused as out of
     /// memory alone.
     pub fn prepare_with(
         &mut self,
@@ -212,7 +212,7 @@ impl SourceTable {
 }
 
 // Adds a source to those in which two lists may differ. Where they differ in it already it is one of them. In both it is looked for
-// first at one place. Refused for want of memory alone, and then none is added.
+// first at one place. Refused as out of memory alone, and then none is added.
 fn mark(
     alloc: Global,
     changed: &mut Vec<Changed>,
@@ -244,7 +244,7 @@ fn is_same(one: Option<&Window>, other: Option<&Window>) -> bool
 }
 
 // Notes a command of a source, which is looked for first at one place, and applies its delta to a document: both, or neither. Refused
-// for want of memory alone.
+// as out of memory alone.
 fn note_with(
     alloc: Global,
     sources: &mut Sources,
@@ -273,7 +273,7 @@ fn note_with(
     }
 }
 
-// Makes sources equal to others, which they are but for those that are changed. Refused for want of memory alone; they are still
+// Makes sources equal to others, which they are but for those that are changed. Refused as out of memory alone; they are still
 // equal then, but for those.
 fn align_all(
     alloc: Global,
@@ -292,7 +292,7 @@ fn align_all(
     Ok(())
 }
 
-// Gives a source what it has in other sources. In both it is looked for first at one place. Refused for want of memory alone, and then
+// Gives a source what it has in other sources. In both it is looked for first at one place. Refused as out of memory alone, and then
 // unchanged.
 fn align(
     alloc: Global,

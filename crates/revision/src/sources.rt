@@ -54,7 +54,7 @@ impl Model for Sources {
 }
 
 impl Sources {
-    /// None. It takes no memory.
+    /// No sources. It takes no memory.
     pub fn new(alloc: Global) -> Sources
         ensures { result ≡ empty }
     {
@@ -190,7 +190,7 @@ impl Sources {
             .saturating_add(weight_more(limits, found))
     }
 
-    /// Gives a source, whose name has 1 to 32 characters, its window. Refused for want of memory alone, and then unchanged; where the
+    /// Gives a source, whose name has 1 to 32 characters, its window. Refused as out of memory alone, and then unchanged; where the
     /// source is there it takes none.
     pub fn put(&mut self, source: Name, window: Window) -> Result<(), Refusal>
         requires { is_source_name source ≡ true }
@@ -229,7 +229,7 @@ impl Sources {
         self.numbers = self.numbers - before as u128 + window.count() as u128;
     }
 
-    // Adds a source, whose name has 1 to 32 characters, at the place where it would stand. Refused for want of memory alone, and then
+    // Adds a source, whose name has 1 to 32 characters, at the place where it would stand. Refused as out of memory alone, and then
     // unchanged.
     fn add_at(&mut self, place: usize, source: Name, window: Window) -> Result<(), Refusal>
         requires named { is_source_name source ≡ true }
@@ -283,7 +283,7 @@ impl Sources {
     }
 
     /// Notes a command of a source, whose name has 1 to 32 characters, and gives back the window that it had, where it was there. One
-    /// place is tried first. Refused for want of memory alone, and then unchanged; where the source is there it takes none.
+    /// place is tried first. Refused as out of memory alone, and then unchanged; where the source is there it takes none.
     pub(crate) fn note(
         &mut self,
         alloc: Global,
@@ -370,7 +370,7 @@ impl Sources {
         })
     }
 
-    /// The same sources, each with its last number alone. Refused for want of memory alone.
+    /// The same sources, each with its last number alone. Refused as out of memory alone.
     pub fn with_last_numbers(&self, alloc: Global) -> Result<Sources, Refusal>
         ensures cut { IfOk result (λ sources. sources.entries ≡ map cut self.now.entries) }
         ensures only { IsOkUnless result Refusal.NoMemory }

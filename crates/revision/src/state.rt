@@ -12,7 +12,7 @@ use refusal::Refusal;
 use std::alloc::Global;
 use std::marker::Model;
 
-/// The documents in order of creation, of which nothing is prepared.
+/// The documents in order of creation, with nothing prepared.
 #[derive(Drop)]
 pub struct State {
     pub(crate) documents: Documents,
@@ -108,7 +108,7 @@ impl PreparedState {
     }
 }
 
-/// Why commands weren't prepared, with the state as it was.
+/// Why commands weren't prepared, with the unchanged state.
 #[derive(Drop)]
 pub struct Unprepared {
     pub state: State,

@@ -31,7 +31,7 @@ impl Model for Window {
 }
 
 impl Window {
-    /// That of a source of which nothing was taken.
+    /// The window of a source with nothing taken.
     pub fn new() -> Window
         ensures { result ≡ nothing_taken }
     {

@@ -9,7 +9,7 @@ use std::process::Abort;
 
 const X: What = What::Edit(4, &[Step::Plain("x")]);
 
-/// What is asked of "d", adopted at revision 4, of which nothing older is held.
+/// What is asked of "d", adopted at revision 4, with nothing older held.
 const ASKED: &[Row] = &[
     ("ann", "d", 2, X, Again(3)),
     ("ann", "d", 3, What::Edit(3, &[]), Not(Refusal::TooOld)),
@@ -18,7 +18,7 @@ const ASKED: &[Row] = &[
     ("ann", "d", 4, What::Undo, Now(6)),
 ];
 
-/// What comes of adopting a document at a revision, of which ann's command 2 made revision 3.
+/// What comes of adopting a document at a revision, where ann's command 2 made revision 3.
 const ADOPTED: [(&str, u64, Result<(), Refusal>); 5] = [
     ("d", 0, Err(Refusal::Stranger)),
     ("d", 2, Err(Refusal::Stranger)),

@@ -51,7 +51,7 @@ pub fn small(rt: &impl AllocGlobal) -> State {
     empty(rt, 128, 237)
 }
 
-/// An empty state of which each document may weigh 20,000, and which holds 16 revisions below the newest one, or two.
+/// An empty state whose documents may each weigh 20,000, and which holds 16 revisions below the newest one, or two.
 pub fn roomy(rt: &impl AllocGlobal, is_long: bool) -> State {
     let keep = if is_long { 16 } else { 2 };
     State::new(rt.alloc(), Limits::new(2, 4, 20_000, 237, keep))
@@ -132,7 +132,7 @@ pub fn asked(rt: &(impl Abort + AllocGlobal), state: &mut State, row: &Row) {
     assert_eq!(rt; reply, reply_of(*wanted), "{number} of {source} to {name}");
 }
 
-/// The state that commands in order make of one, each of which is decided with its reply.
+/// The state that commands in order make of one, where each is decided with its reply.
 pub fn after(rt: &(impl Abort + AllocGlobal), state: State, rows: &[Row]) -> State {
     let mut state = state;
     for row in rows {

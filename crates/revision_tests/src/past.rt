@@ -103,7 +103,7 @@ const A: &[Step] = &[Step::Plain("a")];
 
 const B: &[Step] = &[Step::Plain("b")];
 
-// 1,100 letters in front, of which 16 revisions are held
+// 1,100 letters in front, where 16 revisions are held
 #[test]
 fn a_long_past(rt: HostRuntime) {
     let mut state = after(&rt, roomy(&rt, true), &[("a", "d", 1, Z, Now(1))]);

@@ -11,7 +11,7 @@ const TEXTS: [&str; 8] = ["a", "bcd", "é", "\n", "😀", "x😀y", "😀😁", 
 
 const NAMES: [&str; 3] = ["bold", "color", "link"];
 
-/// Pseudo-random numbers: a linear congruential generator with Knuth's constants for 64 bits, of which the upper bits are
+/// Pseudo-random numbers: a linear congruential generator with Knuth's constants for 64 bits, where the upper bits are
 /// taken.
 #[derive(Drop)]
 pub struct Numbers {

@@ -40,7 +40,7 @@ module _ (old : List ℕ) (ring : Ring) (table : List (Option Segment)) (fits : 
   bytes : (content : List ℕ) → area_bytes area content ≡ take (ring.size - 9) (drop (slot_place ring.at ring.size known.slot + 9) content)
   bytes content = ap (λ n. take n (drop area.at content)) known.long ∙ ap (λ n. take (ring.size - 9) (drop n content)) known.begins
 
-  -- it stands for the segment's bodies
+  -- it represents the segment's bodies
   pub stands : Stands old area known.segment.bodies
   stands = record {
     holds = subst (HoldsBodies known.segment.bodies) (sym (bytes old ∙ area_part (slot_place ring.at ring.size known.slot) ring.size old large)) held.bodies;

@@ -34,7 +34,7 @@ module _ (q size : ℕ) (content head : List ℕ) (large : 256 ≤ size) (read :
   closed_read shut = λ is. shut (sym gate_read ∙ is)
 
   module _ (number : ℕ) (gate : get_or head 0 0 ≡ open_gate) (spelled : take 8 (drop 1 head) ≡ to_le_bytes w64 number) where
-    -- a number from 1 on, and an area that stands for these bodies
+    -- a number from 1 on, and an area that represents these bodies
     pub segment_read : (place : Place) (bodies : List (List ℕ)) → 1 ≤ number → number < 2 ^ 64 → Stands content place bodies → place.at ≡ q + 9 → place.size ≡ size - 9
         → HoldsSegment (take size (drop q content)) (record { number = number; bodies = bodies })
     segment_read place bodies from_one in_range stands begins long = record {

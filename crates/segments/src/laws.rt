@@ -8,7 +8,7 @@ pub fn one_table()
 {}
 
 /// What the calls of a ring do to the list of all bodies: opening a slot keeps it, an append adds one at its end, and
-/// retiring a segment takes the first ones away.
+/// retiring a segment takes a prefix of it away.
 pub fn bodies_in_order()
     ensures opened { law.OpenedBodies }
     ensures appended { law.AppendedBodies }

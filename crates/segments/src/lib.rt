@@ -2,7 +2,7 @@
 //!
 //! A slot holds nothing, or a segment: a number, and an area of records. To the layer above the crate promises which slot
 //! is opened next and under which number, that a body is appended behind the newest segment's, and what a crash at any
-//! moment of a call leaves of the table of slots. It knows bytes alone: what a body stands for is the layer's above. It
+//! moment of a call leaves of the table of slots. It knows bytes alone: what a body means is up to the layer above. It
 //! stands on `journal` and `disk`.
 //!
 //! A caller, with its contract, which `store_tests` proves as it stands:

@@ -52,7 +52,7 @@ impl Ring {
     ghost use Rattle.segments.specs.Recovered.{IsReadAs};
     ghost use Rattle.segments.specs.Room.{has_room_for};
 
-    /// Reads `count` slots of `size` bytes, 256 to 16,777,216, the first of which lies at `at`. `Damaged` comes exactly when
+    /// Reads `count` slots of `size` bytes, 256 to 16,777,216, where the first lies at `at`. `Damaged` comes exactly when
     /// they hold no table: a record of an open slot's area has the length 0 or passes its end, a segment's number is 0, or
     /// two segments have one number. The device stays as it is.
     pub fn read<D: Disk>(
@@ -136,7 +136,7 @@ impl Ring {
         Ok(())
     }
 
-    /// Appends a record: to the newest segment, or, where it doesn't fit there, to one that is opened for it. `JournalFull` comes just
+    /// Appends a record: to the newest segment, or, where it doesn't fit there, to one that is opened for it. `JournalFull` comes exactly
     /// where no slot is free and it doesn't fit, and makes no call of the device. After a `Fault` the record may be there or not, and
     /// the ring knows nothing of it: it is not to be used again. It takes no memory.
     pub fn append<D: Disk>(&mut self, disk: &mut D, added: &Record) -> Result<(), Refusal>
@@ -296,7 +296,7 @@ impl Ring {
 
     /// Retires the oldest segment: its slot is closed, and free from then on. `StillNeeded` comes exactly when fewer than
     /// two slots are open, and makes no call of the device. After a `Fault` the slot may be open or not, and the ring is
-    /// as it was.
+    /// unchanged.
     pub fn retire_oldest<D: Disk>(&mut self, disk: &mut D) -> Result<(), Refusal>
         requires within { end_of self.old ≤ length (D.seen disk.old) }
 

@@ -14,14 +14,14 @@ dump_of-last : (documents : List DocumentRecord) (last : DocumentRecord) → dum
 dump_of-last documents last =
     flat_map-append document_line documents (last ∷ []) ∙ ap (λ (line : List ℕ). dump_of documents ++ line) (append-nil (document_line last))
 
--- the lines of a first part of the documents and the next one
+-- the lines of a prefix of the documents and the next one
 pub dump_of-more : (documents : List PendingDocument) (i : ℕ) (next : PendingDocument) → i < length documents → next ≡ get_or documents i next
     → dump_of (map record_of (take (i + 1) documents)) ≡ dump_of (map record_of (take i documents)) ++ document_line (record_of next)
 dump_of-more documents i next within is =
     ap (λ (ds : List PendingDocument). dump_of (map record_of ds)) (take_more documents i next within ∙ ap (λ (d : PendingDocument). take i documents ++ d ∷ []) (sym is))
     ∙ ap dump_of (map_push record_of (take i documents) next) ∙ dump_of-last (map record_of (take i documents)) (record_of next)
 
--- the lines of a first part of the documents and of the others
+-- the lines of a prefix of the documents and of the others
 dump_of-parts : (documents : List PendingDocument) (i : ℕ)
     → dump_of (map record_of (take i documents)) ++ dump_of (map record_of (drop i documents)) ≡ dump_of (map record_of documents)
 dump_of-parts documents i =
@@ -29,14 +29,14 @@ dump_of-parts documents i =
     ∙ ap dump_of (sym (map-append record_of (take i documents) (drop i documents)))
     ∙ ap (λ (ds : List PendingDocument). dump_of (map record_of ds)) (take-append-drop i documents)
 
--- the lines of a first part of the documents are a beginning of all lines
+-- the lines of a prefix of the documents are a prefix of all lines
 pub front-dumped : (documents : List PendingDocument) (records : List DocumentRecord) (i : ℕ) (a b : Option (List ℕ)) → map record_of documents ≡ records
     → Appends a b (dump_of (map record_of (take i documents))) → AppendsFront a b (dump_of records)
 front-dumped documents records i a b are written =
     front-of a b (dump_of (map record_of (take i documents))) (dump_of (map record_of (drop i documents))) (dump_of records)
     (dump_of-parts documents i ∙ ap dump_of are) written
 
--- and so they are with a beginning of the next line
+-- and so they are with a prefix of the next line
 pub front-within : (documents : List PendingDocument) (records : List DocumentRecord) (i : ℕ) (next : PendingDocument) (line : List ℕ) (a b c : Option (List ℕ))
     → map record_of documents ≡ records → i < length documents → next ≡ get_or documents i next → line ≡ document_line (record_of next)
     → Appends a b (dump_of (map record_of (take i documents))) → AppendsFront b c line → AppendsFront a c (dump_of records)

@@ -22,7 +22,7 @@ pub data Call : Type 0 where
   Listened : (address : List ℕ) → Call
   FailedListening : (address : List ℕ) → Call
 
--- the call that a kind and a name stand for
+-- the call that a kind and a name mean
 abbrev pub call_of : List ℕ → List ℕ → Call
 call_of numbers name =
     let kind = slice_index numbers 0 in

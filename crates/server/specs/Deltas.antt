@@ -6,7 +6,7 @@ use Rattle.algebra.specs.declared.task.Task.{Task}
 use Rattle.serving.specs.declared.failure.Failure.{Failure}
 use Rattle.serving.specs.declared.failure.Failure.TheVariants.{Refused, Stream}
 
--- by the refusal that the task comes to, for want of memory, or since the stream failed
+-- by the refusal that the task comes to, as memory ran out, or since the stream failed
 abbrev pub EndsWith : Task → Failure → Type 0
 EndsWith task (Refused refusal) = ComesTo task (Err refusal) ⊎ (refusal ≡ NoMemory)
 EndsWith task Stream = Unit {0}

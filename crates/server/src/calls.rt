@@ -1,6 +1,6 @@
 //! The calls of the system by which the files of stores are had, and by which an address is, noted with their answers.
 //!
-//! **What is not proved**: that each method of `HostCalls` makes the calls of the system that its note stands for. So the few lines of
+//! **What is not proved**: that each method of `HostCalls` makes the calls of the system that its note describes. So the few lines of
 //! `HostCalls` are to be read. No other function of the program names a file or an address, but `Standard` the null device.
 ghost use Rattle.std.specs.Prelude.{◌≡◌, ◌∷◌, [], List, Ok, true, false, IfOk, OnOk, OnErr};
 ghost use Rattle.server.specs.Calls.{Call, Found, Missed, Unseen, Opened, FailedOpening, Made, FailedMaking, Removed, Listened, FailedListening};

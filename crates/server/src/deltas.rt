@@ -13,7 +13,7 @@ use session::Output;
 use std::alloc::Global;
 
 /// Writes the line of what the task comes to. Ends with the refusal that it comes to or with `NoMemory`, and then nothing
-/// is written, or where a write fails (`Stream`), and then a beginning of that line is written.
+/// is written, or where a write fails (`Stream`), and then a prefix of that line is written.
 pub fn print_answer<O: Output>(alloc: Global, task: Task<'_>, output: &mut O) -> Result<(), Failure>
     ensures printed { OnOk result ((made : List Operation) × ComesTo task.entry (Ok made)
         × Appends (O.contents output.old) (O.contents output.new) (text_of made ++ 10 ∷ [])) }

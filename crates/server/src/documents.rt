@@ -48,7 +48,7 @@ pub fn dump_store<D: Disk, O: Output>(
 }
 
 /// Writes one line for each document, in order of creation: name, revision, floor and operations, or `deleted`. Ends where a write
-/// fails (`Stream`), or with `NoMemory`, and then a beginning of the lines is written.
+/// fails (`Stream`), or with `NoMemory`, and then a prefix of the lines is written.
 pub fn dump<O: Output>(alloc: Global, state: &State, output: &mut O) -> Result<(), Failure>
     ensures dumped { OnOk result (Appends (O.contents output.old) (O.contents output.new)
         (spec.dump_of state.now.documents)) }

@@ -31,11 +31,11 @@ impl Display for Cause<'_> {
 /// Why the program ends with status 1, or with 2.
 #[derive(Drop)]
 pub(crate) enum Ended<'a> {
-    /// It was refused, which is told on standard error, with the cause where the refusal has one.
+    /// It was refused, which is printed on standard error, with the cause where the refusal has one.
     Refused(Refusal, Option<Cause<'a>>),
-    /// A standard stream failed, which is not told.
+    /// A standard stream failed, which is not printed.
     Stream,
-    /// The words can't be used, which is told.
+    /// The words can't be used, which is printed.
     Usage(clap::Error),
 }
 

@@ -43,7 +43,7 @@ impl<R: Net + AllocGlobal, W: AsRawFd> Patient<'_, R, W> {
 }
 
 // Whether a write of a few bytes needs no wait within so many milliseconds; also one that fails since the other end is closed. Refused for a
-// regular file, of which the system tells nothing.
+// regular file, since the system tells nothing about those.
 fn is_ready<R: Net + AllocGlobal>(rt: &R, stream: RawFd, wait: u64) -> io::Result<bool> {
     let mut poll = Poll::new(rt)?;
     let mut events = Events::with_capacity(rt.alloc(), 1)?;

@@ -33,7 +33,7 @@ use words::{DeltaCommand, Invocation, Lines, Listening, Making, ShapeOptions, gi
 /// Runs the program, and answers its status: 0 for success, 1 for a refusal or a standard stream that failed, 2 for
 /// words that it can't use. The first word is the program's path.
 ///
-/// A refusal is told on `errors` as `error 7 Exists`, and behind `error 34 Fault` on a line of its own what was tried and the system's
+/// A refusal is printed on `errors` as `error 7 Exists`, and after `error 34 Fault` on a line of its own what was tried and the system's
 /// reason; a usage fault there in a text of its own; help that is asked for goes to `output`. Faults are found in the order words,
 /// standard streams, file, store, address.
 pub fn run<

@@ -197,7 +197,7 @@ impl<'a, O, E> Told<'a, O, E> {
         }
     }
 
-    // Why the program ends, of which serving was answered so.
+    // Why the program ends, where serving was answered so.
     fn ended<'w>(&self, how: Listening<'w>, served: Result<(), Refusal>) -> Ended<'w> {
         if self.has_output_failed {
             return Ended::Stream;

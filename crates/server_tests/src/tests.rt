@@ -163,7 +163,7 @@ fn remove<R: Files<File = File> + Abort>(rt: &R, path: &str) {
     fs::remove_file(rt, path).expect(rt, "the file goes");
 }
 
-/// Serves these lines of a source behind its hello, and nothing but these replies comes.
+/// Serves these lines of a source after its hello, and nothing but these replies comes.
 fn is_served<
     R: Files<File = File>
         + AllocGlobal

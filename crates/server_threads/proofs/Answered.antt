@@ -28,7 +28,7 @@ use Rattle.server_threads.specs.Served.{IsWritten, KeepsAnswers}
 use Rattle.server_threads.specs.Streams.{IsAnsweredAtHub, StopsAtHub}
 use Rattle.server_threads.proofs.Places.{all_have_causes, all_have_places, counts_all}
 
--- a first part that is no shorter than the whole is the whole
+-- a prefix that is no shorter than the whole is the whole
 pub all_of : {A : Type 0} (first more whole : List A) → first ++ more ≡ whole → length whole ≤ length first → first ≡ whole
 all_of first [] whole is enough = sym (append-nil first) ∙ is
 all_of {A} first (x ∷ more) whole is enough =
@@ -42,14 +42,14 @@ found_whole start batches content begins =
     sym (commands-append begins.first begins.more) ∙ ap commands_of begins.whole in
     subst (λ (c : List Taken). FoundAs content (fold start c)) (all_of (commands_of begins.first) (commands_of begins.more) (commands_of batches) joined begins.enough) begins.found
 
--- a beginning of commands that continue a state continues it
+-- a prefix of commands that continue a state continues it
 grow_front : (state : State) (front back : List Taken) → all_grow state (front ++ back) ≡ true → all_grow state front ≡ true
 grow_front state [] back grow = refl
 grow_front state (first ∷ others) back grow =
     let parts = and_parts (grows state first) (all_grow (grown state first) (others ++ back)) grow in
     ap (λ (b : Bool). b && all_grow (grown state first) others) parts.0 ∙ grow_front (grown state first) others back parts.1
 
--- and so does a beginning of batches
+-- and so does a prefix of batches
 grow_first : (state : State) (first all : List (List Taken)) → IsPrefix first all → all_grow state (commands_of all) ≡ true → all_grow state (commands_of first) ≡ true
 grow_first state first all (more, whole) grow =
     grow_front state (commands_of first) (commands_of more) (ap (all_grow state) (sym (commands-append first more) ∙ ap commands_of whole) ∙ grow)
@@ -118,7 +118,7 @@ stops_there start old new desk desk' input input' output output' failed (Err fai
 }
 
 module _ {D : Type 0} {disk : Ghosts D} where
-  -- a desk that was told of first ones of the batches that are written, and found a beginning of the order
+  -- a desk that was told of a prefix of the batches that are written, and found a prefix of the order
   pub keeps_answers : (order : List Entry) (written waiting : List (List Taken)) (old new : Store D disk) (last : Desk) → IsWritten order written waiting old new
       → IsPrefix last.told written → IsPrefix last.found order → KeepsAnswers order written waiting old new last
   keeps_answers order written waiting old new last is told found = record {

@@ -27,7 +27,7 @@ use Rattle.hub_desk.specs.AtHub.{Desk, Finds, PassesAtHub, Refuses, Submits}
 use Rattle.hub_desk.proofs.CallerLemmas.{found_through, told_through}
 use Rattle.server_threads.specs.Answers.{HasCause, AllHaveCauses, HasPlace, AllHavePlaces, Counts}
 
--- the commands of first batches are first ones of the commands of all
+-- the commands of a prefix of the batches are a prefix of the commands of all
 pub commands_first : (first all : List (List commands.Taken)) → IsPrefix first all → IsPrefix (commands_of first) (commands_of all)
 commands_first first all (more, whole) = (commands_of more, sym (commands-append first more) ∙ ap commands_of whole)
 
@@ -120,7 +120,7 @@ refused_counts start old next command refusal (inr (inr (failed, stops))) = by_s
         by_reply (inl same) = inl (submits.counts ∙ same)
         by_reply (inr more) = inr (failed, submits.counts ∙ more)
 
--- a seat counts just what its desk answered
+-- a seat counts exactly what its desk answered
 pub counts_all : (start : State) (old last : Desk) (asked : List Exchange) → Asks (PassesAtHub start) old asked last → Counts old.counted asked last.counted
 counts_all start old last [] asks = ap (λ (d : Desk). d.counted) asks
 counts_all start old last (Answered command (Ok (Taken revision)) ∷ others) (next, passes, rest) =

@@ -43,7 +43,7 @@ none_begins : (first : List (List Taken)) → IsPrefix first [] → first ≡ []
 none_begins [] begins = refl
 none_begins (batch ∷ others) begins = absurd (cc begins.1)
 
--- first ones of what is published and committed, of which one at most is committed, are published, or all of it
+-- a prefix of the published and the committed batches, where at most one is only committed, is of published ones alone, or all of them
 all_or_told : (told committed first : List (List Taken)) → length committed ≤ 1 → IsPrefix first (told ++ committed) → IsPrefix first told ⊎ (first ≡ told ++ committed)
 all_or_told told committed first few begins = by_length (cases_lt (length told) (length first))
   where
@@ -73,7 +73,7 @@ module _ {D J : Type 0} {disk : Ghosts D} where
       before
       ∙ ap (λ (l : List (List Taken)). fold start (commands_of l)) (ap (λ (t : List (List Taken)). t ++ committed_of old) started.nothing ∙ started.none)
 
-  -- a moment of a flusher's, from a start of which nothing was published, as a moment of its store's
+  -- a moment of a flusher's, from a start when nothing was published, as a moment of its store's
   was_in_store : (start : State) (old new : Flusher D J disk) (first : List (List Taken)) → IsStarted old → state_of (store_of old) ≡ start
       → WasAt start (told_count old) first (given_to new) (store_of old) (store_of new)
       → WasAt (state_of (store_of old)) 0 first ((told_of new ++ committed_of new) ++ waiting_of new) (store_of old) (store_of new)
@@ -126,7 +126,7 @@ module _ {D J : Type 0} {disk : Ghosts D} where
           → WasAt (state_of (store_of old)) 0 first ((told_of new ++ committed_of new) ++ waiting_of new) (store_of old) (store_of new)
       each_of first begins = by_case first (all_or_told (told_of new) (committed_of new) first few_committed begins)
 
--- what stands for batches of which none is committed and not shown begins all of them, as many commands as were shown
+-- a content that represents the batches, where none is committed and not shown, has a prefix of all, with all that were shown
 begins_shown : (start : State) (told committed waiting : List (List Taken)) (content : List ℕ) → committed ≡ [] → FoundAs content (fold start (commands_of (told ++ committed)))
     → IsBeginning (length (commands_of told)) start (told ++ (committed ++ waiting)) content
 begins_shown start told committed waiting content none found =
@@ -229,7 +229,7 @@ module _ {D J : Type 0} {disk : Ghosts D} where
         fails = subst (λ (s : Store D disk). has_failed s ≡ false → (has_failed (store_of new) ≡ true ↔ IsErrOf answer Fault)) same wrote.fails;
       }
 
--- what was taken of a beginning of the order begins what was taken of all
+-- the commands of a prefix of the order are a prefix of the commands of all
 takens_first : (first all : List Entry) → IsPrefix first all → IsPrefix (takens first) (takens all)
 takens_first first all (more, whole) = (takens more, sym (map-append (λ (e : Entry). e.taken) first more) ∙ ap takens whole)
 
@@ -237,7 +237,7 @@ takens_long : (entries : List Entry) → length (takens entries) ≡ length entr
 takens_long [] = refl
 takens_long (first ∷ others) = let more = takens_long others in omega (arith, more)
 
--- an order that ends a run: it is a legal history of which a token has a prefix
+-- an order at the end of a life: it is a legal history, and a token has a prefix of it
 pub order_legal : (start : State) (board : Inner Entry) → IsOfRun start board → IsLegal start board.order
 order_legal start board run = subst (λ (s : State). IsLegal s board.order) run.begun run.history.legal
 

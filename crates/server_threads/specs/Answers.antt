@@ -56,6 +56,6 @@ Counts old (Answered command (Ok (Again revision)) ∷ others) new = Counts old 
 Counts old (Answered command (Err refusal) ∷ others) new = Counts old others new ⊎ ((refusal ≡ StoreFailed) × Counts (old + 1) others new)
 Counts old (Shown shown ∷ others) new = Counts old others new
 
--- The content stands for a state in which all that was acknowledged stands.
+-- The content represents a state in which all that was acknowledged stands.
 abbrev pub HoldsAll : List Exchange → List ℕ → Type 0
 HoldsAll answered content = (state : State) × FoundAs content state × AllStand state answered

@@ -25,9 +25,9 @@ use Rattle.server_threads.specs.Answers.{AllHaveCauses, AllHavePlaces, Counts, H
 
 module _ {D : Type 0} {disk : Ghosts D} where
   -- There is one order, a legal history from what the store held. The first of its commands were to be written, in batches one after
-  -- another: those that are written, of which the store holds what they make, and one at most that isn't. A crash at any moment leaves what
-  -- some first ones of the batches make. And for any first ones of those that are written there was a moment at which the store held just
-  -- these, and a crash from there on leaves no fewer commands.
+  -- another: those that are written, whose result the store holds, and one at most that isn't. A crash at any moment leaves what a prefix of
+  -- the batches makes. And for any prefix of those that are written there was a moment at which the store held exactly the result of
+  -- that prefix, and a crash from there on leaves no fewer commands.
   pub record IsWritten (order : List Entry) (written waiting : List (List Taken)) (old new : Store D disk) : Type 0 where
     pub legal : IsLegal (state_of old) order
     pub begins : IsPrefix (commands_of (written ++ waiting)) (takens order)
@@ -36,20 +36,20 @@ module _ {D : Type 0} {disk : Ghosts D} where
     pub goes : Goes (IsBeginning 0 (state_of old) (written ++ waiting)) old new
     pub each : (first : List (List Taken)) → IsPrefix first written → WasAt (state_of old) 0 first (written ++ waiting) old new
 
-  -- All of the order is written, and a crash leaves just what the store holds.
+  -- All of the order is written, and a crash leaves exactly what the store holds.
   pub record IsWhole (order : List Entry) (written waiting : List (List Taken)) (old new : Store D disk) : Type 0 where
     pub all : commands_of written ≡ takens order
     pub none : waiting ≡ []
     pub lasts : has_failed old ≡ false → IsOpen old → (content : List ℕ) → MayLeaveNow disk (device_of new) content → FoundAs content (state_of new)
 
-  -- There was a moment at which the store held just these first batches, in which all stands that was answered; and a crash from there on
+  -- There was a moment at which the store held exactly these first batches, in which all stands that was answered; and a crash from there on
   -- leaves a state in which it does.
   pub record IsKeptFrom (start : State) (answered : List Exchange) (first all : List (List Taken)) (old new : Store D disk) : Type 0 where
     pub was : WasAt start 0 first all old new
     pub stand : AllStand (fold start (commands_of first)) answered
     pub lasts : has_failed old ≡ false → IsOpen old → LeavesOnly disk (HoldsAll answered) (device_of was.between) (device_of new)
 
-  -- What a desk answered is kept. It was told of some first batches of those that are written, within which each command that it
+  -- What a desk answered is kept. It was told of a prefix of the batches that are written, within which each command that it
   -- acknowledged has its place, as the rule of acceptance says; its seat counted what `Counts` says; all that it acknowledged stands in what
   -- the store holds; and for any point in the exchange there was a moment from which on no crash takes away what was acknowledged by then.
   -- What it found of the order begins it, so what it refused by the rule of acceptance it refused after a prefix of that one order.
@@ -64,7 +64,7 @@ module _ {D : Type 0} {disk : Ghosts D} where
     pub found : IsPrefix last.found order
     pub causes : (asked : List Exchange) → Asks (PassesAtHub (state_of old)) first_desk asked last → AllHaveCauses (state_of old) (takens order) asked
 
-  -- The life of a server, of which `Sessions` says what its desks exchanged: one order and what is written of it, which is all of it where
+  -- The life of a server, where `Sessions` says what its desks exchanged: one order and what is written of it, which is all of it where
   -- the life ended well; what each desk answered is kept; and nothing was ordered but what the seats of these desks counted.
   pub record WasServed (Sessions : List Desk → Type 0) (well : Bool) (old new : Store D disk) : Type 0 where
     pub order : List Entry

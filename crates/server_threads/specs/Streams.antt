@@ -9,12 +9,12 @@ use Rattle.serving.specs.declared.failure.Failure.TheVariants.{Stream, Refused}
 use Rattle.serving.specs.Serving.{IsServed as IsAnswered, IsServedSoFar, StopsServing, beginning}
 use Rattle.server_threads.specs.Answers.{first_desk}
 
--- All of the input was taken, and what is written is what comes of it, with the answers of such a desk, which is this one then.
+-- All of the input was taken, and the output is the replies to it, made with the answers of such a desk, which is this one then.
 pub record IsAnsweredAtHub (start : State) (input input' output output' : Option (List ℕ)) (last : Desk) : Type 0 where
   pub served : IsAnswered (PassesAtHub start) first_desk last input input' output output'
 
--- `Stream` was answered. What is written is what comes of a first part of the input that was taken, and a beginning of what comes of the text
--- of a line behind it, or of a line end. Where the output hasn't failed, all that comes of what was taken is written.
+-- `Stream` was answered. The output is the replies to a prefix of the input that was taken, and a prefix of the replies to the text
+-- of a line behind it, or to a line end. Where the output hasn't failed, all replies to what was taken are written.
 pub record StopsAtHub (start : State) (input input' output output' : Option (List ℕ)) (failed : Bool) (last : Desk) : Type 0 where
   pub stops : StopsServing (PassesAtHub start) beginning first_desk last input input' output output'
   pub cause : (failed ≡ true) ⊎ IsServedSoFar (PassesAtHub start) first_desk last input input' output output'
@@ -27,7 +27,7 @@ EndsAtHub (Err Stream) start input input' output output' failed last = StopsAtHu
 EndsAtHub (Err (Refused refusal)) start input input' output output' failed last =
     ((refusal ≡ StoreFailed) × IsAnsweredAtHub start input input' output output' last × (failed ≡ false)) ⊎ ((refusal ≡ NoMemory) × (last ≡ first_desk))
 
--- there was one desk, of which this holds
+-- there was one desk, and this holds of it
 pub record ByOne (P : Desk → Type 0) (desks : List Desk) : Type 0 where
   pub last : Desk
   pub one : desks ≡ last ∷ []

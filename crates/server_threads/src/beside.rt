@@ -166,7 +166,7 @@ fn hold_in<
             if !is_begun {
                 return Err((flusher, holding.into_sessions()));
             }
-            // It isn't so, but no clause says what an atomic holds.
+            // Never reached: without a thread no run begins. No clause says what an atomic holds, so the sessions are held here too.
             let held = hold_all(holding);
             Ok(Both {
                 flusher,

@@ -35,7 +35,7 @@ const SEATS: u32 = 64;
 /// The parts of the ledger that counts what each seat took: one for each seat, and one that is left.
 const PARTS: u64 = 65;
 
-/// Serves a store to those who connect, 64 at once, until the listener can't work any more or the watch doesn't go on; where there are fewer
+/// Serves a store to those who connect, 64 at once, until the listener can't work any more or the watch ends it; where there are fewer
 /// places for readers than 64, or threads for sessions, as many at once as have one. Then each session ends within 100 milliseconds, what was
 /// ordered is written, and the store is given back, with the refusal that kept it from serving or that ended the writing: `NoMemory`, also
 /// where the system gives no thread to write in or none for a session, or what failed the board. Milestones of a document are made at
@@ -58,7 +58,7 @@ pub fn serve_on<
     idle: u32,
     watch: &W,
 ) -> (Store<D>, Result<(), Refusal>)
-    // There is one order, of which the store holds what is written, and all of it after an `Ok`. What the desks answered is kept. No clause
+    // There is one order. The store holds what of it is written, and all of it after an `Ok`. What the desks answered is kept. No clause
     // says who asked them.
     ensures served { WasServed (EachHasServed (state_of store)) (is_ok result.1) store result.0 }
     // It fails only with the device.

@@ -65,7 +65,7 @@ pub(crate) fn desks_at<'a, J: Site, R: Wait, D: Disk + Drop>(
     Ok(desks)
 }
 
-/// Tallies the seats of desks that are used no longer, each of which was told of some first batches of those that are published and
+/// Tallies the seats of desks that are used no longer, where each was told of a prefix of the batches that are published and
 /// committed. What they found of the order begins it, of which the token has no less then. It takes no memory.
 pub(crate) fn tally_desks<J: Site, R: Wait, D: Disk>(
     flusher: &mut Flusher<D, J>,

@@ -5,7 +5,7 @@ use refusal::Refusal;
 use sockets::Peers;
 use std::io;
 
-/// Is told what happens while a store over a device `D` is served, in whatever thread it happens, which goes on once it is back. No clause
+/// Is called for what happens while a store over a device `D` is served, in the thread where it happens, which waits for it. No clause
 /// speaks of it.
 pub trait Watch<D>: Sync {
     /// So many of `seats` sessions have a thread each, and the thread that writes is there, so whoever connects is served. Whether to
@@ -25,7 +25,7 @@ pub trait Watch<D>: Sync {
     /// The store failed with this device, for this reason: it takes no further command until it is opened again.
     fn store_failed(&self, why: Refusal, device: &D);
 
-    /// The write of a batch has come to this moment. Where memory ran out behind a moment, the write comes to it again.
+    /// The write of a batch has come to this moment. Where memory ran out after a moment, the write comes to it again.
     fn writes(&self, _at: Moment) {}
 
     /// What counts the answers that sessions get to their commands, if anything does. It is asked for once, before a session begins.

@@ -64,7 +64,7 @@ pub fn serve_store<
     Ok(after)
 }
 
-/// Serves one session over a pair of streams: what it wrote comes of its input, and the store holds all that its desk acknowledged.
+/// Serves one session over a pair of streams: its output is the replies to its input, and the store holds all that its desk acknowledged.
 pub fn serve_session<
     R: Threads + Wait + Sync,
     I: Read + Drop,

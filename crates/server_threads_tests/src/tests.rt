@@ -182,7 +182,7 @@ fn limited_listener<R: Abort + Net<Listener = TcpListener, Stream = TcpStream>>(
     TcpListener::from(OwnedFd::from(stream))
 }
 
-/// Serves a store while `clients` runs with the address, to peers that may be idle for so many seconds, until the watch doesn't go on: once
+/// Serves a store while `clients` runs with the address, to peers that may be idle for so many seconds, until the watch ends it: once
 /// `clients` is back at the latest.
 fn served_kept<
     R: Threads

@@ -125,7 +125,7 @@ module _ {D : Type 0} (does : D → Exchange → D → Type 0) where
     written = appends-kept o p q serves.text serves.written kept;
   }
 
-  -- text within a line, and a line's end with the news behind it
+  -- text within a line, and a line's end with the news after it
   pub text-within : (text : List ℕ) (old new : Session) (d e : D) (o p : Option (List ℕ)) → HasNoEnd text → Feeds does old text new d e o p
       → ServesBytes does old text new d e o p
   text-within text old new d e o p inner fed = record {
@@ -171,7 +171,7 @@ module _ {D : Type 0} (does : D → Exchange → D → Type 0) where
   pub serves-kept : (s : Session) (d : D) (i j o : Option (List ℕ)) → Keeps i j → Serves does s s d d i j o o
   serves-kept s d i j o kept = record { bytes = []; consumed = keeps-consumes i j j [] kept (consumes-nothing j); serves = bytes-nothing s d o }
 
-  -- a stream fails behind bytes that were served, within others, and in front of others
+  -- a stream fails after bytes that were served, within others, and in front of others
   pub stops-served : (bytes : List ℕ) (old new : Session) (d e : D) (o p : Option (List ℕ)) → ServesBytes does old bytes new d e o p
       → StopsBytes does old bytes d e o p
   stops-served bytes old new d e o p serves = record {
@@ -218,14 +218,14 @@ module _ {D : Type 0} (does : D → Exchange → D → Type 0) where
     stopped = stops-at-before more stops.rest stops.mid stops.desk_mid e stops.output_mid p stops.stopped;
   }
 
-  -- and in a piece behind a first part of it
+  -- and in a piece behind a prefix of it
   pub stops-within : (front part rest piece : List ℕ) (old mid : Session) (d e f : D) (o p q : Option (List ℕ)) → piece ≡ (front ++ part) ++ rest
       → ServesBytes does old front mid d e o p → StopsBytes does mid part e f p q → StopsBytes does old piece d f o q
   stops-within front part rest piece old mid d e f o p q whole first second =
       subst (λ (l : List ℕ). StopsBytes does old l d f o q) (sym whole)
       (stops-before (front ++ part) rest old d f o q (stops-behind front part old mid d e f o p q first second))
 
-  -- it fails in the replies to bytes that are fed at once, or in the news behind a line's end
+  -- it fails in the replies to bytes that are fed at once, or in the news after a line's end
   pub stops-replying : (bytes : List ℕ) (old new : Session) (d e : D) (o p : Option (List ℕ)) → IsFedAtOnce bytes → Stops does old bytes new d e o p
       → StopsBytes does old bytes d e o p
   stops-replying bytes old new d e o p at_once stops = record {
@@ -252,7 +252,7 @@ module _ {D : Type 0} (does : D → Exchange → D → Type 0) where
     stopped = InNews [] mid new e f p q fed stops;
   }
 
-  -- it fails behind pieces that were served
+  -- it fails after pieces that were served
   pub stops-behind-pieces : (old mid : Session) (d e f : D) (i j k o p q : Option (List ℕ))
       → Serves does old mid d e i j o p → StopsServing does mid e f j k p q → StopsServing does old d f i k o q
   stops-behind-pieces old mid d e f i j k o p q first second = record {

@@ -29,7 +29,7 @@ BeginsWithEnd [] = Unit {0}
 BeginsWithEnd (byte ∷ bytes) = byte ≡ 10
 
 module _ {D : Type 0} (does : D → Exchange → D → Type 0) where
-  -- Bytes of the input were served, and what comes of the calls was written to the output.
+  -- Bytes of the input were served, and the replies and the news of the calls were written to the output.
   pub record ServesBytes (old : Session) (bytes : List ℕ) (new : Session) (desk desk' : D) (output output' : Option (List ℕ)) : Type 0 where
     pub calls : List Call
     pub served : AreServedBy bytes calls
@@ -52,8 +52,8 @@ module _ {D : Type 0} (does : D → Exchange → D → Type 0) where
     pub at_end : IsAtEnd input'
 
   -- A stream failed where all that is due was written, and these bytes were to be served next. It failed at once, and what is held back wasn't
-  -- sent on; or a beginning of the replies to the next bytes that were fed at once was written; or the replies to a line's end, and a beginning of
-  -- the news behind it. What comes of the other bytes wasn't asked.
+  -- sent on; or a prefix of the replies to the next bytes that were fed at once was written; or the replies to a line's end, and a prefix of
+  -- the news after it. Nothing was asked for the other bytes.
   pub data StopsAt (old : Session) (desk : D) (output : Option (List ℕ)) : List ℕ → D → Option (List ℕ) → Type 0 where
     AtOnce : (others : List ℕ) (output' : Option (List ℕ)) → Keeps output output' → StopsAt old desk output others desk output'
     InReplies : (bytes others : List ℕ) (new : Session) (desk' : D) (output' : Option (List ℕ)) → IsFedAtOnce bytes → Stops does old bytes new desk desk' output output'
@@ -61,7 +61,7 @@ module _ {D : Type 0} (does : D → Exchange → D → Type 0) where
     InNews : (others : List ℕ) (mid new : Session) (between desk' : D) (replied output' : Option (List ℕ)) → Feeds does old (10 ∷ []) mid desk between output replied
         → StopsNews does mid new between desk' replied output' → StopsAt old desk output (10 ∷ others) desk' output'
 
-  -- A stream failed while bytes of the input were served: what comes of a first part of them was written, and then it failed.
+  -- A stream failed while bytes of the input were served: the replies to a prefix of them were written, and then it failed.
   pub record StopsBytes (old : Session) (bytes : List ℕ) (desk desk' : D) (output output' : Option (List ℕ)) : Type 0 where
     pub front : List ℕ
     pub rest : List ℕ
@@ -72,7 +72,7 @@ module _ {D : Type 0} (does : D → Exchange → D → Type 0) where
     pub served : ServesBytes old front mid desk desk_mid output output_mid
     pub stopped : StopsAt mid desk_mid output_mid rest desk' output'
 
-  -- Bytes of the input were taken, and a stream failed while they were served, or behind them.
+  -- Bytes of the input were taken, and a stream failed while they were served, or after them.
   pub record StopsServing (old : Session) (desk desk' : D) (input input' output output' : Option (List ℕ)) : Type 0 where
     pub bytes : List ℕ
     pub consumed : Consumes input input' bytes

@@ -10,9 +10,9 @@ use std::alloc::AllocError;
 /// Why a program ends with status 1.
 #[derive(Debug, Drop)]
 pub enum Failure {
-    /// It was refused, which is told on standard error.
+    /// It was refused, which is printed on standard error.
     Refused(Refusal),
-    /// A standard stream failed, which is not told.
+    /// A standard stream failed, which is not printed.
     Stream,
 }
 

@@ -1,7 +1,7 @@
 //! One session over a pair of streams, by any desk.
 //!
 //! `serve_session` reads the input piece by piece and feeds it to a session line by line, so that the replies to a line and the news after
-//! it are out before the next one is taken. What it writes is what comes of the lines of its input, with the answers of its desk, and the
+//! it are out before the next one is taken. Its output is the replies to the lines of its input, made with the answers of its desk, and the
 //! news after each line (`specs/Serving.antt`). A `Failure` is why a program ends before its end.
 //!
 //! It stands on `session` for lines and replies.

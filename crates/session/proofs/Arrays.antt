@@ -18,7 +18,7 @@ use Rattle.session.specs.steps.Tokened.{Reads, Spells, DescribesDelta}
 use Rattle.session.proofs.Turns.{item_read, items_over, converted-array}
 use Rattle.session.proofs.Objects.{shorter}
 
--- what the items that are left make of an array, of which so many were read and built
+-- what the items that are left make of an array, whose first so many items were read and built
 abbrev pub Completes : ℕ → List Token → List Operation → ℕ → List Token → Type 0
 Completes depth first done count left =
     (front : Items → Items) × ((rest : Items) → items_len (front rest) ≡ count + items_len rest)

@@ -26,7 +26,7 @@ use Rattle.session.proofs.Objects.{deeper}
 apart : (a b : List ℕ) → bytes_eq a b ≡ false → a ≡ b → ⊥
 apart a b differ same = true≢false (sym ((bytes_eq-Decides a b).1 same) ∙ differ)
 
--- another member is as it was
+-- another member is unchanged
 other : (q k : List ℕ) (d : Data) (ms : Members) → bytes_eq q k ≡ false → get_member q (put k d ms) ≡ get_member q ms
 other q k d ms differ = get_member-put_other q k d ms (apart q k differ)
 

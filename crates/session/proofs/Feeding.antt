@@ -1,4 +1,4 @@
--- Pieces of the input, one behind another.
+-- Pieces of the input, one after another.
 use Rattle.std.proofs.Common.{◌≡◌, ◌++◌, ℕ, List, [], ◌∷◌, Option, refl, sym, ap, subst, ◌∙◌, append_assoc, append-nil}
 use Rattle.session.specs.Session.{Session}
 use Rattle.session.specs.Exchange.{Exchange}
@@ -24,7 +24,7 @@ replies-joined (byte ∷ bytes) back old mid new a b t u (next, first, others, f
   ap (λ (l : List ℕ). l ++ u) text ∙ append_assoc f g u,
 )
 
--- a piece of which a front, a text and one byte were taken
+-- a piece from which a front, a text and one byte were taken
 pub piece_parted : (piece front rest text left behind : List ℕ) (byte : ℕ) → piece ≡ front ++ rest → rest ≡ text ++ left → left ≡ byte ∷ behind
     → piece ≡ ((front ++ text) ++ byte ∷ []) ++ behind
 piece_parted piece front rest text left behind byte whole next is =
@@ -45,7 +45,7 @@ module _ {D : Type 0} (does : D → Exchange → D → Type 0) where
   pub feeds-nothing : (s : Session) (d : D) (out : Option (List ℕ)) → Feeds does s [] s d d out out
   feeds-nothing s d out = record { asked = []; text = []; replies = (refl, refl, refl); asks = refl; written = appends-nothing out }
 
-  -- one piece behind another
+  -- one piece after another
   pub feeds-joined : (front back : List ℕ) (old mid new : Session) (d e f : D) (o p q : Option (List ℕ))
       → Feeds does old front mid d e o p → Feeds does mid back new e f p q → Feeds does old (front ++ back) new d f o q
   feeds-joined front back old mid new d e f o p q first second = record {
@@ -79,7 +79,7 @@ module _ {D : Type 0} (does : D → Exchange → D → Type 0) where
     ended = stops.ended;
   }
 
--- what comes of two pieces joined comes of them one behind the other
+-- what comes of two pieces joined comes of them one after the other
 pub replies-parted : (front back : List ℕ) (old new : Session) (asked : List Exchange) (text : List ℕ) → Replies old (front ++ back) asked new text
     → (mid : Session) × (a : List Exchange) × (b : List Exchange) × (t : List ℕ) × (u : List ℕ)
     × Replies old front a mid t × Replies mid back b new u × (asked ≡ a ++ b) × (text ≡ t ++ u)

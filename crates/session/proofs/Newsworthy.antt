@@ -35,7 +35,7 @@ news-more (first ∷ others) one state =
     ap (λ (l : List ℕ). lines_in state first.0 first.1 ++ l) (news-more others one state)
     ∙ sym (append_assoc (lines_in state first.0 first.1) (news others state) (lines_in state one.0 one.1))
 
--- what goes on after the news of a state
+-- the subscriptions that are left after the news of a state
 pub goes_on : (subscriptions : Subscriptions) (state : State)
     → going_on subscriptions (map (λ one. last_in state one.0 one.1) subscriptions) ≡ subscriptions_after subscriptions state
 goes_on [] state = refl

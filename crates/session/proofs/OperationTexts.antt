@@ -23,7 +23,7 @@ pub escape-append : (a b : List ℕ) → escape (a ++ b) ≡ escape a ++ escape 
 escape-append [] b = refl
 escape-append (x ∷ xs) b = ap (λ (l : List ℕ). escape_byte x ++ l) (escape-append xs b) ∙ sym (append_assoc (escape_byte x) (escape xs) (escape b))
 
--- one more byte that stands for itself
+-- one more byte whose escape is itself
 pub plain-more : (text : List ℕ) (i : ℕ) → i < length text → escape_byte (get_or text i 0) ≡ get_or text i 0 ∷ []
     → escape (take i text) ≡ take i text → escape (take (i + 1) text) ≡ take (i + 1) text
 plain-more text i inside plain so_far =
@@ -32,7 +32,7 @@ plain-more text i inside plain so_far =
     ap escape more ∙ escape-append (take i text) (byte ∷ [])
     ∙ ap₂ ◌++◌ so_far (append-nil (escape_byte byte) ∙ plain) ∙ sym more
 
--- what stands for a byte
+-- the escape of a byte
 when_true : {X : Type 0} (b : Bool) (x y : X) → b ≡ true → cond b x y ≡ x
 when_true true x y is = refl
 when_true false x y is = absurd cc

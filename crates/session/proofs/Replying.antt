@@ -55,7 +55,7 @@ module _ {D : Type 0} (does : D → Exchange → D → Type 0) where
       ([], rw (presented, text) (Greeted name (due_ok _ _ due ∙ ap (λ (r : Request). Ok r) is)), refl)
   greeted bytes (Some line) old new name (Err e) desk request is due text presented unchanged = ([], rw unchanged NotTaken, refl)
 
-  -- a line that is not taken, for want of memory
+  -- a line that is not taken, as memory ran out
   pub not_taken : {T E : Type 0} (bytes : T → List ℕ) (o : Partial) (old : Session) (result : Result T E) (desk : D)
       → IfOk result (λ t. bytes t ≡ refusal_line NoMemory) → IfSome o (Responds old old desk desk (text_told bytes result))
   not_taken bytes None old result desk text = tt
@@ -127,7 +127,7 @@ pair line = (Complete, line)
 pub one_byte : (old new : Session) (byte : ℕ) (asked : List Exchange) (text : List ℕ) → TakesByte old byte asked new text → Replies old (byte ∷ []) asked new text
 one_byte old new byte asked text takes = (new, asked, [], text, [], takes, (refl, refl, refl), sym (append-nil asked), sym (append-nil text))
 
--- the line goes on
+-- the line continues
 pub goes_on : (old new : Session) (byte : ℕ) → with_byte old.line byte ≡ (More, new.line) → new ≡ record old { line = new.line } → Replies old (byte ∷ []) [] new []
 goes_on old new byte event others = one_byte old new byte [] [] (subst (λ n. TakesByte old byte [] n []) (sym others) (LineContinues new.line event))
 
@@ -191,7 +191,7 @@ same_line (Some bytes) read byte h = by_end (byte == 10) (length bytes == 65536)
   by_end false true h = let e : TooLong ≡ Complete = ap (λ (p : Event × Partial). p.0) h in cc
   by_end false false h = let e : More ≡ Complete = ap (λ (p : Event × Partial). p.0) h in cc
 
--- the session is as it was at the line's end
+-- the session is unchanged at the line's end
 pub same_session : (old read : Session) (byte : ℕ) → with_byte old.line byte ≡ (Complete, read.line) → read ≡ record old { line = read.line } → read ≡ old
 same_session old read byte event others = others ∙ ap (λ (l : Partial). record old { line = l }) (same_line old.line read.line byte event)
 

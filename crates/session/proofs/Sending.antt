@@ -26,7 +26,7 @@ none_sent : (s : Session) → IsSentAhead s [] [] s
 none_sent s [] text is tell = (refl, refl, tell)
 none_sent s (one ∷ others) text is tell = absurd cc
 
--- the line goes on
+-- the line continues
 sent_on : (old mid new : Session) (bytes more : List ℕ) (commands : List Command) → IsSentAhead old bytes commands mid
     → Replies mid more [] new [] → IsSentAhead old (bytes ++ more) commands new
 sent_on old mid new bytes more commands sent goes answered text is tell =
@@ -101,7 +101,7 @@ replies_more [] last text line none is = (line, [], is, refl, ap (λ (l : List �
 replies_more (one ∷ others) last text line (first, back, is, rest, whole) reply =
     (first, back ++ line, is, replies_more others last back line rest reply, ap (λ (l : List ℕ). l ++ line) whole ∙ append_assoc first back line)
 
--- what stands at a place, whatever stands for it beyond the end
+-- what stands at a place, whatever is said to stand beyond the end
 same_item : (sent : List Sent) (i : ℕ) (x y : Sent) → i < length sent → get_or sent i x ≡ get_or sent i y
 same_item [] i x y within = absurd (omega arith)
 same_item (one ∷ others) zero x y within = refl
@@ -139,7 +139,7 @@ module _ {D : Type 0} (does : D → Exchange → D → Type 0) where
 
   module _ (first old : Session) (piece : List ℕ) (commands : List Command) (begun desk : D) (clean out : Option (List ℕ))
       (ahead : Ahead does first piece commands old begun desk clean out) where
-    -- the line goes on
+    -- the line continues
     pub ahead_on : (new : Session) (more : List ℕ) → Replies old more [] new [] → Ahead does first (piece ++ more) commands new begun desk clean out
     ahead_on new more goes = record {
       front = ahead.front;
@@ -223,7 +223,7 @@ module _ {D : Type 0} (does : D → Exchange → D → Type 0) where
       ended = ended;
     }
 
-  -- a byte behind what was fed
+  -- a byte after what was fed
   pub ahead_behind : (first old new : Session) (piece : List ℕ) (byte : ℕ) (begun desk desk' : D) (clean out out' : Option (List ℕ)) (asked : List Exchange) (text : List ℕ)
       → Feeds does first piece old begun desk clean out → Replies old (byte ∷ []) asked new text → Asks does desk asked desk' → Appends out out' text
       → Ahead does first (piece ++ byte ∷ []) [] new begun desk' clean out'

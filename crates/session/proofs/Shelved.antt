@@ -103,7 +103,7 @@ pub made_given : (state : State) (k : Key) (made : Option (List Element)) (units
     → IfSome (option_map (λ u. kept_of (k, u)) made) (IsGiven state) → IsGiven state (kept_of (k, units))
 made_given state k made units is given = subst (λ (m : Option (List Element)). IfSome (option_map (λ u. kept_of (k, u)) m) (IsGiven state)) is given
 
--- a document that is given, put there or, for want of memory, not
+-- a document that is given, put there or, out of memory, not
 pub noted-fits : (state : State) (old new : LruCache Key (List Element)) {A B : Type 0} (result : Result A B) (k : Key) (units : List Element)
     → Fits state (map kept_of old.entries) → IsGiven state (kept_of (k, units))
     → OnOk result (new ≡ lru_cache (put_entries same old k units) old.cap) → OnErr result (new ≡ old)

@@ -75,7 +75,7 @@ of_document doc others begun rest named is behind =
     ap (λ l. l ++ rest) is ∙ ap (λ d. (codes "{\"doc\":\"" ++ (d ++ codes "\"")) ++ rest) (sym (plain_name doc named))
     ∙ sym (first_member (codes "doc") (string doc) others rest behind)
 
--- ---- a line from its pieces, each of which was added to the text before it
+-- ---- a line from its pieces, where each was added to the text before it
 
 pushed_two : (a b c p q : List ℕ) → b ≡ a ++ p → c ≡ b ++ q → c ≡ a ++ (p ++ q)
 pushed_two a b c p q first second = second ∙ ap (λ l. l ++ q) first ∙ append_assoc a p q

@@ -25,7 +25,7 @@ pub appends-nothing : (known : Option (List ℕ)) → Appends known known []
 appends-nothing None = tt
 appends-nothing (Some bytes) = sym (append-nil bytes)
 
--- one write behind another
+-- one write after another
 pub appends-both : (a b c : Option (List ℕ)) (front back : List ℕ) → Appends a b front → Appends b c back → Appends a c (front ++ back)
 appends-both None b c front back first second = tt
 appends-both (Some x) None c front back first second = absurd first
@@ -39,7 +39,7 @@ appends-kept (Some x) None c text written kept = absurd written
 appends-kept (Some x) (Some y) None text written kept = absurd kept
 appends-kept (Some x) (Some y) (Some z) text written kept = kept ∙ written
 
--- a beginning of a text, and of one text behind another
+-- a prefix of a text, and of one text behind another
 pub front-of : (a b : Option (List ℕ)) (done rest text : List ℕ) → done ++ rest ≡ text → Appends a b done → AppendsFront a b text
 front-of a b done rest text whole written = (
   length done,
@@ -73,7 +73,7 @@ moved a b c done rest left text n is whole first second = (
   appends-both a b c done (take n rest) first second,
 )
 
--- a beginning of a text is one of a longer text
+-- a prefix of a text is one of a longer text
 pub front-longer : (a b : Option (List ℕ)) (front back : List ℕ) → AppendsFront a b front → AppendsFront a b (front ++ back)
 front-longer a b front back (n, within, written) = (
   n,

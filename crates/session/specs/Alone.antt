@@ -73,7 +73,7 @@ told peer state (Err refusal) = record { text = refusal_line refusal; peer = pee
 abbrev pub told_of : Peer → State → List ℕ → Answer
 told_of peer state line = told peer state (request_of peer.source line)
 
--- what comes of a byte: nothing as long as the line goes on, at its end the reply, and once LineTooLong where it gets too long
+-- what comes of a byte: nothing while the line continues, at its end the reply, and once LineTooLong where it gets too long
 abbrev pub by_event : Conversation → Event × Partial → List ℕ × Conversation
 by_event c (Complete, Some bytes) =
     let t = told_of c.peer c.state bytes in
@@ -97,8 +97,8 @@ conversation_after c (byte ∷ bytes) = conversation_after (with_input_byte c by
 abbrev pub FindsMemory : List ℕ → Type 0
 FindsMemory text = (front back : List ℕ) → text ≡ front ++ (refusal_line NoMemory ++ back) → ⊥
 
--- A piece of the input was taken: where memory is found, what was written is what is replied to it, and the conversation goes on
--- as it does after it.
+-- A piece of the input was taken: unless memory runs out, the output is the replies to it, and the conversation is then
+-- the one that comes after it.
 pub record FedAlone (old : Conversation) (piece : List ℕ) (new : Conversation) (out out' : Option (List ℕ)) : Type 0 where
   pub text : List ℕ
   pub written : Appends out out' text

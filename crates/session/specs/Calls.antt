@@ -57,7 +57,7 @@ module _ {D : Type 0} (does : D → Exchange → D → Type 0) where
   abbrev pub TellsNews : Session → Session → D → D → Option (List ℕ) → Option (List ℕ) → Type 0
   TellsNews old new desk desk' out out' = (call : Call) × IsForNews call × Passes old call new desk desk' out out'
 
-  -- A write of the news failed: a beginning of them was written.
+  -- A write of the news failed: a prefix of them was written.
   pub record StopsNews (old new : Session) (desk desk' : D) (out out' : Option (List ℕ)) : Type 0 where
     pub shown : Option State
     pub shows : does desk (Shown shown) desk'

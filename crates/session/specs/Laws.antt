@@ -1,4 +1,4 @@
--- What comes of calls one behind another, for the crates above: each law is promised by a function of `laws`.
+-- What comes of calls one after another, for the crates above: each law is promised by a function of `laws`.
 use Rattle.std.specs.Prelude.{◌≡◌, ◌<◌, ◌+◌, ℕ, ◌++◌, true, List, [], ◌∷◌, length, take, set, get_or, Option, Result, OnOk, OnErr}
 use Rattle.std.specs.Io.KnownBytes.{Appends}
 use Rattle.refusal.specs.declared.Refusal.{Refusal}
@@ -24,7 +24,7 @@ CallsJoined =
     (front back : List Call) (old mid new : Session) (a b : List Exchange) (t u : List ℕ) → Calls old front a mid t → Calls mid back b new u
     → Calls old (front ++ back) (a ++ b) new (t ++ u)
 
--- two writes, one behind the other, write both texts
+-- two writes, one after the other, write both texts
 abbrev pub WritesJoined : Type 0
 WritesJoined = (a b c : Option (List ℕ)) (front back : List ℕ) → Appends a b front → Appends b c back → Appends a c (front ++ back)
 

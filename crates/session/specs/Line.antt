@@ -21,7 +21,7 @@ abbrev pub HasNoEnd : List ℕ → Type 0
 HasNoEnd [] = Unit {0}
 HasNoEnd (byte ∷ bytes) = (byte ≢ 10) × HasNoEnd bytes
 
--- the line goes on through all of these bytes
+-- the line continues through all of these bytes
 abbrev pub RunsThrough : Partial → List ℕ → Partial → Type 0
 RunsThrough old [] new = new ≡ old
 RunsThrough old (byte ∷ bytes) new = (next : Partial) × (with_byte old byte ≡ (More, next)) × RunsThrough next bytes new

@@ -129,7 +129,7 @@ message_called kind value =
     else if bytes_eq kind (codes "unsubscribe") then unsubscribe_of value
     else None
 
--- the message that a value is: its member `do` says of which kind, and it has just the members of that kind
+-- the message that a value is: its member `do` says its kind, and it has exactly the members of that kind
 abbrev pub message_of : Data → Option Message
 message_of value = option_and_then (λ kind. message_called kind value) (text_at (codes "do") value)
 

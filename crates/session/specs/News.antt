@@ -8,12 +8,12 @@ use Rattle.revision.specs.State.{DocumentRecord, State, find}
 use Rattle.session.specs.Reply.{news_line, ended_line}
 use Rattle.session.specs.Subscriptions.{Subscriptions}
 
--- one line for each delta, the first of which made the revision after this one
+-- one line for each delta; the first delta made the revision after this one
 abbrev pub lines_of : List ℕ → ℕ → List (List Operation) → List ℕ
 lines_of doc revision [] = []
 lines_of doc revision (delta ∷ others) = news_line doc (revision + 1) delta ++ lines_of doc (revision + 1) others
 
--- What is told of a document of which a revision was told last: each later one, or that the subscription ends, where the next one
+-- What is told of a document after the revision that was told last: each later one, or that the subscription ends, where the next one
 -- isn't above the floor.
 abbrev pub lines_after : List ℕ → ℕ → Past → List ℕ
 lines_after doc last past = if nat_lt last past.floor then ended_line doc else lines_of doc last (deltas_above past last)
@@ -38,12 +38,12 @@ lines_in state doc last = lines_found doc last (find doc 0 state.documents)
 abbrev pub last_in : State → List ℕ → ℕ → Option ℕ
 last_in state doc last = last_found last (find doc 0 state.documents)
 
--- a subscription, where it goes on
+-- a subscription, where it doesn't end
 abbrev pub subscription : List ℕ → Option ℕ → Subscriptions
 subscription doc None = []
 subscription doc (Some last) = (doc, last) ∷ []
 
--- subscriptions, each with the revision that was told last, where it goes on
+-- subscriptions, each with the revision that was told last, where it doesn't end
 abbrev pub going_on : Subscriptions → List (Option ℕ) → Subscriptions
 going_on [] last = []
 going_on (first ∷ others) [] = []
@@ -67,7 +67,7 @@ abbrev pub subscriptions_shown : Subscriptions → Option State → Subscription
 subscriptions_shown subscriptions None = subscriptions
 subscriptions_shown subscriptions (Some state) = subscriptions_after subscriptions state
 
--- whether a document, if it is there, has a revision behind the last that was told
+-- whether a document, if it is there, has a revision after the last that was told
 abbrev pub has_later : ℕ → Option (ℕ × DocumentRecord) → Bool
 has_later last None = false
 has_later last (Some found) = nat_lt last (newest found.1.past)

@@ -62,7 +62,7 @@ pub data IsReplied (peer : Peer) (line : List ℕ) : List Exchange → Peer → 
 
 -- What comes of one byte of the input.
 pub data TakesByte (old : Session) (byte : ℕ) : List Exchange → Session → List ℕ → Type 0 where
-  -- the line goes on, or the rest of one that is too long is dropped
+  -- the line continues, or the rest of one that is too long is dropped
   LineContinues : (line : Partial) → with_byte old.line byte ≡ (More, line) → TakesByte old byte [] (record old { line = line }) []
   -- the line gets too long, which is replied at once
   LineOverflows : (line : Partial) (text : List ℕ) → with_byte old.line byte ≡ (TooLong, line) → IsLine (refusal_line LineTooLong) text
@@ -89,7 +89,7 @@ module _ {D : Type 0} (does : D → Exchange → D → Type 0) where
   Asks old [] new = new ≡ old
   Asks old (exchange ∷ others) new = (next : D) × does old exchange next × Asks next others new
 
-  -- A session has taken a piece of its input: what was written is what comes of it, with the answers of the desk.
+  -- A session has taken a piece of its input: the output is the replies to it, made with the answers of the desk.
   pub record Feeds (old : Session) (piece : List ℕ) (new : Session) (desk : D) (desk' : D) (out out' : Option (List ℕ)) : Type 0 where
     pub asked : List Exchange
     pub text : List ℕ
@@ -97,8 +97,8 @@ module _ {D : Type 0} (does : D → Exchange → D → Type 0) where
     pub asks : Asks desk asked desk'
     pub written : Appends out out' text
 
-  -- A write failed within a piece. What comes of the front of it had been written, and of the part after that a beginning was
-  -- written. The desk was asked just for the front and that part, and the part is one write's: nothing was asked behind it.
+  -- A write failed within a piece. The replies to its front had been written, and a prefix of the replies to the part after that was
+  -- written. The desk was asked exactly for the front and that part, and the part is one write's: nothing was asked after it.
   pub record Stops (old : Session) (piece : List ℕ) (new : Session) (desk desk' : D) (out out' : Option (List ℕ)) : Type 0 where
     pub front : List ℕ
     pub part : List ℕ

@@ -60,7 +60,7 @@ since_with doc deltas rev =
     object (member (codes "deltas") deltas (member (codes "doc") (string doc)
     (member (codes "ok") (string (codes "since")) (member (codes "rev") (number (unsigned rev)) no_members))))
 
--- the same of deltas, the last of which made this revision
+-- the same of deltas; the last one made this revision
 abbrev pub since_reply : List ℕ → List (List Operation) → ℕ → Data
 since_reply doc deltas rev = since_with doc (array (printed_deltas deltas)) rev
 

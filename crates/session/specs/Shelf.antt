@@ -23,7 +23,7 @@ pub record IsGone (state : State) (kept : Kept) : Type 0 where
   pub reached : kept.revision ≤ revision_of found
 
 -- What is kept is what the state gives of that document at that revision, or the state no longer holds the revision, or the document was
--- deleted since. Its revisions go on where it is created again, so the name and the revision are still those of one document.
+-- deleted since. Its revisions continue where it is created again, so the name and the revision are still those of one document.
 abbrev pub IsGiven : State → Kept → Type 0
 IsGiven state kept =
     (document_at state kept.name kept.revision ≡ Ok kept.units) ⊎ (document_at state kept.name kept.revision ≡ Err TooOld) ⊎ IsGone state kept

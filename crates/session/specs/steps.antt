@@ -1,4 +1,4 @@
--- What stands in memory as what it stands for: for a reader of a body, beside the definitions of the subject.
+-- What values in memory represent: for a reader of a body, beside the definitions of the subject.
 pub mod Changes
 pub mod DueText
 pub mod MessageView

@@ -16,7 +16,7 @@ pub trait Desk {
     ghost use Rattle.session.specs.Ahead.{commands_of, exchanges_of};
     ghost use Rattle.session.specs.Shelf.{IsLater};
 
-    /// At the first of two states of the desk this passes between it and the session, and it goes on to the second.
+    /// In the first of two states of the desk this passes between it and the session, and leads it to the second.
     ghost does: { Self → Exchange → Self → Type 0 };
 
     /// The state that the desk has reached. No call takes it back: each call leaves it unchanged, or with

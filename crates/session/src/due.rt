@@ -21,7 +21,7 @@ use std::marker::Model;
 pub enum Due {
     /// A line that is spelled already.
     Line(String),
-    /// The reply to since for a document of this name: these deltas, the last of which made this revision.
+    /// The reply to since for a document of this name: these deltas; the last one made this revision.
     Since(Name, Vec<Delta>, u64),
     /// The reply to fetch for a document of this name: what stood in it at this revision.
     Fetched(Name, Document, u64),
@@ -126,7 +126,7 @@ fn print_fetched<O: Output>(
     page.push_str(out, "}\n");
 }
 
-// Puts a line for each delta, the first of which made the revision after this one.
+// Puts a line for each delta; the first delta made the revision after this one.
 fn print_news<O: Output>(page: &mut Page, out: &mut O, name: &Name, last: u64, deltas: &[Delta])
     requires { last + length deltas.now < 2 ^ 53 }
     ensures { Spells O.contents O.has_failed out.old page.old out.new page.new

@@ -107,19 +107,19 @@ pub fn told_once()
         → lines_after doc last past ++ lines_after doc (newest past) later ≡ lines_after doc last later }
 {}
 
-/// What is kept of a state's documents at older revisions stays right of it as it goes on.
+/// Documents at older revisions that are right for a state are right for each state that comes after it.
 pub fn kept_documents_stay()
     ensures { FitsLater }
 {}
 
-/// What comes of calls of a session, one behind another, and what they write.
+/// What comes of calls of a session, one after another, and what they write.
 pub fn calls_joined()
     ensures one { law.CallsOfOne }
     ensures more { law.CallsJoined }
     ensures written { law.WritesJoined }
 {}
 
-/// What is asked of a desk, one exchange behind another, also for commands that were sent ahead.
+/// What is asked of a desk, one exchange after another, also for commands that were sent ahead.
 pub fn asked_joined<D: Desk>()
     ensures more { law.AsksJoined D.does }
     ensures sent_ahead { law.OneMoreAsked D.does }

@@ -12,7 +12,7 @@ const MAX_LINE: usize = 65_536;
 /// What a byte makes of a line.
 #[derive(Clone, Copy, Debug, PartialEq, Eq)]
 pub enum Event {
-    /// The line goes on, or the rest of one that is too long is dropped.
+    /// The line continues, or the rest of one that is too long is dropped.
     More,
     /// This is the line's 65,537th byte: what follows of the line is dropped.
     TooLong,

@@ -19,7 +19,7 @@ pub trait Output {
     /// Whether a write has failed.
     ghost has_failed: { Self → Bool };
 
-    /// Writes all the bytes, or fails, and then a beginning of them is written.
+    /// Writes all the bytes, or fails, and then a prefix of them is written.
     fn put(&mut self, bytes: &[u8]) -> Result<(), WriteFailed>
         ensures written { OnOk result (Appends (contents self.old) (contents self.new) bytes.now) }
         ensures front { OnErr result (AppendsFront (contents self.old) (contents self.new) bytes.now) }
@@ -94,7 +94,7 @@ impl<W: Write> Output for Stream<W> {
     }
 }
 
-// Writes all the bytes, or fails, and then a beginning of them is written.
+// Writes all the bytes, or fails, and then a prefix of them is written.
 fn write_whole<W: Write>(writer: &mut W, bytes: &[u8]) -> Result<(), WriteFailed>
     ensures written { OnOk result (Appends (W.contents writer.old) (W.contents writer.new) bytes.now) }
     ensures front { OnErr result (AppendsFront (W.contents writer.old) (W.contents writer.new) bytes.now) }

@@ -59,7 +59,7 @@ fn plain_length(text: &[u8]) -> usize
     length
 }
 
-// Whether a byte of a text may not stand for itself.
+// Whether a byte of a text has to be escaped.
 fn is_escaped(byte: u8) -> bool
     ensures { result ≡ false → escape_byte byte ≡ byte ∷ [] }
 {
@@ -72,7 +72,7 @@ fn is_escaped(byte: u8) -> bool
     byte < 0x20
 }
 
-// Puts what stands for a byte.
+// Puts the escape of a byte.
 fn push_escape<O: Output>(page: &mut Page, out: &mut O, byte: u8)
     ensures { Spells O.contents O.has_failed out.old page.old out.new page.new (escape_byte byte) }
 {

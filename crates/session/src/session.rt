@@ -84,7 +84,7 @@ impl Model for Session {
     ghost invariant = { λ s. ForSome s.source (λ name. is_source_name name ≡ true) };
 }
 
-/// What is written where a reply finds no memory: the line of `NoMemory`.
+/// What is written where memory runs out for a reply: the line of `NoMemory`.
 const NO_MEMORY: &[u8] = b"{\"code\":22,\"error\":\"NoMemory\"}\n";
 
 impl Session {
@@ -125,11 +125,11 @@ impl Session {
         ensures silent { self.old.ended ≡ true → out.new ≡ out.old }
         ensures idle { self.old.ended ≡ true → desk.new ≡ desk.old }
 
-        // What is written is what comes of the piece, with the answers of the desk.
+        // The output is the replies to the piece, made with the answers of the desk.
         ensures fed { OnOk result (Feeds D.does self.old piece.now self.new desk.old desk.new
             (O.contents out.old) (O.contents out.new)) }
         // A write that fails ends the session, and nothing else does. The desk was asked for the front of the piece, each command
-        // once, and nothing behind that write. What was due before it had been written, and a beginning of its own text was.
+        // once, and nothing after that write. What was due before it had been written, and a prefix of its own text was.
         ensures stopped { OnErr result (self.old.ended ≡ false
             → Stops D.does self.old piece.now self.new desk.old desk.new (O.contents out.old) (O.contents out.new)) }
         ensures cause { OnErr result (self.old.ended ≡ false → O.has_failed out.new ≡ true) }
@@ -170,7 +170,7 @@ impl Session {
         // It answers whether they were told.
         ensures heard { IfOk result (λ heard. Passes D.does self.old (call_of heard) self.new desk.old desk.new
             (O.contents out.old) (O.contents out.new)) }
-        // A write that fails ends the session, and nothing else does. A beginning of the news was written.
+        // A write that fails ends the session, and nothing else does. A prefix of the news was written.
         ensures stopped { OnErr result (self.old.ended ≡ false
             → StopsNews D.does self.old self.new desk.old desk.new (O.contents out.old) (O.contents out.new)) }
         ensures cause { OnErr result (self.old.ended ≡ false → O.has_failed out.new ≡ true) }
@@ -452,7 +452,7 @@ impl Session {
     }
 }
 
-// Puts a command to those that are sent ahead. Any other request is given back, and so is one that finds no memory.
+// Puts a command to those that are sent ahead. Any other request is given back, and so is a command where memory runs out.
 fn put(request: Result<Request, Refusal>, sent: &mut Vec<Sent>) -> Option<Result<Request, Refusal>>
     ensures { IsPut request (commands_of sent.old.items) (commands_of sent.new.items) result }
 {

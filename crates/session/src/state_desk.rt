@@ -1,4 +1,4 @@
-//! A desk of a state alone.
+//! A desk of a state alone, for tests: no program uses it.
 ghost use Rattle.std.specs.Prelude.{◌≡◌, ◌⊎◌, true, [], ◌∷◌, false, IfErr, IfOk, IsErr, OnErr, OnOk};
 ghost use Rattle.revision.specs.State.{State, grows, grown};
 ghost use Rattle.session.specs.declared.reply.Reply.TheVariants as reply;
@@ -63,7 +63,7 @@ impl StateDesk {
         // The same of each line, where some find no memory.
         ensures feeds { OnOk result (Feeds Alone session.old piece.now session.new self.old self.new
             (O.contents out.old) (O.contents out.new)) }
-        // A write that fails ends the session, and nothing else does. A beginning of the replies was written.
+        // A write that fails ends the session, and nothing else does. A prefix of the replies was written.
         ensures stopped { OnErr result (session.old.ended ≡ false
             → Stops Alone session.old piece.now session.new self.old self.new (O.contents out.old)
             (O.contents out.new)) }
@@ -91,7 +91,7 @@ impl StateDesk {
         ensures heard { IfOk result
             (λ told. HearsAlone told (of_session session.old self.old) (of_session session.new self.new)
             (O.contents out.old) (O.contents out.new)) }
-        // A write that fails ends the session, and nothing else does. A beginning of the news was written.
+        // A write that fails ends the session, and nothing else does. A prefix of the news was written.
         ensures stopped { OnErr result (session.old.ended ≡ false
             → StopsNews Alone session.old session.new self.old self.new (O.contents out.old) (O.contents out.new)) }
         ensures cause { OnErr result (session.old.ended ≡ false → O.has_failed out.new ≡ true) }

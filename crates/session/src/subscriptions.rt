@@ -32,7 +32,7 @@ impl Model for Subscriptions {
 }
 
 impl Subscriptions {
-    /// None. It takes no memory.
+    /// No subscriptions. It takes no memory.
     pub fn new(alloc: Global) -> Subscriptions
         ensures { result ≡ [] }
     {

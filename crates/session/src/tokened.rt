@@ -3,7 +3,7 @@
 //! `edit_of` takes the lines that clients send most: an edit whose operations insert texts, retain and delete, with
 //! attributes after an insert or a retain. It leaves every other line to `Request::read`'s tree: other messages, embeds,
 //! attributes before an insert or a retain, negative numbers, a member of the edit or of an operation twice, 1,024 operations,
-//! 64 attributes of one operation, and whatever is refused, also for want of a source or of memory.
+//! 64 attributes of one operation, and whatever is refused, also for lack of a source or of memory.
 ghost use Rattle.std.specs.Prelude.{◌≡◌, IfSome, Some, Ok, true};
 ghost use Rattle.revision.specs.Name.{is_source_name};
 ghost use Rattle.session.specs.Request.{request_of};

@@ -1,4 +1,4 @@
--- What desks exchange in conversations, one behind another.
+-- What desks exchange in conversations, one after another.
 use Rattle.std.proofs.Common.{◌++◌, ℕ, List, [], ◌∷◌, Option, Result, Ok, Err, OnOk, OnErr, refl, sym, subst, append_assoc, append-nil}
 use Rattle.session.specs.Session.{Session}
 use Rattle.session.specs.Exchange.{Exchange, Shown}
@@ -37,7 +37,7 @@ module _ {D : Type 0} (does : D → Exchange → D → Type 0) where
     conversations = asked_once asked (record { calls = calls; last = last; text = text; comes = comes });
   }
 
-  -- and by further ones behind them
+  -- and by further ones after them
   served_further : (front back : List Call) (a b : List Exchange) (mid last : Session) (t u : List ℕ) (d e f : D) → Calls beginning front a mid t
       → Asks does d a e → Calls mid back b last u → Asks does e b f → HasServed does d f
   served_further front back a b mid last t u d e f comes asks more others =

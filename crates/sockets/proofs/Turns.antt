@@ -1,4 +1,4 @@
--- Turns of a conversation, one behind another.
+-- Turns of a conversation, one after another.
 use Rattle.std.proofs.Common.{◌++◌, ℕ, List, [], ◌∷◌, Option, Some, None, Result, Ok, Err, OnErr, refl, sym, ap, subst, ◌∙◌, append_assoc, append-nil}
 use Rattle.std.specs.Io.KnownBytes.{Appends, Consumes, Keeps}
 use Rattle.session.specs.Session.{Session}
@@ -96,7 +96,7 @@ module _ {D : Type 0} (does : D → Exchange → D → Type 0) where
     answers = answers_joined first.bytes second.bytes old mid new d e f o p q first.answers second.answers;
   }
 
-  -- a write failed in the first turn, and in one behind others
+  -- a write failed in the first turn, and in one after others
   pub stops_first : (piece : List ℕ) (old : Session) (d e : D) (i j o p : Option (List ℕ)) → Consumes i j piece → StopsIn does old d o piece e p
       → StopsConversing does old d e i j o p
   stops_first piece old d e i j o p consumed stops = record {

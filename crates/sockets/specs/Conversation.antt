@@ -18,7 +18,7 @@ pub data AreAnsweredBy : List ℕ → List Call → Type 0 where
       → AreAnsweredBy (piece ++ bytes) (Fed piece ∷ news ∷ calls)
 
 module _ {D : Type 0} (does : D → Exchange → D → Type 0) where
-  -- Bytes of the input were answered: what was written to the output is what comes of the turns, with the answers of the desk.
+  -- Bytes of the input were answered: the output is the replies and the news of the turns, made with the answers of the desk.
   pub record Answers (old : Session) (bytes : List ℕ) (new : Session) (desk desk' : D) (output output' : Option (List ℕ)) : Type 0 where
     pub calls : List Call
     pub turns : AreAnsweredBy bytes calls
@@ -45,8 +45,8 @@ module _ {D : Type 0} (does : D → Exchange → D → Type 0) where
     InSending : (piece : List ℕ) (new : Session) (desk' : D) (output' : Option (List ℕ)) → Answers old piece new desk desk' output output'
         → StopsIn old desk output piece desk' output'
 
-  -- Bytes were read from the input, and a write failed: what comes of all turns before was written, and it failed in the turn of the last
-  -- piece. Nothing was asked after that.
+  -- Bytes were read from the input, and a write failed: the replies and the news of all turns before were written, and it failed in the turn of the
+  -- last piece. Nothing was asked after that.
   pub record StopsConversing (old : Session) (desk desk' : D) (input input' output output' : Option (List ℕ)) : Type 0 where
     pub front : List ℕ
     pub piece : List ℕ

@@ -5,7 +5,7 @@ ghost use Rattle.sockets.specs.Room.{HasRoom};
 
 use std::thread::{Promise, PromisedHandle, Threads};
 
-/// Work that goes on in a thread, which promises what comes of it; or what came of it, where the system gave no thread.
+/// Work that runs in a thread, which promises what comes of it; or what came of it, where the system gave no thread.
 #[derive(Drop)]
 pub enum Begun<T, P: Promise<T>> {
     InThread(PromisedHandle<T, P>),

@@ -31,7 +31,7 @@ pub fn serve_peer<K: Desk>(alloc: Global, hall: &Hall, desk: &mut K, stream: &Tc
     let mut output = Stream::new(writer);
     let mut patience = Patience::new(hall.idle());
     if converse(alloc, hall, &mut patience, desk, &mut input, &mut output).is_err() {
-        // the writer tries once more as it is dropped, which is not to wait again
+        // the writer flushes once more as it is dropped; after the shutdown that fails at once, instead of waiting
         let _ = stream.shutdown(Shutdown::Both);
     }
     parting(is_slow.load(Ordering::SeqCst), patience.is_over())

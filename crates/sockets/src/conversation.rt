@@ -88,7 +88,7 @@ fn take_turns<K: Desk, I: Read, O: Output>(
     Ok(())
 }
 
-// Reads what comes into `piece` and answers it. The answer is whether the conversation goes on; it does where nothing came in time.
+// Reads what comes into `piece` and answers it. The answer is whether the conversation continues; it does where nothing came in time.
 fn take_turn<K: Desk, I: Read, O: Output>(
     alloc: Global,
     patience: &mut Patience,

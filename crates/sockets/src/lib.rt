@@ -7,7 +7,7 @@
 //! one, and the system takes a little more where it seemed full, so that this comes about after 5 to 15 seconds. A peer that is idle for as
 //! many seconds as were asked for is closed (`specs/Idle.antt`), which is counted by the reads in which nothing came: bytes of a line that
 //! has no end neither count nor begin anew. An error of the listener is waited out, but for those by which it can't work any more
-//! (`accepting.rt`). Then, and where the watch doesn't go on, each session ends within 100 milliseconds, in a read or a write. A
+//! (`accepting.rt`). Then, and where the watch ends it, each session ends within 100 milliseconds, in a read or a write. A
 //! `ListenerWatch` is told how many desks got a thread, before anybody is taken, what became of the connections, and why the listener ended.
 //!
 //! A caller, with its contract, which is proved as it stands:

@@ -114,7 +114,7 @@ pub fn put_where_closed<D: Disk>(
     Ok(Some(read))
 }
 
-/// Commits a batch whose documents aren't at hand. A crash at any moment leaves the state without it or with it, and at Ok the store goes on.
+/// Commits a batch whose documents aren't at hand. A crash at any moment leaves the state without it or with it, and at Ok the store is open.
 pub fn commit_batch<D: Disk>(
     alloc: Global,
     store: &mut Store<D>,

@@ -75,7 +75,7 @@ const SLOT_HEAD: [u8; 14] = [0xa5, 1, 0, 0, 0, 0, 0, 0, 0, 0xa5, 55, 0, 0, 0];
 
 const DAMAGED: &str = "error 32 Damaged";
 
-// A small device with a cell at a place, of which some bytes are others.
+// A small device with a cell at a place, with other bytes at an offset within it.
 fn with_cell(
     rt: &(impl Abort + AllocGlobal),
     device: &[u8],

@@ -1,4 +1,4 @@
-//! Stores that stop or fail within a script: by either pick they are found as a beginning of it, with all that was answered with Ok.
+//! Stores that stop or fail within a script: by either pick they are found as a prefix of it, with all that was answered with Ok.
 use crate::rings::LEFT;
 use crate::scripts::{Move, Script, script_device, script_of, take_move};
 use crate::stopping::calls_before;
@@ -170,8 +170,8 @@ fn answers_nothing<D: Disk>(
     assert!(rt; store.has_failed());
 }
 
-// A call of a script fails, and where it stops each later one. What a crash leaves, and what is there if none comes, is a
-// beginning of the script.
+// A call of a script fails, and where it stops each later one. What a crash leaves, and what is there if none comes, is a prefix
+// of the script.
 fn goes_wrong(rt: &(impl Abort + AllocGlobal), script: &Script, plan: FaultPlan) {
     let mut store = open_store(rt, FaultDisk::new(script_device(rt), plan));
     let moves = taken(rt, &mut store, script);

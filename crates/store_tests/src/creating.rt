@@ -13,7 +13,7 @@ const SECOND_RUN: [Row; 5] = [
 fn what_is_created_is_found_again(rt: HostRuntime) {
     let empty = small_device(&rt);
     let one = session(&rt, empty.bytes(), &[("a", "d", "z", "taken 1")], "d 1 z\n");
-    // The first record, and a closed gate behind it, which was 0 before. All else is as it was.
+    // The first record, and a closed gate behind it, which was 0 before. All else is unchanged.
     differ_by(
         &rt,
         one.bytes(),

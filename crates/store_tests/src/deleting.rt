@@ -142,7 +142,7 @@ fn a_deleted_document_has_a_milestone(rt: HostRuntime) {
     is_opened_as(&rt, &full, "error 32 Damaged");
 }
 
-/// A cell of a document that is deleted as revision 2, of which the source has a number 1.
+/// A cell of a document that is deleted as revision 2, where the source has a number 1.
 const DELETED_SECOND: [u8; 49] = [
     0xa5, 44, 0, 0, 0, // the gate, and the length of the body
     0, 0, 0, 0, 1, 0, b'd', // document 0, its name

@@ -258,7 +258,7 @@ fn device_that_stopped(rt: &(impl Abort + AllocGlobal), call: u64, left: Left) -
 // 0 and 1: the older cell is closed at 64, and synced;
 // 2 and 3: the milestone is written behind that gate, and synced;
 // 4 and 5: the gate is opened, and synced.
-// Whichever of them stops, and whatever it leaves, both picks find the document as it was.
+// Whichever of them stops, and whatever it leaves, both picks find the document unchanged.
 #[test]
 fn a_stop_in_a_put(rt: HostRuntime) {
     for call in 0..6 {

@@ -132,7 +132,7 @@ fn repeated(rt: &(impl Abort + AllocGlobal), count: u8) -> Vec<u8> {
     bytes
 }
 
-// A run of two steps, of which the first creates the document d, and the second does so so many times again.
+// A run of two steps: the first creates the document d, and the second does so so many times again.
 fn is_run_twice<D: Disk>(
     rt: &(impl Abort + AllocGlobal),
     store: &mut Store<D>,

@@ -10,7 +10,7 @@ use recovery::{Shape, Store, StoreStep};
 use refusal::Refusal;
 use std::process::Abort;
 
-/// A shape of 4,672 bytes: three slots, of which each takes two to five batches.
+/// A shape of 4,672 bytes: three slots, where each takes two to five batches.
 const SHAPE: Shape = Shape {
     slots: 3,
     slot: 256,
@@ -50,7 +50,7 @@ pub struct Script {
     pub moves: Vec<Move>,
 }
 
-/// Pseudo-random numbers: a linear congruential generator with Knuth's constants for 64 bits, of which the highest byte is
+/// Pseudo-random numbers: a linear congruential generator with Knuth's constants for 64 bits, where the highest byte is
 /// taken.
 #[derive(Drop)]
 pub struct Numbers {
@@ -71,7 +71,7 @@ impl Numbers {
     }
 }
 
-/// A formatted device for scripts, of which no call was made.
+/// A formatted device for scripts, with no call made yet.
 pub fn script_device(rt: &(impl Abort + AllocGlobal)) -> MemDisk {
     device_of(rt, formatted_device(rt, 4_672, SHAPE).bytes())
 }

@@ -153,7 +153,7 @@ fn a_batch_is_stopped_at_its_gate(rt: HostRuntime) {
     is_stopped_at_the_gate(&rt, 0xa5, "d 3 x\n", "again 3");
 }
 
-// The second spelling fails in its last sync, so a crash may leave its gate as it was, closed. The gate reads as open, and
+// The second spelling fails in its last sync, so a crash may leave its gate unchanged, closed. The gate reads as open, and
 // whoever opens the device syncs it first: so from then on a crash leaves the batch.
 #[test]
 fn a_batch_whose_last_sync_fails_is_found_and_stays(rt: HostRuntime) {

@@ -1,4 +1,4 @@
--- How what the flusher's thread does goes on from call to call.
+-- What the flusher's thread does, from call to call.
 use Rattle.std.proofs.Common.{◌≡◌, ◌≢◌, ◌↔◌, ◌⊎◌, ◌≤◌, ◌+◌, inl, inr, ℕ, Bool, true, false, List, [], ◌∷◌, ◌++◌, length, refl, sym, ◌∙◌, ap, subst, arith, append_assoc, append-nil, length-append}
 use Rattle.std.specs.Prelude.{◌<◌, Result, Ok, Err, IfOk, IfErr, IsErrOf}
 use Rattle.std.proofs.lemmas.Bool.{false≢true, cases_lt}
@@ -33,7 +33,7 @@ Kept start state told committed = state ≡ fold start (commands_of (told ++ com
 no_fewer : (told committed : List (List Taken)) → length (commands_of told) ≤ length (commands_of (told ++ committed))
 no_fewer told committed = omega (arith, ap length (commands-append told committed), length-append (commands_of told) (commands_of committed))
 
--- a content that stands for what is published and committed, or for the batch that is held too
+-- a content that represents what is published and committed, or that with the batch that is held
 held_found : (start state : State) (told committed waiting : List (List Taken)) (content : List ℕ) → Kept start state told committed
     → IsWithOrWithout state (commands_of waiting) content → IsBeginning (length (commands_of told)) start (told ++ (committed ++ waiting)) content
 held_found start state told committed waiting content kept found =
@@ -45,7 +45,7 @@ held_all : (start state : State) (told committed waiting : List (List Taken)) (c
 held_all start state told committed waiting content kept found =
     within_write (length (commands_of (told ++ committed))) start state (told ++ (committed ++ waiting)) (told ++ committed) waiting content (sym (append_assoc told committed waiting)) (omega arith) kept found
 
--- a beginning of batches is no longer than they are, and makes no more commands
+-- a prefix of batches is no longer than they are, and makes no more commands
 prefix-length : (first all : List (List Taken)) → IsPrefix first all → (length first ≤ length all) × (length (commands_of first) ≤ length (commands_of all))
 prefix-length first all (more, whole) = (
   omega (arith, ap length whole, length-append first more),
@@ -58,7 +58,7 @@ none_longer old new first same longer begins =
     let within = (prefix-length first new begins).0 in
     absurd (omega (arith, longer.1, within, ap length same))
 
--- of two beginnings of one list one begins the other
+-- of two prefixes of one list one is a prefix of the other
 compare : (first mid all : List (List Taken)) → IsPrefix first all → IsPrefix mid all → IsPrefix first mid ⊎ IsShorter mid first
 compare first mid all begins also = by_length (cases_lt (length mid) (length first))
   where
@@ -67,7 +67,7 @@ compare first mid all begins also = by_length (cases_lt (length mid) (length fir
     by_length (inr le) = inl (prefix_shorter first mid all begins also le)
 
 module _ {D : Type 0} {disk : Ghosts D} where
-  -- more batches came behind
+  -- more batches came after
   was_longer : {start : State} {least : ℕ} {first batches all : List (List Taken)} {old new : Store D disk} (more : List (List Taken)) → all ≡ batches ++ more
       → WasAt start least first batches old new → WasAt start least first all old new
   was_longer {start} {least} {first} {batches} {all} more whole was = record {
@@ -79,7 +79,7 @@ module _ {D : Type 0} {disk : Ghosts D} where
   }
 
 module _ {D J : Type 0} {disk : Ghosts D} where
-  -- some calls, and then others, where the first ones didn't fail
+  -- some calls, and then others, where the earlier calls didn't fail
   pub writes_on : (start : State) (old mid new : Flusher D J disk) → Writes start old mid → (has_failed (store_of old) ≡ false → has_failed (store_of mid) ≡ false) → Writes start mid new → Writes start old new
   writes_on start old mid new first works second =
       let more = second.more in
@@ -195,7 +195,7 @@ module _ {D J : Type 0} {disk : Ghosts D} where
         each = λ first further begins. absurd (none_longer (told_of old) (told_of new) first tells further begins);
       }
 
-  -- the store alone changes, and stands for the same
+  -- the store alone changes, and represents the same state
   pub writes_still : (start : State) (old new : Flusher D J disk) → Kept start (state_of (store_of old)) (told_of old) (committed_of old)
       → Goes (λ content. FoundAs content (state_of (store_of old))) (store_of old) (store_of new)
       → told_of new ≡ told_of old → committed_of new ≡ committed_of old → waiting_of new ≡ waiting_of old → Writes start old new
@@ -235,7 +235,7 @@ module _ {D J : Type 0} {disk : Ghosts D} where
             (inl (found_now (store_of new) (goes.opens (works worked) is_open) content left));
       }
     where
-      -- what the store holds then is just what is published
+      -- what the store holds then is exactly what is published
       now_published : (first : List (List Taken)) → Goes (IsBeginning (told_count old) start (given_to new)) (store_of old) (store_of new) → first ≡ told_of new
           → WasAt start (told_count old) first (given_to new) (store_of old) (store_of new)
       now_published first mapped all = record {

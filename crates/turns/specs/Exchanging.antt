@@ -21,7 +21,7 @@ module _ {D : Type 0} {disk : Ghosts D} where
   due_in every document store =
       job_due_for every (slice_get (state_of store).documents document) (highest_known (known_cells store) document) (last_job document (kept_jobs store))
 
-  -- A document was looked at: it waits again, or no job of it was due, or one was handed out, of which the store keeps the copy.
+  -- A document was looked at: it waits again, or no job of it was due, or one was handed out, and the store keeps a copy of it.
   abbrev pub IsLookedAt : ℕ → Store D disk → ℕ → Store D disk → List ℕ → Type 0
   IsLookedAt every old document new waiting =
       Contains waiting document

@@ -1,4 +1,4 @@
--- What a queue of documents stands for.
+-- What a queue of documents represents.
 use Rattle.std.specs.Prelude.{◌≡◌, ℕ, List, drop, Contains}
 
 -- how many documents it was made for, and the numbers of those that wait, in the order in which they are taken

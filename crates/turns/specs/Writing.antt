@@ -23,7 +23,7 @@ module _ {D : Type 0} {disk : Ghosts D} where
     pub goes : Goes (λ content. FoundAs content (state_of old)) old new
     pub state : state_of new ≡ state_of old
 
-  -- A batch finds no room in the journal, of which the last segment is opened, once it was kept up.
+  -- A batch finds no room in the journal, whose last segment is opened, once it was kept up.
   pub record IsFullFor (batch : List Taken) (old : Store D disk) : Type 0 where
     pub between : Store D disk
     pub kept_up : IsKeptUp old between
@@ -31,8 +31,8 @@ module _ {D : Type 0} {disk : Ghosts D} where
     pub no_room : has_room between batch ≡ false
     pub last : IsUsedUp between
 
-  -- There was a moment at which the store held just what these first batches make. A crash before it leaves some first ones of all, so many
-  -- commands at least, and a crash at any moment from there on no fewer commands than the first ones have.
+  -- There was a moment at which the store held exactly what these first batches make. A crash before it leaves a prefix of all, of so many
+  -- commands at least, and a crash at any moment from there on one of no fewer commands than these first batches have.
   pub record WasAt (start : State) (least : ℕ) (first all : List (List Taken)) (old new : Store D disk) : Type 0 where
     pub between : Store D disk
     pub state : state_of between ≡ fold start (commands_of first)
@@ -49,8 +49,8 @@ module _ {D J : Type 0} {disk : Ghosts D} where
   abbrev pub told_count : Flusher D J disk → ℕ
   told_count flusher = length (commands_of (told_of flusher))
 
-  -- Nothing that was published is taken back, and no batch that was given is dropped. A crash at any moment between leaves some first
-  -- batches of those that were given by the end, and no fewer commands than were published at the beginning; a crash at any moment from
+  -- Nothing that was published is taken back, and no batch that was given is dropped. A crash at any moment between leaves a prefix
+  -- of the batches that were given by the end, and no fewer commands than were published at the beginning; a crash at any moment from
   -- a batch's publishing on no fewer than were published with it; and a crash at the end no fewer than are published then. And there was a
   -- moment from which on it leaves no fewer than are published and committed at the end.
   pub record Writes (start : State) (old new : Flusher D J disk) : Type 0 where
@@ -81,7 +81,7 @@ module _ {D J : Type 0} {disk : Ghosts D} where
   abbrev pub IsUnrefused : Flusher D J disk → Flusher D J disk → Type 0
   IsUnrefused old new = IsUpkeep {A = Unit {0}} (Ok tt) old new
 
-  -- Just one batch was published.
+  -- Exactly one batch was published.
   pub record IsOneMore (old new : Flusher D J disk) : Type 0 where
     pub batch : List Taken
     pub told : told_of new ≡ told_of old ++ batch ∷ []

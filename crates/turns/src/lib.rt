@@ -3,7 +3,7 @@
 //! `flush_turn` makes one turn, by the calls of a `Flusher` and of a `Hub`, and `flush_all` one after another until the hub is ended.
 //! `Upkeep` is what a turn leaves to the next: the documents that are to be looked at, and the ends of the channels to the composers
 //! (`composers`), to which a turn hands out jobs and from which it takes back what came of them. Where a channel is full or empty a turn
-//! goes on. `compose_workers` runs the composers, in threads beside this one.
+//! continues. `compose_workers` runs the composers, in threads beside this one.
 //!
 //! Other threads change the board between a turn's steps, so a turn says nothing of it. It says of its flusher, by `Writes` of
 //! specs/Writing.antt, that no batch that it was given is dropped, none that was published is taken back, and what a crash leaves of them; and
@@ -33,7 +33,7 @@
 //! use turns::flush_all;
 //!
 //! /// Writes all that is ordered until the hub is ended, and puts no milestones. Nothing that was published is taken back. At Ok the store
-//! /// holds just what is published, and the hub's token says that it was ended; at Err the hub was told of the failure.
+//! /// holds exactly what is published, and the hub's token says that it was ended; at Err the hub was told of the failure.
 //! pub fn flush_to_the_end<D: Disk, J: Site, R: Wait>(
 //!     rt: &R,
 //!     alloc: Global,

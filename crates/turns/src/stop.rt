@@ -7,7 +7,7 @@ use refusal::Refusal;
 use std::marker::Model;
 use std::sync::Wait;
 
-/// What stopped a turn: that memory ran out, or a failure, of which the hub was told. Contracts see it as its refusal.
+/// What stopped a turn: that memory ran out, or a failure, which the hub was told. Contracts see it as its refusal.
 #[derive(Drop)]
 pub struct Stop<J: Site> {
     failed: Option<Failed<J>>,

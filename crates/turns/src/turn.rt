@@ -45,7 +45,7 @@ pub fn flush_turn<D: Disk, J: Site, R: Wait, G: Gate>(
     ensures nothing { OnOk result ((committed_of flusher.new ≡ []) × (waiting_of flusher.new ≡ [])) }
     ensures unpublished { IsErrOf result Refusal.NoMemory → told_of flusher.new ≡ told_of flusher.old }
 
-    // When each refusal comes: a failure of the device is told as such, and nothing else is.
+    // When each refusal comes: a failure of the device is `Fault`, and nothing else is.
     ensures fails { has_failed (store_of flusher.old) ≡ false
         → (has_failed (store_of flusher.new) ≡ true ↔ IsErrOf result Refusal.Fault) }
     ensures causes { IfErr result (λ e. e ≢ Refusal.NoMemory → e ≢ Refusal.Fault
@@ -207,7 +207,7 @@ fn write_held<D: Disk, J: Site, R: Wait, G: Gate>(
 /// `every` revisions; 0 hands out none. At its end it lets go of its ends of the composers' channels, so that they end. It answers with the
 /// hub's token of its end, or with the one that the hub was told of a failure.
 ///
-/// A crash at any moment of it leaves some first batches of those that were given, and no fewer commands than were published when it
+/// A crash at any moment of it leaves a prefix of the batches that were given, with no fewer commands than were published when it
 /// began; one after its return no fewer than are published then. Of each turn `flush_turn` says the same.
 pub fn flush_all<D: Disk, J: Site, R: Wait, G: Gate>(
     rt: &R,

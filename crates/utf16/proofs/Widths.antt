@@ -135,7 +135,7 @@ turn_of text bytes units w n walk inside widths =
 pub inside_of : (text rest : List ℕ) (bytes units : ℕ) → IsWalk text rest bytes units → bytes ≤ length text
 inside_of text rest bytes units walk = omega (arith, walk.bytes_is, ap length walk.parts, length-append walk.behind rest)
 
--- a turn goes on
+-- a turn moves on by a byte or more
 pub goes_on : (text : List ℕ) (bytes units w n : ℕ) → IsWalk text (drop bytes text) bytes units → bytes < length text
     → AreWidths (get_or text bytes 0) w n → 0 < w
 goes_on text bytes units w n walk inside widths =

@@ -4,7 +4,7 @@ ghost use Rattle.utf16.specs.Units.{units_of};
 
 use std::alloc::AllocError;
 
-/// Puts a text at the end of another; where there is no memory, that is left as it was.
+/// Puts a text at the end of another; where there is no memory, that is left unchanged.
 pub fn append(text: &mut String, more: &str) -> Result<(), AllocError>
     ensures ok { OnOk result (units_of (string_bytes text.new)
         ≡ units_of (string_bytes text.old) ++ units_of more.now) }

@@ -12,11 +12,11 @@ pub record Seen : Type 0 where
   pub state : State
   pub mark : Mark
 
--- the state that is shown, with the published batches that made it, each of which continued it
+-- the state that is shown, with the published batches that made it, where each continued it
 abbrev pub basis_of : Seen → Basis
 basis_of shown = record { state = shown.state; mark = shown.mark; grew = true }
 
--- it goes on by a batch
+-- it with one batch more
 abbrev pub after : Basis → News → Basis
 after basis news = record { state = fold basis.state news.batch; mark = news.mark; grew = basis.grew && all_grow basis.state news.batch }
 

@@ -16,11 +16,11 @@ use Rattle.view.specs.declared.publisher.Stage.TheVariants.{Idle, Held, Logged, 
 abbrev pub news_of : Books → State → List Taken → List (List Taken) → News
 news_of book start batch next = record { batch = batch; mark = record { book = book; start = start ∷ []; batches = next } }
 
--- what is shown is what just these batches make of the start
+-- what is shown is what exactly these batches make of the start
 abbrev pub AreShown : Books → State → List (List Taken) → Seen → Type 0
 AreShown book start told shown = IsShown book start shown × (shown.mark.batches ≡ told)
 
--- A batch has a command, and is the next part of the order behind what is published, which then has fewer than 2^64 commands.
+-- A batch has a command, and is the next part of the order after what is published, which then has fewer than 2^64 commands.
 pub record IsNext (told batch order : List Taken) : Type 0 where
   pub some : 1 ≤ length batch
   pub few : length told + length batch < 2 ^ 64

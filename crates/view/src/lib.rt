@@ -1,13 +1,13 @@
 //! The view: what was published, shown to readers that never wait.
 //!
-//! A `Publisher` takes committed batches, puts each into the run's log once, and shows it, over two copies of the state of which readers
+//! A `Publisher` takes committed batches, puts each into the run's log once, and shows it, over two copies of the state, and readers
 //! have one (`left_right`). Documents that a batch leaves may be given with it: both copies take these over. Where memory runs out in
-//! between, the next call goes on with the same batch from where it stopped. A `Viewer` reads: it is lent the state that some list of
+//! between, the next call continues with the same batch from where it stopped. A `Viewer` reads: it is lent the state that some list of
 //! published batches makes of the run's start, and that list begins with all that this viewer has seen and was told of. Both hold by the
 //! type of what is shown, and by the rule of the view, which binds every copy. Only `publish` and `end` may wait, for readers that are inside. The crate stands on
 //! `published` and `revision`, on `document`, and on `recovery` for the receipt of a batch.
 //!
-//! That a call succeeds is no clause: tests show that `viewer` gives one, that `read` goes on until the publisher's end, and that a
+//! That a call succeeds is no clause: tests show that `viewer` gives one, that `read` works until the publisher's end, and that a
 //! viewer shows what was published. `left_right` makes two kinds of step on the view, publish and enter; the run's log stands in the proofs
 //! alone.
 //!

@@ -25,7 +25,7 @@ use std::sync::Wait;
 /// So many viewers there may be at once.
 const VIEWERS: usize = 64;
 
-/// How far the publishing of a batch has come. Each step but the last may find no memory, and the next call goes on there: so the batch
+/// How far the publishing of a batch has come. In each step but the last memory may run out, and the next call continues there: so the batch
 /// is put into the log once.
 #[derive(Drop)]
 pub enum Stage<D, J: Site> {
@@ -70,8 +70,8 @@ where
 }
 
 impl<D, J: Site> Publisher<D, J> {
-    /// A publisher of nothing yet, which shows the state that the run's store was opened with, and the token of that start. Refused for
-    /// want of memory alone.
+    /// A publisher of nothing yet, which shows the state that the run's store was opened with, and the token of that start. Refused as
+    /// out of memory alone.
     pub fn new(
         alloc: Global,
         opened: Opened,
@@ -111,7 +111,7 @@ impl<D, J: Site> Publisher<D, J> {
         ))
     }
 
-    /// Takes a batch that was committed, to be published next: the next part of the order, of which it has a token. The documents that its
+    /// Takes a batch that was committed, to be published next: the next part of the order, with a token of that. The documents that its
     /// first commands leave may be given: those that are shown take them over, and aren't made again. It takes no memory.
     pub fn accept(&mut self, receipt: Receipt<D>, ordered: Ordered<J>, made: Vec<Document>)
         requires none { self.old.unpublished ≡ [] }
@@ -204,7 +204,7 @@ impl<D, J: Site> Publisher<D, J> {
     }
 }
 
-// goes on from where the publishing of the batch has come to
+// continues from where the publishing of the batch has come to
 fn published<D, J: Site, R: Wait>(
     publisher: Publisher<D, J>,
     with: (&R, Global),

@@ -1,4 +1,4 @@
-//! What readers are shown, and how it goes on.
+//! What readers are shown, and how it grows.
 ghost use Rattle.std.specs.Prelude.{◌≡◌};
 
 use crossbeam_utils::rule::{Outcome, Protocol};
@@ -66,7 +66,7 @@ impl<J: Site> Absorb<News<J>> for Shown<J> {
     ghost applied = { after };
 
     /// Takes over the documents that stand beside the batch, and makes the others. It fails out of memory; and where this copy doesn't show
-    /// what was published before the batch, which never is so.
+    /// what was published before the batch, which never happens, but no clause says so.
     fn absorb_first(&mut self, operation: &News<J>, _other: &Shown<J>) -> Result<(), AllocError> {
         let here = Told::<(), J>::of_mark(self.mark.copy());
         let before = Told::<(), J>::of_mark(operation.before.copy());

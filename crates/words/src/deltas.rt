@@ -9,7 +9,7 @@ use std::convert::AsStr;
 /// The option by which the deltas of a command stand on lines of standard input.
 const LINES: &str = "stdin";
 
-/// The help for a word that stands for a document.
+/// The help for a word that represents a document.
 const DOCUMENT: &str = "The document, as the delta that makes it";
 
 /// What a command makes of two deltas.
@@ -55,7 +55,7 @@ pub struct DeltaCommand<'a> {
     pub deltas: Option<(&'a str, &'a str)>,
 }
 
-/// What the words ask for, of which the first stands for the program. An `Err` has the text for the user, which names
+/// What the words ask for, where the first represents the program. An `Err` has the text for the user, which names
 /// the program `richd delta`.
 pub fn command_in<'a, S: AsStr>(alloc: Global, words: &'a [S]) -> Result<DeltaCommand<'a>, Error> {
     let matches = richd_delta(alloc)?.try_get_matches_from(words)?;

@@ -60,7 +60,7 @@ pub enum Invocation<'a> {
 }
 
 impl<'a> Invocation<'a> {
-    /// What the words ask for, of which the first is the program's path. An `Err` has the text for the user: a usage
+    /// What the words ask for, where the first is the program's path. An `Err` has the text for the user: a usage
     /// fault, or the help or the version that was asked for.
     pub fn parse<S: AsStr>(alloc: Global, words: &'a [S]) -> Result<Invocation<'a>, Error> {
         match words {
@@ -113,7 +113,7 @@ impl<'a> Invocation<'a> {
     }
 }
 
-/// The words that the system gives the program, of which the first is its path. An `Err` has the text for a user whose words can't be
+/// The words that the system gives the program, where the first is its path. An `Err` has the text for a user whose words can't be
 /// had, since one of them isn't UTF-8, or is out of memory.
 pub fn given<R: Env + AllocGlobal>(rt: &R) -> Result<Vec<String>, Error> {
     match env::args(rt) {

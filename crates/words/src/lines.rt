@@ -30,7 +30,7 @@ impl From<AllocError> for LinesFault {
 pub struct Lines(String);
 
 impl Lines {
-    /// Reads both lines, up to the end of the input, of which the second may have no line end.
+    /// Reads both lines, up to the end of the input; the second may have no line end.
     pub fn read<I: Read>(alloc: Global, input: &mut I) -> Result<Lines, LinesFault> {
         let bytes = bytes_of(alloc, input)?;
         match String::from_utf8(bytes) {

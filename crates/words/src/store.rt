@@ -73,7 +73,7 @@ const PICKS: [&str; 2] = ["newer", "older"];
 /// The option that takes the address to serve at.
 const LISTEN: &str = "listen";
 
-/// How many revisions of a document a milestone stands for, where the words don't say.
+/// How many revisions of a document a milestone represents, where the words don't say.
 pub const DEFAULT_EVERY: u32 = 256;
 
 /// The most revisions that a milestone can be asked to stand for.

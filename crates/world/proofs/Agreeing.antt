@@ -58,7 +58,7 @@ cuts-set zero (Some made) (Some document) (first ∷ more) (second ∷ others) c
 cuts-set (suc n) (Some made) (Some document) (first ∷ more) (second ∷ others) cut cuts =
     (cuts.0, cuts-set n (Some made) (Some document) more others cut cuts.1)
 
--- a document after a command, of which nothing is let go
+-- a document after a command, with nothing let go
 abbrev longer_by_name : Option DocumentRecord → Taken → Option (List ℕ) → Option DocumentRecord
 longer_by_name None taken None = None
 longer_by_name None taken (Some name) = Some (record { name = name; past = longer_by empty_past taken.step (change_of taken) })

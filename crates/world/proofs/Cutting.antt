@@ -37,7 +37,7 @@ cut-change keep whole past change cut =
       is = ap (λ p. longer p change) cut.is ∙ from_longer whole past.floor change cut.low cut.high;
     })
 
--- a past with a step more, of which nothing is let go but what a deletion or a creation again lets go of
+-- a past with a step more and nothing let go, but for what a deletion or a creation again lets go of
 abbrev pub longer_by : Past → Step → Change → Past
 longer_by past Edits change = longer past change
 longer_by past Deletes change = rebased past (content_after (newest_content past) Deletes change.delta) change

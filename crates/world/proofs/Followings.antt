@@ -1,4 +1,4 @@
--- What is followed of a world goes on with each event as the program goes on with what it is told of that.
+-- What is followed of a world takes a step with each event, as the program does with what it is told of that event.
 use Rattle.std.proofs.Common.{◌≡◌, ℕ, suc, ◌+◌, ◌-◌, ◌≤◌, Bool, true, false, cond, List, [], ◌∷◌, ◌++◌, length, take, drop, map, get_or, Option, Some, None, refl, sym, ap, ◌∙◌, arith}
 use Rattle.std.specs.Prelude.{◌==◌, ◌&&◌, nat_lt, nat_le, bytes_eq, All, max, slice_get, slice_index_or, option_map}
 use Rattle.std.proofs.lemmas.Bool.{and_parts, cond_both, leb-true, eq-eqb, ne_eqb, and_from}
@@ -352,7 +352,7 @@ module _ (name source : List ℕ) where
     own-own command named from taken =
         and_from (bytes_eq command.name name) (bytes_eq command.source source) (bytes_same command.name name named) (bytes_same command.source source from)
 
-    -- the order of a world after an event, of which each command is the source's to the document
+    -- the order of a world after an event, where each command is the source's to the document
     answered-own : (command : Command) → command.name ≡ name → command.source ≡ source → (answered : Answer) → KeptOurs (with_answer world command answered)
     answered-own command named from (Takes taken) = (All-push Own world.board.order (entry_of command taken) ours.own (own-own command named from taken), ours.empty)
     answered-own command named from (Repeats revision) = (ours.own, ours.empty)

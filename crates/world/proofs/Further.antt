@@ -1,4 +1,4 @@
--- What is shown and acknowledged goes on with every event: each keeps what there was as its beginning.
+-- Events only add to what is shown and to what is acknowledged: each keeps what there was as a prefix.
 use Rattle.std.proofs.Common.{◌≡◌, ℕ, ◌-◌, ◌≤◌, true, List, [], ◌∷◌, ◌++◌, length, take, Option, Some, None, refl, sym, ap, ◌∙◌, subst, arith}
 use Rattle.std.specs.Prelude.{◌==◌, ◌&&◌, nat_lt, min, slice_get}
 use Rattle.std.proofs.lemmas.Bool.{and_parts, cond_both}
@@ -16,7 +16,7 @@ begins-itself list = sym (take_all (length list) list (omega arith))
 begins-longer : {A : Type 0} (list more : List A) → list ≡ take (length list) (list ++ more)
 begins-longer list more = begins-itself list ∙ sym (take-append-le (length list) list more (omega arith))
 
--- a beginning of a beginning
+-- a prefix of a prefix
 begins-further : {A : Type 0} (a b c : List A) → a ≡ take (length a) b → b ≡ take (length b) c → a ≡ take (length a) c
 begins-further a b c first second = first ∙ (ap (take (length a)) second ∙ take-take (length a) (length b) c shorter)
   where

@@ -187,7 +187,7 @@ module _ (name source : List ℕ) where
   abbrev pub Numbers : ℕ → Entry → Type 0
   Numbers number entry = (is_of name source entry.command ≡ true) × (entry.command.number ≡ number)
 
-  -- the last number is that of an entry, or the window is as it was
+  -- the last number is that of an entry, or the window is unchanged
   pub numbered_by : (documents : List Shown) (entries : List Entry) → AllPlaced documents entries
       → Any (Numbers (window_in name source (after documents entries)).number) entries ⊎ (window_in name source (after documents entries) ≡ window_in name source documents)
   numbered_by documents [] placed = inr refl

@@ -162,7 +162,7 @@ held-each keep [] (first ∷ more) (made ∷ others) behind = (behind-held keep 
 held-each keep (milestone ∷ later) (first ∷ more) (made ∷ others) behind =
     (raised-held keep milestone first made behind.0, held-each keep later more others behind.1)
 
--- a floor between two bounds is a pick just where it is below the third
+-- a floor between two bounds is a pick exactly where it is below the third
 and-true : (b : Bool) → (b && true) ≡ b
 and-true true = refl
 and-true false = refl
@@ -202,7 +202,7 @@ module _ (start : State) (none : start.documents ≡ []) (few : start.limits.kee
   held = held-each start.limits.keep milestones (whole start commands).documents (fold start commands).documents
       (behind-fold start.limits few start.documents start.documents commands (subst (λ d. BehindAll start.limits.keep d d) (sym none) tt))
 
-  -- an opening may pick its floors just where they are reached
+  -- an opening may pick its floors exactly where they are reached
   pub recovered_picks : (composed : List (ℕ × ℕ))
       → may_pick start.limits.keep composed 0 (whole start commands).documents (floors_of (recovered start commands milestones).documents)
       ≡ are_reached composed 0 (fold start commands).documents (recovered start commands milestones).documents
@@ -250,7 +250,7 @@ places-agree (milestone ∷ later) (first ∷ others) (suc n) = places-agree lat
 pub recovered_agrees : (start : State) (commands : List Taken) (milestones : List ℕ) → Agree (recovered start commands milestones) (fold start commands)
 recovered_agrees start commands milestones = record { limits = refl; documents = places-agree milestones (fold start commands).documents }
 
--- the test, as it goes on
+-- the test, as it continues with the next document
 pub reached-step : (composed : List (ℕ × ℕ)) (number : ℕ) (made held : List DocumentRecord) (m h : DocumentRecord) → number < length made → number < length held
     → m ≡ get_or made number m → h ≡ get_or held number h
     → are_reached composed number (drop number made) (drop number held)

@@ -1,4 +1,4 @@
--- What a document shows comes of its past however far back that goes, and goes on with each step.
+-- What a document shows comes of its past however far back that goes, and continues with each step.
 use Rattle.std.proofs.Common.{◌≡◌, ℕ, ◌+◌, ◌≤◌, ap, ◌∙◌, arith}
 use Rattle.revision.specs.declared.step.Step.{Step}
 use Rattle.revision.specs.Sources.{with_taken}

@@ -1,4 +1,4 @@
--- What a state shows goes on with each command by what it shows, so floors play no part in it.
+-- What a state shows after a command comes of the command and of what it showed before, so floors play no part in it.
 use Rattle.std.proofs.Common.{◌≡◌, ℕ, zero, suc, ◌+◌, List, [], ◌∷◌, ◌++◌, map, Option, Some, None, refl, sym, ap, ◌∙◌}
 use Rattle.std.specs.Prelude.{slice_get, option_map}
 use Rattle.std.proofs.lemmas.Option.{slice_get-map}

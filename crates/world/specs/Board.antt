@@ -62,10 +62,10 @@ taken_beyond board shown = drop shown (take board.taken board.order)
 abbrev pub can_ack : {E : Type 0} → Board E → Ticket → Bool
 can_ack board ticket = nat_le ticket.length board.settled
 
--- a board of which nothing was taken yet
+-- a board with nothing taken yet
 abbrev pub begun_board : {E : Type 0} → State → Board E
 begun_board start = record { start = start; order = []; state = start; taken = 0; settled = 0 }
 
--- Open: the order ends after so many commands, all of which are taken off and settled, and the state is the one that was recovered.
+-- Open: the order ends after so many commands, all of them taken off and settled, and the state is the one that was recovered.
 abbrev pub reopened : {E : Type 0} → Board E → State → ℕ → Board E
 reopened board state kept = record board { order = take kept board.order; state = state; taken = kept; settled = kept }

@@ -14,7 +14,7 @@ use Rattle.world.specs.Event.{Done, Failed, Stopped, Event, Submit, Take, Device
 use Rattle.world.specs.World.{World, begun}
 use Rattle.world.specs.Step.{may_leave, run}
 
--- a store without documents, of which each holds two revisions below its newest one
+-- a store without documents, where each would hold two revisions below its newest one
 abbrev empty_store : State
 empty_store = record { limits = record { docs = 2; sources = 4; weight = 1000; width = 237; keep = 2; retry = 8 }; documents = [] }
 
@@ -41,7 +41,7 @@ tickets_after events = map said (after events).tickets
 abbrev acks_after : List Event → List (Reply × ℕ)
 acks_after events = map said (after events).acks
 
--- the counts of a world: taken off, settled, shown, and the two lengths of which a crash leaves one
+-- the counts of a world: taken off, settled, shown, and the two lengths that a crash may leave
 abbrev counts_after : List Event → List ℕ
 counts_after events =
     let world = after events in
@@ -164,7 +164,7 @@ sends_an_older_one : tickets_after (Submit create ∷ Submit (edit 2 1) ∷ Rese
 unfolding utf16_chars encode_utf8 insert
 sends_an_older_one = refl
 
--- so many edits, of which the first has the number above this one
+-- so many edits, the first with the number above this one
 abbrev edits : ℕ → ℕ → List Event
 edits number zero = []
 edits number (suc others) = Submit (edit (number + 1) number) ∷ edits (number + 1) others
@@ -260,7 +260,7 @@ third_is_not_acknowledged : acks_after (two_of_three ++ Resend create ∷ Ack 3 
 unfolding utf16_chars encode_utf8 insert changed_by
 third_is_not_acknowledged = refl
 
--- A crash while the third is being written may lose it. Then it is taken anew, and the second stays as it was acknowledged.
+-- A crash while the third is being written may lose it. Then it is taken anew, and the second stays as acknowledged.
 third_is_lost : tickets_after (two_of_three ++ Take 1 ∷ Crash 2 ∷ Open 2 (0 ∷ []) ∷ Resend create_e ∷ Resend edit_by_b ∷ []) ≡ (TakenAt 1, 3) ∷ (AgainAt 2, 3) ∷ []
 unfolding utf16_chars encode_utf8 insert changed_by
 third_is_lost = refl

@@ -80,7 +80,7 @@ abbrev pub TakenIsAgain : World → Type 0
 TakenIsAgain world = (command : Command) (revision : ℕ) → 1 ≤ command.number → HasTaken world.board.start world.board.order command revision
     → last_sent command.name command.source world.sent < command.number + longest → answer world.board.state command ≡ Repeats revision
 
--- What readers are shown is never taken back: it is a beginning of the order, and whatever is left of that has it.
+-- What readers are shown is never taken back: it is a prefix of the order, and whatever is left of that has it.
 pub record ShownStays (world : World) : Type 0 where
   pub beginning : world.published ≡ takens (take (length world.published) world.board.order)
   pub stays : HowMuchIsLeft world (λ kept. length world.published ≤ kept)

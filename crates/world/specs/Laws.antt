@@ -1,4 +1,4 @@
--- What goes on from one life of a server to the next: each law is promised by a function of `laws`.
+-- What continues from one life of a server to the next: each law is promised by a function of `laws`.
 use Rattle.std.specs.Prelude.{◌≡◌, ℕ, ◌≤◌, List, ◌++◌, length, take}
 use Rattle.revision.specs.Command.{Taken}
 use Rattle.revision.specs.State.{State, fold}
@@ -19,7 +19,7 @@ BegunHolds = (start : State) → IsConsistent (begun start)
 abbrev pub RunHolds : Type 0
 RunHolds = (world : World) (events : List Event) → IsConsistent world → IsConsistent (run world events)
 
--- what follows of a world of which it holds
+-- what follows for a world where it holds
 abbrev pub HoldsSo : (World → Type 0) → Type 0
 HoldsSo P = (world : World) → IsConsistent world → P world
 

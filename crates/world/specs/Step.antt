@@ -8,7 +8,7 @@ use Rattle.world.specs.Board.{Ticket, submitted, ticket_of, can_take, taken_more
 use Rattle.world.specs.Event.{Outcome, Done, Failed, Stopped, Event, Submit, Take, Device, Publish, Settle, Ack, Compose, Crash, Open, Resend}
 use Rattle.world.specs.World.{entry_of, takens, World, last_sent, last_composed}
 
--- the same state, of which from now on no past is dropped but by deletions and by creations of what is deleted
+-- the same state, where from now on no past is dropped but by deletions and by creations of what is deleted
 abbrev pub keeping_all : State → State
 keeping_all state = record state { limits = record state.limits { keep = last_of_all } }
 

@@ -15,7 +15,7 @@ entry_of command taken = record { command = command; taken = taken }
 abbrev pub takens : List Entry → List Taken
 takens entries = map (λ (entry : Entry). entry.taken) entries
 
--- The board; what readers are shown; the two lengths of the order of which a crash leaves one, without the batch that is being
+-- The board; what readers are shown; the two lengths of the order that a crash may leave, without the batch that is being
 -- written and with it; the tickets that are out; all acknowledgements and all commands that were sent since the world began; the
 -- revisions of documents that were composed; whether the store has failed, and whether the machine has stopped.
 pub record World : Type 0 where

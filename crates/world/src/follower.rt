@@ -1,4 +1,4 @@
-//! A plain program that goes through a schedule, step by step.
+//! A plain program that goes through a schedule, step by step, for tests: richd runs it nowhere.
 ghost use Rattle.std.specs.Prelude.{◌≡◌, [], OnOk, OnErr};
 ghost use Rattle.world.specs.Followed.{begun_followed, made_by, submitted, submitted_numbered, resent, taken_off, written, shown, settled, acknowledged, may_leave, forgotten, stopped, opened, running, followed_step, Adds};
 
@@ -126,7 +126,7 @@ impl Follower {
         self.order.as_slice()
     }
 
-    /// The two lengths of the order of which a crash leaves one.
+    /// The two lengths of the order that a crash may leave.
     pub fn left(&self) -> (u64, u64)
         ensures { result ≡ (self.now.without, self.now.with_batch) }
     {

@@ -6,7 +6,7 @@ ghost use Rattle.world.specs.Law.{OverAll, OverAllFurther, AcksStay, AcksAreShow
 
 /// Over every list of events, with crashes and commands sent again, from every state that a store may begin with: no
 /// acknowledged edit is missing, none is taken twice, and none changes its revision. What was shown and acknowledged after some
-/// events is a beginning of what is shown and acknowledged after any events more.
+/// events is a prefix of what is shown and acknowledged after any events more.
 pub fn every_schedule()
     ensures acks_stay { OverAll AcksStay }
     ensures acks_are_shown { OverAll AcksAreShown }
@@ -42,7 +42,7 @@ pub fn every_event_keeps()
     ensures run { law.RunHolds }
 {}
 
-/// What follows of a world of which that holds.
+/// What follows for a world where that holds.
 pub fn what_is_kept()
     ensures acks_stay { law.HoldsSo AcksStay }
     ensures taken_once { law.HoldsSo TakenOnce }
@@ -52,7 +52,7 @@ pub fn what_is_kept()
     ensures state_is_fold { law.HoldsSo StateIsFold }
 {}
 
-/// What commands in order show, and what a first part of an order keeps of it.
+/// What commands in order show, and what a prefix of an order keeps of it.
 pub fn order_shown()
     ensures fold { law.ShownFold }
     ensures joined { law.FoldJoined }

@@ -2,13 +2,13 @@
 //!
 //! A world is what a history of the server has made: the one order of the commands that were taken with the state after them, how
 //! far it is taken off, shown and settled, the tickets that are out, all acknowledgements since the world began, and the two
-//! lengths of the order of which a crash leaves one (specs/World.antt). Events are the steps of the board, of the device and of the
+//! lengths of the order that a crash may leave (specs/World.antt). Events are the steps of the board, of the device and of the
 //! view, and crashes and openings (specs/Event.antt). Each makes a world of a world, and one that isn't possible changes nothing,
 //! so every list of events is a schedule (specs/Step.antt). What the board does stands apart, in specs/Board.antt, in words that
 //! the board itself can be promised by.
 //!
 //! `laws::every_schedule` promises of every list of events: no acknowledged edit is missing, none is taken twice, none changes its
-//! revision, and what was shown and acknowledged at any moment is a beginning of what is shown and acknowledged at any later one
+//! revision, and what was shown and acknowledged at any moment is a prefix of what is shown and acknowledged at any later one
 //! (specs/Law.antt). The crate stands on the rule of acceptance, `revision`.
 //!
 //! A `Board` is what stands behind the server's lock. Each of its calls is promised by the definition of the same step: what it does

@@ -34,7 +34,7 @@ impl Model for Sent {
 }
 
 impl Sent {
-    /// Notes a command, or finds no memory.
+    /// Notes a command. Refused as out of memory alone.
     pub(crate) fn of(alloc: Global, command: &Command) -> Result<Sent, Refusal>
         ensures ok { IfOk result (λ sent. sent ≡ command.now) }
         ensures only { IsOkUnless result Refusal.NoMemory }

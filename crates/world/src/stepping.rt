@@ -1,4 +1,4 @@
-//! A plain program that steps a world.
+//! A plain program that steps a world, for tests: richd runs it nowhere.
 ghost use Rattle.std.specs.Prelude.{◌≡◌, ◌<◌, ◌≤◌, ◌+◌, ◌++◌, ◌&&◌, [], true, nat_le, length, take, map, option_to_list, slice_get, if◌then◌else◌, IfOk, OnOk, OnErr, IsOkUnless};
 ghost use Rattle.std.specs.Vec.{vec_len, vec_capacity};
 ghost use Rattle.revision.specs.Acceptance.{answer};
@@ -55,8 +55,8 @@ pub enum Event<'a> {
     Resend(&'a Command),
 }
 
-/// A world that began with a store without documents: the board, the whole of its order, how much of it is shown, the two lengths of it of which
-/// a crash leaves one, the tickets that are out, all acknowledgements, the commands that were sent, and what was composed.
+/// A world that began with a store without documents: the board, the whole of its order, how much of it is shown, the two lengths of it that
+/// a crash may leave, the tickets that are out, all acknowledgements, the commands that were sent, and what was composed.
 #[derive(Drop)]
 pub struct World {
     limits: Limits,
@@ -119,7 +119,7 @@ impl World {
         self.published
     }
 
-    /// The two lengths of the order of which a crash leaves one.
+    /// The two lengths of the order that a crash may leave.
     pub fn left(&self) -> (usize, usize)
         ensures { result ≡ (self.now.without, self.now.with_batch) }
     {

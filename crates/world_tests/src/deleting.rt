@@ -46,7 +46,7 @@ const GIVEN_UP: [Row; 4] = [
     (&[], Seen::Refused(5, Refusal::Deleted)),
 ];
 
-// A deletion that is lost leaves the document as it was, and is taken anew.
+// A deletion that is lost leaves the document unchanged, and is taken anew.
 const LOST: [Row; 4] = [
     (&[Crash(2), Open(2, &[])], Seen::First(true, 0)),
     (&[Resend(3)], Seen::Tickets(&[THIRD])),

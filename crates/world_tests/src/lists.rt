@@ -88,7 +88,7 @@ fn any_again(acks: &[Waiting]) -> bool {
     false
 }
 
-// runs the list of this number after a beginning; says whether the law held after each event
+// runs the list of this number after `beginning`; says whether the law held after each event
 fn run(alloc: Global, beginning: &[Happening], list: u64) -> Result<(Follower, bool), AllocError> {
     let mut follower = Follower::new(alloc);
     for event in beginning {

@@ -7,7 +7,7 @@ use world::{Follower, Happening, Waiting};
 enum Seen {
     Tickets(&'static [Waiting]),
     Acks(&'static [Waiting]),
-    /// The two lengths of the order of which a crash leaves one.
+    /// The two lengths of the order that a crash may leave.
     Left(u64, u64),
     /// How long the order is.
     Ordered(usize),
@@ -198,7 +198,7 @@ fn is_seen(follower: &Follower, seen: Seen) -> bool {
     }
 }
 
-// Goes on with the events of a row.
+// Continues with the events of a row.
 fn go_on(rt: &impl Abort, follower: &mut Follower, row: &Row) {
     for event in row.0 {
         assert!(rt; follower.step(*event).is_ok());

@@ -33,7 +33,7 @@ pub(crate) type Said = (Reply, usize);
 pub(crate) enum Seen {
     Tickets(&'static [Said]),
     Acks(&'static [Said]),
-    /// The two lengths of the order of which a crash leaves one.
+    /// The two lengths of the order that a crash may leave.
     Left(usize, usize),
     Ordered(usize),
     Settled(usize),

@@ -12,7 +12,7 @@ use Rattle.xform.specs.Outcome.{CanTransform}
 use Rattle.xform.specs.steps.Stepping.{IsStep, StandsFor, IsPartlyMade}
 use Rattle.xform.proofs.Heads.{nothing_after}
 
--- a built form stands for its operations
+-- a built form represents its operations
 pub stands-built : (ops now : List Operation) → now ≡ built ops → StandsFor now ops
 stands-built ops now is = rw is (record {
   same = λ g. ap (λ h. settled (joined h g)) (counted-spelled (settled (counted ops))) ∙ settled-joined (counted ops) g;

@@ -34,7 +34,7 @@ pub fn move_past(alloc: Global, first: &Delta, second: Delta) -> Result<Delta, R
     }
 }
 
-/// The second delta past all of these in turn, each of which has priority: what `move_past` makes of it past one after
+/// The second delta past all of these in turn, each with priority: what `move_past` makes of it past one after
 /// another. Past those that it lies apart from, as `move_past` says, two lengths and that of its first retain are
 /// counted on, in constant time and without memory; they are written where it is transformed past one, and at the end.
 /// Refused as BadOps where the base length or the output length would pass 2^48 UTF-16 code units past one of them, and

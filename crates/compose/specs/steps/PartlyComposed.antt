@@ -8,8 +8,8 @@ use Rattle.compose.specs.Composed.{composed, one_for}
 use Rattle.compose.specs.Outcome.{CanCompose, IsComposeRefused}
 use Rattle.compose.specs.steps.PairTest.{cuts}
 
--- what was made, and then what the lists that are left make, stand for both lists. While the first goes on, no more units
--- of the document before are spoken of than it speaks of; while the second goes on, no more of the document after
+-- what was made, and then what the lists that are left make, represent both lists. While the first lasts, no more units
+-- of the document before are spoken of than it speaks of; while the second lasts, no more of the document after
 pub record IsPartlyComposed (first second made before after : List Operation) : Type 0 where
   pub effect : settled (joined (counted made) (composed (counted before) (counted after))) ≡ settled (composed (counted first) (counted second))
   pub cut : cuts (counted first) (counted second) ≡ cuts (counted before) (counted after)

@@ -6,7 +6,7 @@ use refusal::Refusal;
 use std::alloc::Global;
 use std::test::Fail;
 
-/// So many runs of one letter each, of which no two have equal attributes.
+/// So many runs of one letter each, where no two have equal attributes.
 const RUNS: u32 = 10_000;
 
 // a text with an attribute n

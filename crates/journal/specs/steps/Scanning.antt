@@ -19,6 +19,6 @@ IsFront bytes left (front.Record body) =
 IsFront bytes left front.Closed = BeginsClosed bytes
 IsFront bytes left front.Short = length bytes < left
 
--- However the area goes on behind the bytes, it holds no list of records.
+-- However the area continues behind the bytes, it holds no list of records.
 abbrev pub IsNoFront : List ℕ → ℕ → Type 0
 IsNoFront bytes left = (more : List ℕ) → length bytes + length more ≡ left → (bodies : List (List ℕ)) → ¬ HoldsBodies bodies (bytes ++ more)

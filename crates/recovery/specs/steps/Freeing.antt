@@ -64,7 +64,7 @@ module _ {D : Type 0} {disk : Ghosts D} where
     pub count : count_marked (take from marked) + length members ≡ count_marked (take end marked)
     pub bytes : bytes_to marked (state_of store) from + bytes_of members ≡ bytes_to marked (state_of store) end
 
-  -- The marked documents of numbers below a bound are covered: the store goes on over the same slots, and both cells of each of them hold it at its
+  -- The marked documents of numbers below a bound are covered: the store is open over the same slots, both cells of each of them hold it at its
   -- newest revision, and no job of it is kept. The other documents are left unchanged.
   pub record AreCoveredTo (bound : ℕ) (marked : ℕ → ℕ) (old : Store D disk) (is_open : IsOpen old) (new : Store D disk) : Type 0 where
     pub goes_on : IsOpen new
@@ -72,7 +72,7 @@ module _ {D : Type 0} {disk : Ghosts D} where
     pub spared : (document : ℕ) → (bound ≤ document) ⊎ (marked document ≡ 0) → IsLeft old is_open new goes_on document
     pub raised : (document : ℕ) → document < bound → 1 ≤ marked document → IsRaised old new goes_on document
 
-  -- It was given up: the store goes on over the same slots. One marked document has its cells unchanged, and no kept job. Each other one is left
+  -- It was given up: the store is open over the same slots. One marked document has its cells unchanged, and no kept job. Each other one is left
   -- unchanged, or has both its milestones; and those that aren't marked are left unchanged.
   pub record IsHalfCovered (marked : ℕ → ℕ) (old : Store D disk) (is_open : IsOpen old) (new : Store D disk) : Type 0 where
     pub goes_on : IsOpen new
@@ -84,7 +84,7 @@ module _ {D : Type 0} {disk : Ghosts D} where
     pub dropped : jobs_for under_way (kept_jobs new) ≡ []
     pub others : (document : ℕ) → document ≢ under_way → 1 ≤ marked document → IsLeft old is_open new goes_on document ⊎ IsRaised old new goes_on document
 
-  -- The documents of the marks of a segment are covered: the store goes on over the same slots. The cells of a document without a mark are as
+  -- The documents of the marks of a segment are covered: the store is open over the same slots. The cells of a document without a mark are as
   -- they were, and so are its kept jobs; both cells of each other document hold it at its newest revision, and no job of it is kept.
   pub record AreCovered (segment : ℕ) (marks : List Mark) (old : Store D disk) (is_open : IsOpen old) (new : Store D disk) : Type 0 where
     pub goes_on : IsOpen new

@@ -100,7 +100,7 @@ AreSpelled shape cells members = Each members (λ member. Spells shape (cells me
 abbrev pub AreReady : List Member → (ℕ → Cell) → List Cells → List ℕ → Type 0
 AreReady members cells known content = (number : ℕ) (one : Cells) → is_in members number ≡ true → slice_get known number ≡ Some one → IsReady one (cells number) content
 
--- and of each behind the first ones
+-- and of each behind the first so many
 abbrev pub AreWaiting : List Member → ℕ → (ℕ → Cell) → List Cells → List ℕ → Type 0
 AreWaiting members k cells known content =
     (number : ℕ) (one : Cells) → is_in members number ≡ true → is_in (take k members) number ≡ false → slice_get known number ≡ Some one → IsReady one (cells number) content
@@ -167,7 +167,7 @@ module _ {D : Type 0} {disk : Ghosts D} where
     pub distinct : AreDistinct members
     pub newest : Each members (IsNewestOf store)
 
-  -- The milestones of a group were put: the store goes on over the same slots, both cells of each of its documents hold it at its newest revision,
+  -- The milestones of a group were put: the store is open over the same slots, both cells of each of its documents hold it at its newest revision,
   -- and those of the others are unchanged.
   pub record IsGroupPut (members : List Member) (old : Store D disk) (is_open : IsOpen old) (new : Store D disk) : Type 0 where
     pub goes_on : IsOpen new

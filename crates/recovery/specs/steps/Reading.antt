@@ -31,7 +31,7 @@ pub record IsRingOf (shape : Shape) (ring : Ring) : Type 0 where
   pub size : size_of ring ≡ shape.slot
   pub count : length (known_numbers ring) ≡ shape.slots
 
--- A content was read so, by a pick: it holds parts of this shape, which stand for this state, the ring is that of its slots, the cells
+-- A content was read so, by a pick: it holds parts of this shape, which represent this state, the ring is that of its slots, the cells
 -- are those of its documents, and its segments are marked.
 pub record IsReadAs (format : Format) (content : List ℕ) (pick : Pick) (recovered : RecoveredStore) : Type 0 where
   pub cells : List Pair

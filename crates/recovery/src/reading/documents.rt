@@ -32,7 +32,7 @@ pub(super) struct ReadDocuments {
 }
 
 /// Reads the cells of each document number, and from the one that is picked on the number's entries. `Damaged` comes exactly when
-/// the cells hold no pairs, or these and the entries stand for no state.
+/// the cells hold no pairs, or these and the entries represent no state.
 pub(super) fn read_documents<D: Disk>(
     alloc: Global,
     disk: &mut D,

@@ -1,4 +1,4 @@
--- Lists of which some items are changed, by their places.
+-- Lists with some items changed, by their places.
 use Rattle.std.specs.Prelude.{◌≡◌, ◌⊎◌, ℕ, zero, suc, List, [], ◌∷◌}
 
 -- the list with the item at this place changed, where there is one

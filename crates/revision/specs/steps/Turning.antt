@@ -32,7 +32,7 @@ leaves_live Edits = true
 leaves_live Deletes = false
 leaves_live Revives = true
 
--- whether the document is live after changes of which each suits it, by the last of them alone
+-- whether the document is live after changes that each suit it, by the last of them alone
 abbrev pub live_by_last : Bool → List Taker → Bool
 live_by_last live [] = live
 live_by_last live (first ∷ others) = live_by_last (leaves_live first.step) others

@@ -47,7 +47,7 @@ fn copies<
     runs(rt, &words, &mut io::empty(), wanted);
 }
 
-/// What comes once the store is copied: again, and onto itself, it is refused, and the source goes on.
+/// What comes once the store is copied: again, and onto itself, it is refused, and the old store still works.
 fn is_copied<
     R: Files<File = File>
         + AllocGlobal

@@ -1,4 +1,4 @@
-//! Drawn commands over two documents and three sources, each of which a store that was just opened answers as the plain program does.
+//! Drawn commands over two documents and three sources, and a store that was just opened answers each as the plain program does.
 use super::{call, is_served, path, prints, remove, runs};
 use plain_rule::{Action, Command, Draws, Limits, Mark, REFUSALS, Reply, Rule};
 use refusal::Refusal;
@@ -142,7 +142,7 @@ fn fetched(rt: &(impl Abort + AllocGlobal), rule: &Rule, doc: &str, rev: u64) ->
     }
 }
 
-// Serves the next drawn command in a run of its own, with a fetch behind it, and both get the replies of the plain program. What comes is
+// Serves the next drawn command in a run of its own, with a fetch after it, and both get the replies of the plain program. What comes is
 // the command's refusal, where it is refused.
 fn is_answered<
     R: Files<File = File>
@@ -207,7 +207,7 @@ fn floor_in(line: &str) -> Option<u64> {
     line.split(' ').nth(2)?.parse().ok()
 }
 
-// Takes over the floors that a store prints, of which milestones may have raised some: all else is the plain program's.
+// Takes over the floors that a store prints, since milestones may have raised some: all else is the plain program's.
 fn floors_rise<
     R: Files<File = File>
         + AllocGlobal

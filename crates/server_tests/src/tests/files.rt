@@ -13,7 +13,7 @@ use std::thread::Threads;
 use std::time::Clock;
 
 /// Hello and the creation of `d` by source `a`, and the same with other names, one run after another over a store of two
-/// documents: what comes behind the greeting.
+/// documents: what comes after the greeting.
 const RUNS: [(&str, &str); 4] = [
     (
         "{\"do\":\"hello\",\"source\":\"a\"}\n{\"do\":\"create\",\"doc\":\"d\",\"n\":1,\"ops\":[{\"insert\":\"z\"}]}\n",

@@ -13,7 +13,7 @@ const SIZE: &str = "384";
 
 const EDITS: u64 = 200;
 
-/// Two documents, of which the second one alone is edited.
+/// Two documents, where the second one alone is edited.
 const CREATES: &str = "{\"do\":\"create\",\"doc\":\"e\",\"n\":1,\"ops\":[{\"insert\":\"e\"}]}\n\
     {\"do\":\"create\",\"doc\":\"d\",\"n\":1,\"ops\":[{\"insert\":\"zzzz\"}]}\n";
 

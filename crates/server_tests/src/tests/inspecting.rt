@@ -12,7 +12,7 @@ use std::time::Clock;
 const EMPTY: &str = "format 2\nslots 2\nslot 256\ndocs 2\ncell 256\nsources 4\nkeep 2\n\
     documents 0\ndeleted 0\ndocuments_left 2\nslots_open 0\nnewest_segment 0\njournal_bytes 0\n";
 
-/// The same with two documents, of which one is deleted. The slot has a head of 9 bytes, and records of 50, 50 and 33.
+/// The same with two documents, where one is deleted. The slot has a head of 9 bytes, and records of 50, 50 and 33.
 const FILLED: &str = "format 2\nslots 2\nslot 256\ndocs 2\ncell 256\nsources 4\nkeep 2\n\
     documents 2\ndeleted 1\ndocuments_left 0\nslots_open 1\nnewest_segment 1\njournal_bytes 142\n";
 

@@ -105,7 +105,7 @@ const ROWS: [Row; 11] = [
         back: b"",
         replies: "",
     },
-    // 1,024 operations, each of which inserts nothing.
+    // 1,024 operations, where each inserts nothing.
     Row {
         front: b"{\"do\":\"hello\",\"source\":\"a\"}\n{\"do\":\"create\",\"doc\":\"d\",\"n\":1,\"ops\":[{\"insert\":\"\"}",
         middle: b",{\"insert\":\"\"}",
@@ -126,7 +126,7 @@ const ROWS: [Row; 11] = [
 /// A line of arrays that nest so deep, and its reply.
 const NESTED: [(usize, &str); 2] = [(127, BAD_MESSAGE), (128, BAD_LINE)];
 
-/// A line behind hello, and its reply: the first refusal that holds.
+/// A line after hello, and its reply: the first refusal that holds.
 const REFUSED: [(&str, &str); 22] = [
     ("{\"do\":\"hello\",\"source\":\"a\"}\n", BAD_MESSAGE),
     ("{\"do\":\"hello\",\"source\":\"a b\"}\n", BAD_MESSAGE),

@@ -8,7 +8,7 @@ use std::sync::Wait;
 use std::thread::Threads;
 use std::time::Clock;
 
-/// Behind the creation of `d` with z: x after it, and the first unit away.
+/// After the creation of `d` with z: x after it, and the first unit away.
 const EDITS: &str =
     "{\"do\":\"edit\",\"doc\":\"d\",\"n\":2,\"base\":1,\"ops\":[{\"retain\":1},{\"insert\":\"x\"}]}\n\
     {\"do\":\"edit\",\"doc\":\"d\",\"n\":3,\"base\":2,\"ops\":[{\"delete\":1}]}\n";
@@ -122,7 +122,7 @@ fn a_store_of_the_first_format_is_brought_over(rt: HostRuntime) {
     remove(&rt, new);
 }
 
-/// A file of these bytes is brought over to, and becomes that many bytes, of which one behind the layout is as it was.
+/// A file of these bytes is brought over to, and becomes that many bytes, where one behind the layout is unchanged.
 fn is_filled<
     R: Files<File = File>
         + AllocGlobal

@@ -65,7 +65,7 @@ fn roomy(rt: &(impl Abort + AllocGlobal)) -> MemDisk {
     )
 }
 
-/// A device that was formatted, and of which no call is known.
+/// A device that was formatted, with no call known.
 fn with_store(rt: &(impl Abort + AllocGlobal), mut disk: MemDisk, shape: Shape) -> MemDisk {
     assert_eq!(rt; format_device(rt.alloc(), &mut disk, shape), Ok(()));
     let bytes = disk.bytes().to_vec(rt.alloc()).expect(rt, "memory");

@@ -87,7 +87,7 @@ fn the_version_is_printed(rt: HostRuntime) {
     );
 }
 
-/// A system that gives two words, of which the second one isn't UTF-8.
+/// A system that gives two words, where the second one isn't UTF-8.
 #[derive(Drop)]
 struct Latin(Global);
 

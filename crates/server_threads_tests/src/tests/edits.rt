@@ -125,7 +125,7 @@ fn all_edit(rt: &(impl Abort + AllocGlobal), writers: &[TcpStream], number: u64)
     }
 }
 
-// 300 edits of 60 writers make the revisions from 2 on, and behind the last one no line comes but a reply.
+// 300 edits of 60 writers make the revisions from 2 on, and after the last one no line comes but a reply.
 fn follow_all<R: Abort + AllocGlobal + Net<Stream = TcpStream>>(rt: &R, address: SocketAddr) {
     let ann = greeted(rt, address, "ann");
     is_told(rt, &ann, CREATE, TAKEN_1);

@@ -37,7 +37,7 @@ fn creation(rt: &(impl Abort + AllocGlobal)) -> String {
     ).expect(rt, "memory")
 }
 
-/// A device that fails behind the creation.
+/// A device that fails after the creation.
 fn failing(rt: &(impl Abort + AllocGlobal)) -> FaultDisk {
     let plan = FaultPlan::stop(u64::MAX, Left::Nothing);
     let closed = opened(rt, FaultDisk::new(formatted(rt), plan)).close();

@@ -35,7 +35,7 @@ const NO_DELTAS: &str = "{\"deltas\":[],\"doc\":\"d\",\"ok\":\"since\",\"rev\":1
 
 const FETCH_OTHER: &str = "{\"do\":\"fetch\",\"doc\":\"e\"}";
 
-// The creation is on the disk when the device fails: then no command is taken, and the document is shown as it was.
+// The creation is on the disk when the device fails: then no command is taken, and the document is shown unchanged.
 fn fail<R: Abort + AllocGlobal + Net<Stream = TcpStream>>(rt: &R, address: SocketAddr) {
     let ann = greeted(rt, address, "ann");
     let bob = greeted(rt, address, "bob");

@@ -99,7 +99,7 @@ fn a_session_over_streams_is_answered_and_its_edits_are_kept(rt: HostRuntime) {
     assert_eq!(&rt; written.as_str(), KEPT);
 }
 
-// How many calls an opening makes, and behind it the creation, which opens a slot.
+// How many calls an opening makes, and after it the creation, which opens a slot.
 fn calls_before_the_edit(rt: &(impl Abort + AllocGlobal)) -> u64 {
     let plan = FaultPlan::stop(u64::MAX, Left::Nothing);
     let closed = opened(rt, FaultDisk::new(formatted(rt), plan)).close();

@@ -12,11 +12,11 @@ use Rattle.delta.specs.Operation.{Operation}
 use Rattle.optext.specs.Described.{key_of, scalar_of, delta_of}
 use Rattle.session.specs.declared.tokened.fields.Fields.{Fields}
 
--- the tokens begin with a value, which nests no deeper than a depth, and go on with others
+-- the tokens are a value, which nests no deeper than a depth, and others behind it
 abbrev pub Reads : ℕ → List Token → Data → List Token → Type 0
 Reads depth tokens value left = (nests : ℕ) → depth ≤ nests → converted of_json (value_at nests tokens) ≡ Some (value, left)
 
--- the tokens begin with such a value, and go on with others
+-- the tokens are such a value, and others behind it
 abbrev pub Spells : (Data → Type 0) → ℕ → List Token → List Token → Type 0
 Spells Is depth tokens left = (value : Data) × Is value × Reads depth tokens value left
 
@@ -24,7 +24,7 @@ Spells Is depth tokens left = (value : Data) × Is value × Reads depth tokens v
 abbrev pub IsScalarToken : Token → Scalar → Type 0
 IsScalarToken token scalar = (value : Data) × (scalar_of value ≡ Some scalar) × ((left : List Token) → Reads 0 (token ∷ left) value left)
 
--- an object's tokens spell these members first, each of which nests no deeper than a depth, and then go on with others
+-- an object's tokens spell these members first, where each nests no deeper than a depth, and then others
 abbrev pub ReadsMembers : ℕ → List Token → Members → List Token → Type 0
 ReadsMembers depth tokens found left =
     (nests : ℕ) → depth ≤ nests → (n : ℕ) × (length left ≤ n)
@@ -73,6 +73,6 @@ AddsField old name new tokens left =
     (members : Members) → AreFields old members
     → (get_member name members ≡ None) × Spells (λ value. AreFields new (put name value members)) 3 tokens left
 
--- a value is an object of five members, of which this was read
+-- a value is an object of five members, and this was read of them
 abbrev pub IsEdit : Fields → Data → Type 0
 IsEdit fields value = (members : Members) × (value ≡ object members) × AreFields fields members × (members_len members ≡ 5)

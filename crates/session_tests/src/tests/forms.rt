@@ -48,7 +48,7 @@ const TAKEN: [Said; 13] = [
         r#"{"do":"edit","doc":"d","n":6,"base":5,"ops":[]}"#,
         r#"{"doc":"d","n":6,"ok":"taken","rev":6}"#,
     ),
-    // Values of attributes, of which one is there twice, and null on a retain.
+    // Values of attributes, where one is there twice, and null on a retain.
     (
         r#"{"do":"edit","doc":"d","n":7,"base":6,"ops":[{"insert":"x","attributes":{"z":"t","c":-5,"b":7,"f":false,"b":8}},{"retain":1,"attributes":{"gone":null,"bold":true,"size":12}}]}"#,
         r#"{"doc":"d","n":7,"ok":"taken","rev":7}"#,

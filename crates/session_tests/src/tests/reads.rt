@@ -75,7 +75,7 @@ const READS: [Said; 18] = [
     ),
 ];
 
-/// What was read of a document before its deletion isn't shown again, and the revisions go on.
+/// What was read of a document before its deletion isn't shown again, and the revisions continue.
 const DELETED: [Said; 15] = [
     (r#"{"do":"hello","source":"ann"}"#, r#"{"ok":"hello"}"#),
     (

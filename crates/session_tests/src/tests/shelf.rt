@@ -43,7 +43,7 @@ fn has_letters(
     );
 }
 
-/// A document at revision 66, each revision of which has as many letters. Lines are said in pieces of so many bytes.
+/// A document at revision 66; each of its revisions has as many letters. Lines are said in pieces of so many bytes.
 fn edited(rt: &(impl Abort + AllocGlobal), size: usize) -> Conversation
     requires { 1 ≤ size }
 {

@@ -279,7 +279,7 @@ fn is_row(rt: &(impl Abort + AllocGlobal), talk: &mut Conversation, row: &Row, s
     assert_eq!(rt; text.as_str(), joined(rt, lines).as_str());
 }
 
-/// The rows, behind the beginning, over a state that keeps two revisions.
+/// The rows, after the beginning, over a state that keeps two revisions.
 fn are_followed(rt: &(impl Abort + AllocGlobal), rows: &[Row], size: usize)
     requires { 1 ≤ size }
 {

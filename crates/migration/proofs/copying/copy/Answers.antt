@@ -15,7 +15,7 @@ use Rattle.migration.proofs.Moments.{agreeing, uncopied}
 use Rattle.migration.proofs.Rooms.{by_limits, by_shape}
 use Rattle.migration.proofs.copying.copy.Goals as goal
 
--- what is held agrees with whatever the old content stands for
+-- what is held agrees with whatever the old content represents
 held_agrees : (content : List ℕ) (held state : State) → ((s : State) → Found content Newer s → s ≡ held) → ((s : State) → FoundAs content s → Agree held s)
     → StandsFor content state → Agree held state
 held_agrees content held state only runs (inl found) = subst (λ (s : State). Agree held s) (sym (only state found)) (agrees held)

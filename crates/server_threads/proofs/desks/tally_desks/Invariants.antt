@@ -5,7 +5,7 @@ use mathlib.Core.List.{IsPrefix}
 use Rattle.flusher.specs.Holding.{store_of, told_of, committed_of}
 use Rattle.server_threads.proofs.desks.tally_desks.Given as goal
 
--- the desks so far are tallied, each of which was told of no more than is published and committed, and found no more of the order than the
+-- the desks so far are tallied, where each was told of no more than is published and committed, and found no more of the order than the
 -- token has
 abbrev pub invariant-loop-desk : goal.invariant-loop-desk
 invariant-loop-desk g l = record {

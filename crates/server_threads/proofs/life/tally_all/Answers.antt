@@ -5,7 +5,7 @@ use Rattle.flusher.specs.Holding.{told_of, committed_of, waiting_of}
 use Rattle.server_threads.proofs.Tallied.{begins_longer, from_nothing}
 use Rattle.server_threads.proofs.life.tally_all.Goals as goal
 
--- the desks are tallied, of a flusher that goes on unchanged
+-- the desks are tallied, and the flusher is unchanged
 pub returns-clause-tallied : goal.returns-clause-tallied
 returns-clause-tallied g c = record {
   store = c.tally_desks.ensures.store;

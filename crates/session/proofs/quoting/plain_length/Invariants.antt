@@ -2,7 +2,7 @@ use Rattle.std.proofs.Common.{◌≡◌, ◌≤◌, ◌-◌, length, take}
 use Rattle.json.specs.Print.{escape}
 use Rattle.session.proofs.quoting.plain_length.Given as goal
 
--- the bytes so far stand for themselves
+-- the bytes so far need no escape
 abbrev pub invariant-loop-length : goal.invariant-loop-length
 invariant-loop-length l = record {
   within : l.length ≤ length l.text;

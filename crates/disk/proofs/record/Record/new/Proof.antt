@@ -1,4 +1,4 @@
--- A record is made of no bytes, and stands for the empty list.
+-- A record is made of no bytes, and represents the empty list.
 use mathlib.Core.Path.{refl}
 use mathlib.Core.List.{[], ◌∷◌}
 use seplogic.Ra.Ura.{Ura}

@@ -164,7 +164,7 @@ returns-in-Err-put_group-clause-faults g c = faults_on tt (Err c.in-Err-put_grou
 pub returns-in-Err-put_group-clause-goes : goal.returns-in-Err-put_group-clause-goes
 returns-in-Err-put_group-clause-goes g c = goes_same c.loop-from.invariant.keeps.state c.loop-from.invariant.goes c.put_group.ensures.goes
 
--- behind the last document
+-- after the last document
 pub returns-clause-covered : goal.returns-clause-covered
 returns-clause-covered g c is_open =
     let all : c.loop-from.from ≡ length c.args.marked.now = omega (arith, c.loop-from.invariant.within, c.loop-from-test.false) in

@@ -12,7 +12,7 @@ use Rattle.recovery.proofs.Refusals.{memory_no_fault}
 use Rattle.recovery.proofs.Unwritten.{but_jobs_on}
 use Rattle.recovery.proofs.store.Store.put_document.Goals as goal
 
--- where memory ran out, the job alone is dropped behind the put
+-- where memory ran out, the job alone is dropped after the put
 pub returns-else-ne-clause-faults : goal.returns-else-ne-clause-faults
 returns-else-ne-clause-faults g c =
     let memory : c.in-Err.refusal ≡ NoMemory = search rules in

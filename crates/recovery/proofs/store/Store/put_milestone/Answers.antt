@@ -194,7 +194,7 @@ returns-in-Ok-clause-done g c is_open =
       put = refl;
     }
 
--- refused for want of memory: nothing was called
+-- refused as out of memory: nothing was called
 pub returns-in-Err-replace_older-clause-untouched : goal.returns-in-Err-replace_older-clause-untouched
 returns-in-Err-replace_older-clause-untouched g c told =
     let store = c.args.self.now in

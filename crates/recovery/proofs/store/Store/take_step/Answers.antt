@@ -59,7 +59,7 @@ returns-in-Retire-clause-refused g c =
     subst (λ (s : StoreStep). IfErr c.retire.result (λ e. e ≢ NoMemory → e ≢ Fault → IsWhy s e c.args.self.now)) (sym c.in-Retire.is)
     (retire_why c.args.self.now c.retire.new.self c.retire.result c.retire.ensures.only c.retire.ensures.needed)
 
--- the kept jobs behind it
+-- the kept jobs after it
 pub returns-in_default-clause-jobs : goal.returns-in_default-clause-jobs
 returns-in_default-clause-jobs g c = subst (λ (s : StoreStep). kept_jobs c.commit.new.self ≡ jobs_behind s (kept_jobs c.args.self.now)) (sym c.in-Commit.is) c.commit.ensures.jobs
 

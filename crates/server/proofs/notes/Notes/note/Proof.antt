@@ -81,7 +81,7 @@ module _ {M : Type 1} {𝓤 : Ura M} (𝓛 : Logic 𝓤) (at_mem : Memory → SP
         -- the borrow is opened at the old record ..
         move ! (0 ∷ 1 ∷ 2 ∷ []) $ opens ! tt kind.the_row {h = old} block offset (λ held.
         sets ! (of_opd ! (unit_lit !)) refl (tt, tt) $
-        -- .. and closed at the new one, which the same bytes stand for
+        -- .. and closed at the new one, which the same bytes represent
         move ! (1 ∷ []) $ use1 𝓛 (‵ ((kind.the_row).own_val new held)) (id⊢ 𝓤 _) $ move ! (1 ∷ 0 ∷ []) $ closes ! tt kind.the_row new held block offset $
         returns ! (look_at ! 0 refl) $ free_all ! refl $
         keep ! (0 ∷ 1 ∷ 2 ∷ 3 ∷ 4 ∷ []) $ by ! ends))
