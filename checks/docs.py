@@ -53,7 +53,7 @@ PHRASES = {
 # names that types of two crates or more have today (docs/WORDS.md says what some of them mean). A new type gets a name of its own.
 TWICE = {
     "Action", "Ahead", "Answer", "AreMarked", "AreParts", "Batch", "Begun", "Board", "Call", "Change", "ComesOf", "Command", "Content", "Cursor",
-    "Desk", "Ended", "Event", "Exchange", "Failure", "Fits", "FitsNow", "Front", "HasRoom", "IsAppended", "IsFree", "IsKeptFrom", "IsNext",
+    "Desk", "Ended", "Event", "Exchange", "Failure", "Fits", "FitsNow", "Found", "Front", "HasRoom", "IsAppended", "IsFree", "IsKeptFrom", "IsNext",
     "IsPart", "IsReadAs", "IsStep", "IsUncommitted", "IsWritten", "Kept", "Key", "Kind", "Limits", "Log", "Mark", "News", "Nothing", "Opened",
     "Order", "Part", "Past", "Peer", "Place", "Record", "Reply", "Run", "Sent", "Shown", "Shows", "Spells", "Stands", "StandsFor", "State",
     "Step", "Stop", "Stops", "Tally", "Ticket", "Told", "Unread", "Waiting", "Written",

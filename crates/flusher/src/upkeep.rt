@@ -117,7 +117,7 @@ impl<D: Disk, J: Site> Flusher<D, J> {
         self.store.give_up_job(job);
     }
 
-    /// Puts the milestones of composed jobs as one step, as `Store::put_milestones` does, and returns how many of the first ones it took. What is held,
+    /// Puts the milestones of composed jobs as one step, as `Store::put_milestones` does, and returns how many of them it took, from the first on. What is held,
     /// and what is published, stays.
     pub fn put_milestones(&mut self, alloc: Global, composed: &[Composed]) -> Result<usize, Refusal>
         ensures faults { FailsAtFaults result (store_of self.old) (store_of self.new) }

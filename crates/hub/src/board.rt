@@ -248,7 +248,7 @@ impl<D, J: Site> Board<D, J> {
         found.find(&mut self.order, told);
     }
 
-    // What was found begins its order, of which the token has no less then.
+    // What was found is a prefix of its order, and of what the token has after it.
     pub(crate) fn join(&mut self, found: &Found<J>, ordered: &mut Ordered<J>)
         ensures same { self.new ≡ self.old }
         ensures found { IsPrefix found.now ordered.new }

@@ -8,7 +8,7 @@ ghost use Rattle.published.specs.Order.{IsLegal};
 use published::{Order, Ordered, Site, Told};
 use std::marker::Model;
 
-/// A beginning of the run's order: what the commands of one who submits have found of it, and nothing at first. A hub alone makes it longer.
+/// A prefix of the order: what the commands of one who submits have found of it, and nothing at first. A hub alone makes it longer.
 /// Contracts see it as its entries. It takes no memory.
 #[derive(Drop)]
 pub struct Found<J: Site> {
@@ -48,7 +48,7 @@ impl<J: Site> Found<J> {
         self.order = Some(whole);
     }
 
-    // It begins the order, of which the token has no less then.
+    // It is a prefix of the order, and of what the token has after it.
     pub(crate) fn join(&self, order: &mut Order<J>, ordered: &mut Ordered<J>)
         ensures same { order.new ≡ order.old }
         ensures found { IsPrefix self.now ordered.new }

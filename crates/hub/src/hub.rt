@@ -360,7 +360,7 @@ impl<D, J: Site> Hub<D, J> {
         kept.into_inner().into_board()
     }
 
-    /// What was found of the order and what a token has of it begin one order, of which the token has no less then. It takes no memory.
+    /// What was found, and what a token has, are prefixes of one order, and of what the token has after it. It takes no memory.
     pub fn join<R: Wait>(&self, rt: &R, found: &Found<J>, ordered: &mut Ordered<J>)
         ensures found { IsPrefix found.now ordered.new }
         ensures before { IsPrefix ordered.old ordered.new }

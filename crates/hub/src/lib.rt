@@ -83,7 +83,7 @@
 //!
 //! - What a hub's call did to the board under the lock: no clause can name the board at that moment. The tokens that it moves say
 //!   some of it (a ticket, a seat's count, a `Told`, a `Found`), and tests the rest. That a command has its place in the order a ticket says.
-//!   `Hub::submit_after` refuses by a beginning of the run's order which has all that its caller was told and had found; whether more was
+//!   `Hub::submit_after` refuses by a prefix of the order that has all that its caller was told and had found; whether more was
 //!   ordered by then no clause says, nor that memory is short where it says so. Of a refusal of `Hub::submit` it is said only that some legal
 //!   history from the run's start makes a board that gives it. That the store has failed both say by a token alone.
 //! - That a thread which waits is ever woken.

@@ -40,7 +40,7 @@ module _ {J : Type 0} where
       (count : ℕ) (before after : List Entry) → IsSubmittedAfter start old.shown before command submitted after
       → PassesAtHub start (with_seat old count before) (Answered command result) (with_seat new (counted_by count submitted) after)
 
-  -- What commands were answered by their submissions, the last of which found all that this desk has found.
+  -- What commands were answered by their submissions, where the last one found all that this desk has found.
   abbrev pub AnswersForAll : State → Desk → List Command → List (Result Ticket (NotSubmitted J)) → List Exchange → Desk → Type 0
   AnswersForAll start old commands submitted asked new =
       (count : ℕ) (before : List Entry) → AreSubmittedAfter start old.shown before commands submitted old.found

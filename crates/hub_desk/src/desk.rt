@@ -144,7 +144,7 @@ impl<'a, D, J: Site, R> HubDesk<'a, D, J, R> {
 }
 
 impl<D, J: Site, R: Wait> HubDesk<'_, D, J, R> {
-    /// What its commands have found begins the run's order, of which the token has no less then. It takes no memory.
+    /// What its commands have found is a prefix of the life's order, and of what the token has after it. It takes no memory.
     pub fn join(&self, ordered: &mut Ordered<J>)
         ensures found { IsPrefix self.now.found ordered.new }
         ensures before { IsPrefix ordered.old ordered.new }

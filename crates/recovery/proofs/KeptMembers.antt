@@ -331,7 +331,7 @@ taken_all P (suc n) [] all = All-nil P
 taken_all P (suc n) (job ∷ jobs) all = All-cons P job (take n jobs) (All-head P job jobs all) (taken_all P n jobs (All-tail P job jobs all))
 
 module _ {D : Type 0} {disk : Ghosts D} where
-  -- what no call costs, and what the first ones cost
+  -- what no call costs, and what the first jobs cost
   pub costs_together_none : (store : Store D disk) (composed : List Job) → CostsTogether composed store store
   costs_together_none store composed = record {
     all = costs_still disk (3 * length composed + 3) 3 store.device store.device refl;

@@ -24,7 +24,7 @@ bytes_in document (Some found) = length (frame (cell_body document (newest_cell 
 abbrev pub bytes_at : State → ℕ → ℕ
 bytes_at state document = bytes_in document (slice_get state.documents document)
 
--- the bytes of those documents of numbers below a bound of which something is marked
+-- the bytes of the documents of numbers below a bound that have a mark
 abbrev pub bytes_below : State → (ℕ → ℕ) → ℕ → ℕ
 bytes_below state marked zero = 0
 bytes_below state marked (suc document) = bytes_below state marked document + (if nat_lt 0 (marked document) then bytes_at state document else 0)

@@ -39,7 +39,7 @@ with_all_put [] cells = cells
 with_all_put (job ∷ jobs) cells = with_all_put jobs (with_put job cells)
 
 module _ {D : Type 0} {disk : Ghosts D} where
-  -- After the milestones of jobs were put: the store goes on over the same slots, with the cells that one after another of `put_milestone` leaves.
+  -- After the milestones of jobs were put: the store is open over the same slots, with the cells that `put_milestone` for one after another leaves.
   pub record ArePutNow (put : List Job) (old : Store D disk) (is_open : IsOpen old) (new : Store D disk) : Type 0 where
     pub goes_on : IsOpen new
     pub same_table : goes_on.table ≡ is_open.table

@@ -20,7 +20,7 @@ use std::alloc::Global;
 
 impl<D: Disk> Store<D> {
     /// Puts the milestones of composed jobs as one step: of each job that is still the one that the store keeps of its document, as
-    /// `put_milestone` puts one, and passes the others. It takes the first ones, as many as there is memory for and as four megabytes hold, and
+    /// `put_milestone` puts one, and passes the others. It takes a prefix, as many as there is memory for and as four megabytes hold, and
     /// returns how many it took; at least one, where there is one. Where it passes all of these, it makes no call of the device, and all is
     /// unchanged. All memory is taken before the first call of the device: `NoMemory` comes where there was none for the first of them, and
     /// leaves all unchanged. After a `Fault` the store has failed. The documents stay.

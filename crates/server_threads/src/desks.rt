@@ -66,7 +66,7 @@ pub(crate) fn desks_at<'a, J: Site, R: Wait, D: Disk + Drop>(
 }
 
 /// Tallies the seats of desks that are used no longer, where each was told of a prefix of the batches that are published and
-/// committed. What they found of the order begins it, of which the token has no less then. It takes no memory.
+/// committed. What they found is a prefix of the order, and of what the token has after it. It takes no memory.
 pub(crate) fn tally_desks<J: Site, R: Wait, D: Disk>(
     flusher: &mut Flusher<D, J>,
     desks: Vec<HubDesk<'_, D, J, R>>,

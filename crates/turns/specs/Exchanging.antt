@@ -32,7 +32,7 @@ module _ {D : Type 0} {disk : Ghosts D} where
   IsFirstLookedAt every old [] new waiting = Unit {0}
   IsFirstLookedAt every old (first ∷ others) new waiting = IsLookedAt every old first new waiting
 
-  -- Of what was to be put the first ones were put, and the others are still to be put; or there was no memory for the first, and all is unchanged.
+  -- Of what was to be put a prefix was put, and the others are still to be put; or there was no memory for the first, and all is unchanged.
   abbrev pub ArePutFirst : List Job → List Job → Store D disk → Store D disk → Type 0
   ArePutFirst unput rest old new =
       ((count : ℕ) × (count ≤ length unput) × (unput ≢ [] → 1 ≤ count) × (rest ≡ drop count unput) × ArePut (take count unput) old new)

@@ -170,7 +170,7 @@ impl Exchange {
         self.queue.add(job.document_number());
     }
 
-    // Puts the first ones of the milestones that are to be put as one step, and tells whether there are more and there was memory. It passes those whose
+    // Puts a prefix of the milestones that are to be put as one step, and tells whether there are more and there was memory. It passes those whose
     // job isn't the one that is kept of its document any more. What found no memory is still to be put. The documents are looked at again. Refused with
     // `Fault` alone.
     #[tactic(auto, using(crate::proofs::Writing::keeps_call, crate::proofs::Writing::upkeep_fault, crate::proofs::Writing::upkeep_but))]
@@ -334,7 +334,7 @@ fn push_in_room(unput: &mut Vec<Composed>, composed: Composed)
     }
 }
 
-// Drops the first ones of what was to be put.
+// Drops so many of what was to be put, from the first on.
 fn drop_first(unput: &mut Vec<Composed>, count: usize)
     requires { count ≤ length unput.old.items }
     ensures items { unput.new.items ≡ drop count unput.old.items }

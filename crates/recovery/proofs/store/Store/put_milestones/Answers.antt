@@ -36,7 +36,7 @@ returns-in-Err-clause-costs g c = costs_together_none c.args.self.now c.args.com
 pub returns-in-Err-clause-goes : goal.returns-in-Err-clause-goes
 returns-in-Err-clause-goes g c = goes_nowhere c.args.self.now
 
--- what comes of the first ones is put
+-- what the first jobs make is put
 pub put_once-requires-clause-kept : goal.put_once-requires-clause-kept
 put_once-requires-clause-kept g c = (
   take c.in-Ok.group.end c.args.composed.now,

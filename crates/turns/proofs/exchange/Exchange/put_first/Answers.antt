@@ -11,7 +11,7 @@ returns-in-Ok-clause-upkeep g c =
     upkeep_done c.in-Ok.count _ c.args.flusher.now c.put_milestones.new.self (keeps_call c.args.flusher.now c.put_milestones.new.self e.goes e.state e.told e.committed e.waiting)
     c.in-Ok.ensures.faults.fails
 
--- the first ones are put
+-- a prefix is put
 pub drop_first-requires : goal.drop_first-requires
 drop_first-requires g c = subst (λ (l : List Job). c.in-Ok.count ≤ length l) c.deref-2.ensures.value c.in-Ok.ensures.count.0
 
