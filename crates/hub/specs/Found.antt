@@ -21,8 +21,8 @@ abbrev pub all_found : Option (List Entry) → List Entry
 all_found None = []
 all_found (Some order) = order
 
--- A command is refused where the order is this: out of memory, where the answer then rests on what is to be made in memory, or as the rule
--- of acceptance refuses it after that order.
+-- The rule of acceptance refuses a command so after this order; or it is refused as out of memory, where the rule's answer needs something
+-- that is made in memory.
 abbrev pub IsRefusedAfter : State → List Entry → Command → Refusal → Type 0
 IsRefusedAfter start order command refusal =
     ((refusal ≡ NoMemory) × (may_want_memory command.action (answer (fold start (takens order)) command) ≡ true))
@@ -37,7 +37,7 @@ module _ {J : Type 0} where
   IsGivenAt start order command (Err (ByBoard refusal)) = IsRefusedAfter start order command refusal
 
 -- A command was submitted by one who was told of these batches and had found that much of the order: what comes of it is by an order that
--- has all that first. The order is a legal history from the start of the run, and is found from then on.
+-- begins with all that. The order is a legal history from the start of the run, and is found from then on.
 pub record IsSubmittedAfter {J : Type 0} (start : State) (told : List (List Taken)) (old : List Entry) (command : Command) (submitted : Result Ticket (NotSubmitted J)) (new : List Entry) : Type 0 where
   pub legal : IsLegal start new
   pub given : IsGivenAt start new command submitted
@@ -46,7 +46,7 @@ pub record IsSubmittedAfter {J : Type 0} (start : State) (told : List (List Take
   pub begins : IsPrefix (commands_of told) (takens new)
 
 module _ {J : Type 0} where
-  -- Commands were submitted one after another: what comes of each one is by an order that has first what the one before it found.
+  -- Commands were submitted one after another: the answer to each is by an order that begins with what the one before it found.
   abbrev pub AreSubmittedAfter : State → List (List Taken) → List Entry → List Command → List (Result Ticket (NotSubmitted J)) → List Entry → Type 0
   AreSubmittedAfter start told old [] [] new = new ≡ old
   AreSubmittedAfter start told old [] (first ∷ others) new = ⊥

@@ -237,7 +237,7 @@ impl<D, J: Site> Board<D, J> {
         }
     }
 
-    // Finds the whole order of it, which has first what was found before and what was told.
+    // Finds the whole order of it, which begins with what was found before, and with what was told.
     pub(crate) fn find(&mut self, told: &Told<D, J>, found: &mut Found<J>)
         ensures same { self.new ≡ self.old }
         ensures whole { found.new ≡ self.old.board.order }

@@ -33,7 +33,7 @@ impl<J: Site> Found<J> {
         Found { order: None }
     }
 
-    // Finds the whole order, which has first what was found of it before, and what was told of it.
+    // Finds the whole order, which begins with what was found of it before, and with what was told of it.
     pub(crate) fn find<D>(&mut self, order: &mut Order<J>, told: &Told<D, J>)
         ensures same { order.new ≡ order.old }
         ensures whole { self.new ≡ order.old }

@@ -146,7 +146,7 @@ impl<D, J: Site> Hub<D, J> {
     }
 
     /// Submits a command, as `submit` does, by one who was told of what is published and has found that much of the order, and finds more of
-    /// it: the order that was behind the command once it was answered. That order has all first that was told and found before. A ticket
+    /// it: the order that was behind the command once it was answered. That order begins with all that was told and found before. A ticket
     /// is of just this order, and a refusal is what the rule of acceptance answers after it, or that memory is short where that answer
     /// rests on what is made in memory. The seat counts the command exactly when it was taken.
     pub fn submit_after<R: Wait>(
@@ -173,7 +173,7 @@ impl<D, J: Site> Hub<D, J> {
     }
 
     /// Submits commands one after another, each as `submit_after` does, under one hold of the board's lock: the answers are in their order,
-    /// and each one's order has first what the one before it found. Refused with `NoMemory` where there is none for the list, which is made
+    /// and each one's order begins with what the one before it found. Refused with `NoMemory` where there is none for the list, which is made
     /// first, and then nothing is submitted or found.
     pub fn submit_all_after<R: Wait>(
         &self,

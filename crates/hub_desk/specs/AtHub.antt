@@ -26,7 +26,7 @@ pub record Desk : Type 0 where
   pub stopped : Bool
   pub found : List Entry
 
--- A command found the order: a legal history from the start of the run, which has first what the desk's earlier commands found of it, and
+-- A command found the order: a legal history from the start of the run, which begins with what the desk's earlier commands found of it, and
 -- what the desk has shown.
 pub record Finds (start : State) (old : Desk) (new : Desk) : Type 0 where
   pub legal : IsLegal start new.found
@@ -58,7 +58,7 @@ pub record Stops (start : State) (old : Desk) (command : Command) (new : Desk) :
   pub submits : ((new ≡ record old { stopped = true; found = new.found }) × Finds start old new)
       ⊎ ((ticket : Ticket) × Submits start old command ticket new)
 
--- It is refused by the order that was found then, which has all first that its session knew of; and nothing else of the desk changes.
+-- It is refused by the order that was found then, which begins with all that its session knew of; and nothing else of the desk changes.
 pub record IsRefusedAt (start : State) (old : Desk) (command : Command) (refusal : Refusal) (new : Desk) : Type 0 where
   pub refused : IsRefusedAfter start new.found command refusal
   pub finds : Finds start old new

@@ -204,7 +204,7 @@ impl<D, J: Site, R: Wait> HubDesk<'_, D, J, R> {
     }
 
     // Submits a command, and waits for nothing but the board. What it gives, a ticket or a refusal, is by the order that it finds, which
-    // has first what was found before and what is shown.
+    // begins with what was found before, and with what is shown.
     fn submit(&mut self, alloc: Global, command: &Command) -> Result<Ticket<J>, NotSubmitted<J>>
         ensures after { IsSubmittedAfter J.start self.old.shown self.old.found command.now result self.new.found }
         ensures counts { self.new ≡ with_seat self.old (counted_by self.old.counted result) self.new.found }

@@ -5,7 +5,7 @@
 //! prefix of what is published, and the desk answers without a look at the state. What it shows is read through the viewer, which waits for
 //! nobody. Commands of lines that were sent ahead are submitted one after another, under one hold of the board's lock, and then one wait,
 //! for the last ticket, serves for all of them. It answers a command with `StoreFailed` only by a token that the hub alone makes, and keeps
-//! that. Each command finds the order: what it is answered by has first what the desk has shown and what its earlier commands found, so a
+//! that. Each command finds the order: what it is answered by begins with what the desk has shown and what its earlier commands found, so a
 //! refusal, too, is by the run's one order. `specs/AtHub.antt` says what passes between it and a session, `specs/Standing.antt` when a
 //! command stands in a state, and `laws` what that is good for.
 //!

@@ -60,7 +60,7 @@ module _ {D : Type 0} {disk : Ghosts D} where
   abbrev pub HaveRoom : List Job → Store D disk → Type 0
   HaveRoom jobs store = All (λ job. (one : Cells) → slice_get (known_cells store) job.document ≡ Some one → HasClosed (revisions_of one)) jobs
 
-  -- Putting so many milestones as one step takes three writes for each and three syncs; where no cell has to be closed first, two and two.
+  -- Putting so many milestones as one step takes at most three writes for each and three syncs; where no cell has to be closed first, two and two.
   pub record CostsTogether (composed : List Job) (old new : Store D disk) : Type 0 where
     pub all : Costs disk (3 * length composed + 3) 3 (device_of old) (device_of new)
     pub fewer : HaveRoom composed old → Costs disk (2 * length composed + 2) 2 (device_of old) (device_of new)
