@@ -1,11 +1,26 @@
-use Rattle.std.proofs.Common.{◌≡◌, ◌∙◌, ◌+◌, ◌++◌, [], ◌∷◌, sym, ap, subst, append_assoc}
+use Rattle.std.proofs.Common.{◌≡◌, ◌∙◌, ◌+◌, ◌++◌, [], ◌∷◌, refl, sym, ap, subst, append_assoc, rules}
 use Rattle.std.proofs.lemmas.List.{nil_from_length}
+use Rattle.std.proofs.lemmas.List.Elements.{All-nil}
 use Rattle.std.specs.Vec.Iter.{into_iter_items}
 use mathlib.Core.List.{IsPrefix}
-use Rattle.published.proofs.CallerLemmas.{prefix_trans}
+use Rattle.published.proofs.CallerLemmas.{prefix_self, prefix_trans}
 use Rattle.flusher.specs.Holding.{told_of, committed_of}
+use Rattle.hub_desk.specs.AtHub.{Desk}
 use Rattle.server_threads.proofs.Tallied.{one_seat_more, one_count_more, one_told_more, one_found_more, all_yielded}
 use Rattle.server_threads.proofs.desks.tally_desks.Goals as goal
+
+pub loop-desk-init : goal.loop-desk-init
+loop-desk-init g c = record {
+  others = search rules;
+  seats = search rules;
+  counted = search rules;
+  told = All-nil (λ (desk : Desk). IsPrefix desk.told (told_of c.args.flusher.now ++ committed_of c.args.flusher.now));
+  before = prefix_self c.args.ordered.now;
+  found = All-nil (λ (desk : Desk). IsPrefix desk.found c.args.ordered.now);
+  told_same = refl;
+  committed_same = refl;
+  store_same = refl;
+}
 
 pub loop-desk-preserved : goal.loop-desk-preserved
 loop-desk-preserved g c =
