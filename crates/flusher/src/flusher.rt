@@ -40,6 +40,7 @@ impl<D: Disk, J: Site> Flusher<D, J> {
     ghost use Rattle.segments.specs.Ring.{known_numbers};
     ghost use Rattle.recovery.specs.Open.{IsOpen, IsUnchanged, IsCommittedNow, IsFreedNow, IsWithOrWithout, has_failed, has_room, ring_of};
     ghost use Rattle.flusher.specs.Flushers.{IsUsedUp, IsWritten, IsHeldCommitted, IsGivenUp, cap_of};
+    ghost use Rattle.recovery.specs.Freed.{SyncsAtMost};
     ghost use Rattle.recovery.specs.Goes.{Goes};
     ghost use Rattle.flusher.specs.Holding.{IsUncommitted, store_of, told_of, committed_of, waiting_of};
 
@@ -213,6 +214,9 @@ impl<D: Disk, J: Site> Flusher<D, J> {
             ⊎ ((waiting_of self.new ≡ [])
             × IsHeldCommitted (waiting_of self.old) (store_of self.old) (store_of self.new)) }
 
+        // It takes no more syncs than a commit that makes room: they grow with the bytes of documents, and not with their number.
+        ensures syncs { SyncsAtMost 6 (store_of self.old) (store_of self.new) }
+
         // After `NoMemory` the batch may be committed, and after any other refusal it isn't.
         ensures uncommitted { IfErr result (λ e. e ≢ Refusal.NoMemory → IsUncommitted self.old self.new) }
 
@@ -338,6 +342,7 @@ impl<D: Disk, J: Site> Flusher<D, J> {
             → IsGivenUp (waiting_of self.old) (store_of self.old) (store_of self.new) }
 
         // When each refusal comes.
+        ensures syncs { SyncsAtMost 6 (store_of self.old) (store_of self.new) }
         ensures fails { has_failed (store_of self.old) ≡ false
             → (has_failed (store_of self.new) ≡ true ↔ IsErrOf result Refusal.Fault) }
         ensures failed_before { has_failed (store_of self.old) ≡ true → (batch : List Taken)

@@ -22,7 +22,7 @@ use Rattle.serving.specs.declared.failure.Failure.{Failure}
 use Rattle.serving.specs.Serving.{Serves, StopsServing, IsServed as IsAnswered, IsServedSoFar, beginning}
 use Rattle.hub_desk.specs.AtHub.{Desk, PassesAtHub}
 use Rattle.hub_desk.specs.Standing.{AllStand}
-use Rattle.hub_desk.proofs.CallerLemmas.{all_stand, told_through}
+use Rattle.hub_desk.proofs.CallerLemmas.{all_stand, found_through, told_through}
 use Rattle.server_threads.specs.Answers.{HoldsAll, first_desk}
 use Rattle.server_threads.specs.Served.{IsWritten, KeepsAnswers}
 use Rattle.server_threads.specs.Streams.{IsAnsweredAtHub, StopsAtHub}
@@ -126,7 +126,7 @@ module _ {D : Type 0} {disk : Ghosts D} where
     places = λ asked asks. all_have_places (state_of old) first_desk last asked (commands_of last.told) asks (prefix_self (commands_of last.told));
     counts = λ asked asks. counts_all (state_of old) first_desk last asked asks;
     stand = λ asked asks. subst (λ (s : State). AllStand s asked) (sym is.state) (all_stand (state_of old) first_desk last asked written asks told grow);
-    found = found;
+    found = λ others mid asks. prefix_trans mid.found last.found order (found_through (state_of old) others mid last asks) found;
     causes = λ asked asks. all_have_causes (state_of old) first_desk last asked order asks found;
     each_answer = λ answered others mid before after.
         let within : IsPrefix mid.told written = prefix_trans mid.told last.told written (told_through (state_of old) others mid last after) told in

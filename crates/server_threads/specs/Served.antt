@@ -52,7 +52,8 @@ module _ {D : Type 0} {disk : Ghosts D} where
   -- What a desk answered is kept. It was told of a prefix of the batches that are written, within which each command that it
   -- acknowledged has its place, as the rule of acceptance says; its seat counted what `Counts` says; all that it acknowledged stands in what
   -- the store holds; and for any point in the exchange there was a moment from which on no crash takes away what was acknowledged by then.
-  -- What it found of the order begins it, so what it refused by the rule of acceptance it refused after a prefix of that one order.
+  -- What it had found at any point in the exchange is a prefix of the order: so each refusal by the rule of acceptance is one after a prefix
+  -- of that one order, which begins with what was found before (`IsRefusedAt`).
   pub record KeepsAnswers (order : List Entry) (written waiting : List (List Taken)) (old new : Store D disk) (last : Desk) : Type 0 where
     pub told : IsPrefix last.told written
     pub places : (asked : List Exchange) → Asks (PassesAtHub (state_of old)) first_desk asked last
@@ -61,7 +62,7 @@ module _ {D : Type 0} {disk : Ghosts D} where
     pub stand : (asked : List Exchange) → Asks (PassesAtHub (state_of old)) first_desk asked last → AllStand (state_of new) asked
     pub each_answer : (answered others : List Exchange) (mid : Desk) → Asks (PassesAtHub (state_of old)) first_desk answered mid
         → Asks (PassesAtHub (state_of old)) mid others last → IsKeptFrom (state_of old) answered mid.told (written ++ waiting) old new
-    pub found : IsPrefix last.found order
+    pub found : (others : List Exchange) (mid : Desk) → Asks (PassesAtHub (state_of old)) mid others last → IsPrefix mid.found order
     pub causes : (asked : List Exchange) → Asks (PassesAtHub (state_of old)) first_desk asked last → AllHaveCauses (state_of old) (takens order) asked
 
   -- The life of a server, where `Sessions` says what its desks exchanged: one order and what is written of it, which is all of it where

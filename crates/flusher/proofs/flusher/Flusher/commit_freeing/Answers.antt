@@ -201,3 +201,6 @@ accept-requires-clause-made g c =
     let same : c.batch.result.now ≡ c.in-Some.batch.commands = cc in
     made_on g.J.Site.start c.args.self.now.publisher.told c.told-in-Ok.result.now c.in-Some.batch.commands c.in-Ok.receipt c.committed-made.result.items c.told-in-Ok.ensures
     (c.in-Ok.ensures.receipt ∙ same) c.committed-made.ensures
+
+pub returns-in-None-clause-syncs : goal.returns-in-None-clause-syncs
+returns-in-None-clause-syncs g c = record { by_bytes = λ slot segment oldest. omega arith }
