@@ -24,7 +24,7 @@ from sources import CRATES, code, crate_of, functions_of, is_shown
 ALLOWED = {
     "Ticket::order": "tells who has a ticket where its command stands in the order",
     "Unsettled::shows": "its contract says what the token shows, as that of a law does",
-    "Hub::submit_all": "a session calls it through `Desk::ask_all`, a trait's method, by which no type is named",
+    "Hub::submit_all_after": "a session calls it through `Desk::ask_all`, a trait's method, by which no type is named",
 }
 
 
