@@ -132,6 +132,7 @@ impl<D: Disk> Store<D> {
         match self.marked_revisions(alloc, segment) {
             Ok(marked) => self.cover_documents(alloc, &marked),
             Err(refusal) => {
+                // what is promised where freeing is given up (`IsHalfFreed`) names one document without a job
                 self.drop_job(first);
                 Err(refusal)
             }

@@ -13,7 +13,7 @@ use disk::{Disk, Fault};
 use milestone::Cells;
 
 /// Puts the milestones of all members until both cells of each one's document hold it: each put takes the place of the lower one of two open cells.
-/// A crash at any moment leaves of each document by itself one of the pairs on the way.
+/// A crash at any moment leaves each document, whatever it leaves the others, with one of the pairs that it passes through.
 pub(crate) fn put_both<D: Disk>(
     device: &mut D,
     cells: &mut [Cells],

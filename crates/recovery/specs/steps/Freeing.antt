@@ -38,8 +38,8 @@ abbrev pub bytes_of : List Member → ℕ
 bytes_of [] = 0
 bytes_of (member ∷ members) = length member.bytes.items + bytes_of members
 
--- So many groups were put of the milestones below a number: of all of them but the last each was full, and while some documents are left, the last
--- one too.
+-- The documents below `from` are covered by so many groups. Each group before the last was full, and the last one too, while documents are
+-- left.
 pub record AreFull (marked : List ℕ) (state : State) (from groups : ℕ) : Type 0 where
   pub before : most_bytes * (groups - 1) ≤ bytes_to marked state from
   pub last : from < length marked → most_bytes * groups ≤ bytes_to marked state from
