@@ -15,8 +15,9 @@
 //! | `--edits N` | | each writer makes so many edits, however long that takes; the rates that are printed mean nothing then |
 //!
 //! Documents have 8,192 letters at their creation. Each answer is checked as it comes: it is the next one due, and the revisions of a
-//! session rise. At the end the revisions of a document are 2, 3 and so on, each made by one edit; the document is read back at the last
-//! of them, and its text is what was typed. It prints one JSON object, and its status is 0 only if all this was so.
+//! session rise. An observer that falls behind what is held fetches the document, and follows it anew. At the end the revisions of a
+//! document are 2, 3 and so on, each made by one edit; the document is read back at the last of them, and its text is what was typed. It
+//! prints one JSON object, and its status is 0 only if all this was so.
 
 mod connection;
 mod options;
@@ -48,6 +49,7 @@ struct Session {
     revisions: Vec<u64>,           // those that its edits made
     delays: Vec<Duration>,         // of the edits that were answered while it was measured
     news: u64,                     // lines that came while it was measured
+    falls: u64,                    // how often it fell behind, and began to follow anew
 }
 
 /// When it is measured.
@@ -78,6 +80,7 @@ impl Session {
             revisions: Vec::new(),
             delays: Vec::new(),
             news: 0,
+            falls: 0,
         };
         system.begin(&mut session.connection, &format!("s{place}"))?;
         if is_observer {
@@ -116,6 +119,11 @@ impl Session {
                     }
                     self.revision = revision;
                     self.news += span.has(now) as u64;
+                }
+                Some(Told::FellBehind) => {
+                    (self.revision, _) = system.read_back(&mut self.connection, &self.document)?;
+                    system.follow(&mut self.connection, &self.document, self.revision)?;
+                    self.falls += 1;
                 }
                 Some(Told::Taken(revision)) => {
                     let (_, sent) = self.due.pop_front().ok_or("an answer that nobody waits for")?;
@@ -208,8 +216,9 @@ fn measure(options: &Options) -> Result<(), String> {
     let mut delays: Vec<Duration> = sessions.iter().flat_map(|session| session.delays.iter().copied()).collect();
     delays.sort_unstable();
     let news: u64 = sessions.iter().map(|session| session.news).sum();
+    let falls: u64 = sessions.iter().map(|session| session.falls).sum();
     println!(
-        "{{\"edits_per_second\":{:.0},\"p50_ms\":{:.3},\"p99_ms\":{:.3},\"news_per_second\":{:.0}}}",
+        "{{\"edits_per_second\":{:.0},\"p50_ms\":{:.3},\"p99_ms\":{:.3},\"news_per_second\":{:.0},\"falls\":{falls}}}",
         delays.len() as f64 / seconds,
         percentile(&delays, 50.0),
         percentile(&delays, 99.0),

@@ -54,6 +54,9 @@ impl System for Richd {
         if let Some(revision) = between(&line, &taken, "}") {
             return Ok(Some(Told::Taken(revision)));
         }
+        if line == format!("{{\"doc\":\"{document}\",\"ended\":13}}") {
+            return Ok(Some(Told::FellBehind));
+        }
         let news = line.strip_prefix(&format!("{{\"doc\":\"{document}\",\"news\":")).and_then(|rest| rest.split(',').next());
         match news.and_then(|digits| digits.parse().ok()) {
             Some(revision) => Ok(Some(Told::News(revision))),

@@ -34,6 +34,7 @@ class Measured(NamedTuple):
     edits: float  # a second
     p50: float  # milliseconds
     p99: float
+    falls: float  # how often observers fell behind what is held, and began anew
 
 
 def built(folder, names=("load", "bare")):
@@ -198,7 +199,7 @@ def once(folder, system, row, seconds):
     if run.returncode != 0:
         raise ChildProcessError(f"{row.name}, {system.title}: {run.stderr.strip()}")
     told = json.loads(run.stdout)
-    return Measured(told["edits_per_second"], told["p50_ms"], told["p99_ms"])
+    return Measured(told["edits_per_second"], told["p50_ms"], told["p99_ms"], told["falls"])
 
 
 def medians(folder, pairs, rounds, seconds):

@@ -10,6 +10,8 @@ pub enum Told {
     Taken(u64),
     /// Somebody's edit made this revision.
     News(u64),
+    /// The session is told no more of the document, since the server holds no longer what it would be told next.
+    FellBehind,
 }
 
 pub trait System {
