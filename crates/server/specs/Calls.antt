@@ -1,5 +1,7 @@
 -- What the system is asked for files and addresses, and what it is asked by a command.
-use Rattle.std.specs.Prelude.{◌≡◌, ◌⊎◌, ℕ, List, ◌∷◌, Option, Some, None, slice_index, ◌==◌, if◌then◌else◌}
+use Rattle.std.specs.Prelude.{◌≡◌, ◌⊎◌, ℕ, List, [], ◌∷◌, Option, Some, None, slice_index, ◌==◌, if◌then◌else◌}
+use Rattle.disk.specs.Device.{History, IsSync, IsAtMostOneStep}
+use Rattle.inspection.specs.Matching.{IsSyncedTwice}
 use Rattle.words.specs.declared.invocation.Invocation.{Invocation}
 use Rattle.words.specs.declared.invocation.Invocation.TheVariants.{Format, Serve, Dump, Info, Check, Migrate, Copy, Delta}
 use Rattle.words.specs.declared.store.Listening.{Listening}
@@ -16,6 +18,8 @@ pub data Call : Type 0 where
   -- a file that wasn't there was made, opened and locked, or that failed
   Made : (path : List ℕ) → Call
   FailedMaking : (path : List ℕ) → Call
+  -- a file was closed, and its device told this: what it held then, and each state since it was opened or made
+  Closed : (path : List ℕ) → (device : History) → Call
   -- a file was removed, or that failed
   Removed : (path : List ℕ) → Call
   -- an address was taken to listen on, or that failed
@@ -41,6 +45,22 @@ call_of numbers name =
 abbrev pub IsOpened : List ℕ → List Call → List Call → Type 0
 IsOpened path old new = (new ≡ Opened path ∷ old) ⊎ (new ≡ FailedOpening path ∷ old)
 
+-- Nothing was written to a device since it was opened: one sync at most moved it on.
+abbrev pub IsUnwritten : History → Type 0
+IsUnwritten device = (opened : History) × (opened.past ≡ []) × IsAtMostOneStep IsSync opened device
+
+-- The same, with two syncs at most: it was read in two ways.
+abbrev pub IsUnwrittenTwice : History → Type 0
+IsUnwrittenTwice device = (opened : History) × (opened.past ≡ []) × IsSyncedTwice opened device
+
+-- A file is closed as the last call, and this holds of its device then.
+abbrev pub IsClosed : (History → Type 0) → List ℕ → List Call → List Call → Type 0
+IsClosed Device path old new = (device : History) × Device device × (new ≡ Closed path device ∷ old)
+
+-- A file that is there is opened once, and closed again with a device where this holds; or it can't be opened. No other call is made.
+abbrev pub IsRead : (History → Type 0) → List ℕ → List Call → List Call → Type 0
+IsRead Device path old new = (new ≡ FailedOpening path ∷ old) ⊎ IsClosed Device path (Opened path ∷ old) new
+
 -- A file that isn't there is made, and removed again where room for it can't be had; or it isn't made.
 abbrev pub IsMade : List ℕ → List Call → List Call → Type 0
 IsMade path old new =
@@ -55,14 +75,15 @@ IsHad path old new =
 abbrev pub IsKept : List ℕ → List Call → List Call → Type 0
 IsKept path old new = (new ≡ Opened path ∷ Found path ∷ old) ⊎ (new ≡ Made path ∷ Missed path ∷ old)
 
--- A file is opened, and a second one is had once that could be done.
+-- A file is opened, a second one is had once that could be done, and at last the first one is closed, with nothing written to it.
 abbrev pub AreHad : List ℕ → List ℕ → List Call → List Call → Type 0
-AreHad first second old new =
-    (new ≡ FailedOpening first ∷ old) ⊎ ((new ≡ Opened first ∷ old) ⊎ IsHad second (Opened first ∷ old) new)
+AreHad first second old new = (new ≡ FailedOpening first ∷ old)
+    ⊎ ((between : List Call) × IsHad second (Opened first ∷ old) between × IsClosed IsUnwrittenTwice first between new)
 
--- A file was opened, and a second one was, or was made, and is there still.
+-- A file was opened, a second one was, or was made, and is there still, and the first one was closed, with nothing written to it.
 abbrev pub AreKept : List ℕ → List ℕ → List Call → List Call → Type 0
-AreKept first second old new = IsKept second (Opened first ∷ old) new
+AreKept first second old new =
+    (between : List Call) × IsKept second (Opened first ∷ old) between × IsClosed IsUnwrittenTwice first between new
 
 -- A file is opened, and an address is taken only once that could be done.
 abbrev pub IsServed : List ℕ → List ℕ → List Call → List Call → Type 0
@@ -77,9 +98,9 @@ ServesBy path (Some how) old new = IsServed path how.address.now old new
 abbrev pub Asks : Invocation → List Call → List Call → Type 0
 Asks (Format path shape reserve) old new = IsHad path.now old new
 Asks (Serve path listening every older) old new = ServesBy path.now listening old new
-Asks (Dump path older) old new = IsOpened path.now old new
-Asks (Info path documents) old new = IsOpened path.now old new
-Asks (Check path) old new = IsOpened path.now old new
+Asks (Dump path older) old new = IsRead IsUnwritten path.now old new
+Asks (Info path documents) old new = IsRead IsUnwritten path.now old new
+Asks (Check path) old new = IsRead IsUnwrittenTwice path.now old new
 Asks (Migrate from to) old new = AreHad from.now to.now old new
 Asks (Copy from to shape) old new = AreHad from.now to.now old new
 Asks (Delta command) old new = new ≡ old

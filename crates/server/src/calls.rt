@@ -2,8 +2,12 @@
 //!
 //! **What is not proved**: that each method of `HostCalls` makes the calls of the system that its note describes. So the few lines of
 //! `HostCalls` are to be read. No other function of the program names a file or an address, but `Standard` the null device.
+//!
+//! A file that was only read is closed by `close`, whose note has the device's past since it was opened. That a device is closed under the name
+//! by which it was opened is not in its clauses: a command's other file, which is the only other device that it has, could be meant.
 ghost use Rattle.std.specs.Prelude.{◌≡◌, ◌∷◌, [], List, Ok, true, false, IfOk, OnOk, OnErr};
-ghost use Rattle.server.specs.Calls.{Call, Found, Missed, Unseen, Opened, FailedOpening, Made, FailedMaking, Removed, Listened, FailedListening};
+ghost use Rattle.disk.specs.Crash.{history_of};
+ghost use Rattle.server.specs.Calls.{Call, Found, Missed, Unseen, Opened, FailedOpening, Made, FailedMaking, Closed, Removed, Listened, FailedListening};
 
 use crate::notes::Notes;
 use disk::{Disk, FileDisk, FileFault};
@@ -63,6 +67,10 @@ pub(crate) trait Calls {
     fn make(&mut self, path: &str, len: u64) -> Result<FileDisk, FileFault>
         ensures good { OnOk result (made self.new ≡ Made path.now ∷ made self.old) }
         ensures failed { OnErr result (made self.new ≡ FailedMaking path.now ∷ made self.old) };
+
+    /// Closes a file, and notes what its device tells: each state since it was opened or made.
+    fn close(&mut self, path: &str, disk: FileDisk)
+        ensures { made self.new ≡ Closed path.now (history_of ⟦<FileDisk as Disk>⟧ disk) ∷ made self.old };
 
     /// Removes a file, where that can be done.
     fn remove(&mut self, path: &str)
@@ -137,6 +145,11 @@ impl<R: Files<File = File> + Net<Listener = TcpListener, Stream = TcpStream>> Ca
                 Err(fault)
             }
         }
+    }
+
+    fn close(&mut self, path: &str, disk: FileDisk) {
+        self.notes.note_closed(path.as_bytes(), &disk);
+        drop(disk);
     }
 
     fn remove(&mut self, path: &str) {

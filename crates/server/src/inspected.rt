@@ -1,17 +1,17 @@
 //! What a store in a file is told to hold, without a change to it.
-ghost use Rattle.std.specs.Prelude.{◌≡◌, ◌⊎◌, true, OnOk, IfOk, IfErr, IsErrOf};
+ghost use Rattle.std.specs.Prelude.{◌≡◌, ◌⊎◌, ◌∷◌, true, OnOk, IfOk, IfErr, IsErrOf};
 ghost use Rattle.std.specs.String.{string_bytes};
 ghost use Rattle.std.specs.Io.KnownBytes.{Appends};
 ghost use Rattle.disk.specs.Crash.{history_of};
 ghost use Rattle.disk.specs.Device.{IsSync, IsAtMostOneStep};
-ghost use Rattle.server.specs.Calls.{IsOpened};
+ghost use Rattle.server.specs.Calls.{Closed, IsRead, IsUnwritten, IsUnwrittenTwice};
 ghost use Rattle.server.specs.Checked.{checked_line};
 
 use crate::calls::Calls;
 use crate::ended::Ended;
 use crate::files::open_file;
 use disk::{Disk, FileDisk};
-use inspection::{check, documents, info};
+use inspection::{Checked, check, documents, info};
 use recovery::{OpenFault, Pick, Store};
 use refusal::Refusal;
 use serving::Failure;
@@ -27,13 +27,18 @@ pub struct Printed<D> {
 }
 
 impl Printed<FileDisk> {
-    /// What the program ends with.
-    pub(crate) fn ended<'a>(self, path: &'a str) -> Result<(), Ended<'a>> {
-        match self.done {
+    /// Closes the file, and answers what the program ends with.
+    pub(crate) fn ended<'a, C: Calls>(self, calls: &mut C, path: &'a str) -> Result<(), Ended<'a>>
+        ensures { C.made calls.new ≡ Closed path.now (history_of ⟦<FileDisk as Disk>⟧ self.disk) ∷ C.made calls.old }
+    {
+        let Printed { disk, done } = self;
+        let ended = match done {
             Ok(()) => Ok(()),
-            Err(Failure::Refused(refusal)) => Err(Ended::over(path, &self.disk, refusal)),
+            Err(Failure::Refused(refusal)) => Err(Ended::over(path, &disk, refusal)),
             Err(Failure::Stream) => Err(Ended::Stream),
-        }
+        };
+        calls.close(path, disk);
+        ended
     }
 }
 
@@ -45,11 +50,11 @@ pub(crate) fn tell_of_store<'a, C: Calls, O: Write>(
     each: bool,
     output: &mut O,
 ) -> Result<(), Ended<'a>>
-    ensures { IsOpened path.now (C.made calls.old) (C.made calls.new) }
+    ensures { IsRead IsUnwritten path.now (C.made calls.old) (C.made calls.new) }
 {
     let disk = open_file(calls, path)?;
     let mut stream = Stream::new(output);
-    tell_of(alloc, disk, each, &mut stream).ended(path)
+    tell_of(alloc, disk, each, &mut stream).ended(calls, path)
 }
 
 // Prints how full the store on a device is, or its documents. Nothing is written to the device.
@@ -91,15 +96,26 @@ pub(crate) fn check_file<'a, C: Calls, O: Write>(
     path: &'a str,
     output: &mut O,
 ) -> Result<(), Ended<'a>>
-    ensures { IsOpened path.now (C.made calls.old) (C.made calls.new) }
+    ensures { IsRead IsUnwrittenTwice path.now (C.made calls.old) (C.made calls.new) }
 {
     let disk = open_file(calls, path)?;
     match check(alloc, disk) {
-        Ok(checked) => {
+        Ok(
+            Checked {
+                disk,
+                documents,
+                changes,
+            },
+        ) => {
+            calls.close(path, disk);
             let mut stream = Stream::new(output);
-            Ok(print_counts(alloc, checked.documents, checked.changes, &mut stream)?)
+            Ok(print_counts(alloc, documents, changes, &mut stream)?)
         }
-        Err(OpenFault { disk, refusal }) => Err(Ended::over(path, &disk, refusal)),
+        Err(OpenFault { disk, refusal }) => {
+            let ended = Ended::over(path, &disk, refusal);
+            calls.close(path, disk);
+            Err(ended)
+        }
     }
 }
 

@@ -9,7 +9,8 @@
 //! for (`events.rt`); no clause speaks of them. `Patient` is a stream that is written where it has room, so that nobody waits for them.
 //!
 //! Files and addresses are asked for by the calls of `calls.rt` alone, which are noted: `specs/Calls.antt` says which ones a command makes.
-//! `dump_store` gives the device back unchanged.
+//! What only reads a store closes its file with a note of all that its device went through, so that these clauses say too that nothing was
+//! written to it: `dump`, `info` and `check`, and `copy` and `migrate` for the store that they read. `dump_store` gives the device back unchanged.
 //!
 //! It stands on `words` for what the words ask for, on `server_threads` for the sessions, on `algebra` for the tasks on deltas and for how a
 //! delta is printed, on `recovery` and `disk` for the store in a file, and on `mio` for whether a stream has room.

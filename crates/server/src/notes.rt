@@ -1,8 +1,10 @@
 //! What the system was asked, kept where only clauses read it.
 ghost use Rattle.std.specs.Prelude.{◌≡◌, ℕ, List, [], ◌∷◌};
 ghost use Rattle.std.specs.Borrow.{ftrue};
-ghost use Rattle.server.specs.Calls.{Call, call_of};
+ghost use Rattle.disk.specs.Crash.{history_of};
+ghost use Rattle.server.specs.Calls.{Call, Closed, call_of};
 
+use disk::{Disk, FileDisk};
 use std::marker::{Model, PhantomData};
 
 /// A list of calls, newest first. It takes no memory.
@@ -28,5 +30,10 @@ impl Notes {
     /// Notes a call, by its kind and the name of a file or an address. Its proof is by hand, since it sets what no memory holds.
     pub(crate) fn note(&mut self, _numbers: &[u64], _bytes: &[u8])
         ensures { self.new.calls ≡ call_of _numbers.now _bytes.now ∷ self.old.calls }
+    {}
+
+    /// Notes that a file is closed, by its name and what its device tells. Its proof is by hand too.
+    pub(crate) fn note_closed(&mut self, _path: &[u8], _disk: &FileDisk)
+        ensures { self.new.calls ≡ Closed _path.now (history_of ⟦<FileDisk as Disk>⟧ _disk.now) ∷ self.old.calls }
     {}
 }

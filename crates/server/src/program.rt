@@ -1,6 +1,9 @@
 //! The program over its words and its standard streams.
 ghost use Rattle.std.specs.Prelude.{◌≤◌, OnOk};
-ghost use Rattle.server.specs.Calls.{Asks, Keeps, AreHad, AreKept, IsHad, IsKept, IsOpened, IsServed, ServesBy};
+ghost use Rattle.disk.specs.Crash.{history_of};
+ghost use Rattle.disk.specs.Device.{IsSync, IsAtMostOneStep};
+ghost use Rattle.inspection.specs.Matching.{IsSyncedTwice};
+ghost use Rattle.server.specs.Calls.{Asks, Keeps, AreHad, AreKept, IsHad, IsKept, IsRead, IsUnwritten, IsServed, ServesBy};
 
 use crate::calls::{Calls, HostCalls};
 use crate::deltas::print_answer;
@@ -12,7 +15,7 @@ use crate::inspected::{Printed, check_file, tell_of_store};
 use crate::standard::{NULL_DEVICE, Standard};
 use crate::watching::{Alone, Front};
 use clap::error::ErrorKind;
-use disk::{FileDisk, Tried};
+use disk::{Disk, FileDisk, Tried};
 use migration::{Copied, Numbered, Old, has_room_for, shape_of};
 use recovery::{Pick, Shape, Store};
 use refusal::Refusal;
@@ -193,11 +196,11 @@ fn dump_file<'a, C: Calls, O: Write>(
     older: bool,
     output: &mut O,
 ) -> Result<(), Ended<'a>>
-    ensures { IsOpened path.now (C.made calls.old) (C.made calls.new) }
+    ensures { IsRead IsUnwritten path.now (C.made calls.old) (C.made calls.new) }
 {
     let disk = open_file(calls, path)?;
     let mut stream = Stream::new(output);
-    dump_store(alloc, disk, pick_of(older), &mut stream).ended(path)
+    dump_store(alloc, disk, pick_of(older), &mut stream).ended(calls, path)
 }
 
 // Makes a store of this shape in a file. Where that is made and room is to be reserved, it is written whole before.
@@ -229,16 +232,49 @@ fn migrate<'a, C: Calls>(
     ensures kept { OnOk result (AreKept old.now new.now (C.made calls.old) (C.made calls.new)) }
 {
     let mut from = open_file(calls, old)?;
-    let mut to = match file_there(calls, new)? {
-        Some(disk) => disk,
-        None => match Old::read(alloc, &mut from) {
-            Ok(read) => make_file(calls, new, read.device_len())?,
-            Err(refusal) => return Err(Ended::over(old, &from, refusal)),
-        },
-    };
-    match migration::migrate(alloc, &mut from, &mut to) {
+    let migrated = migrate_from(alloc, calls, &mut from, old, new);
+    calls.close(old, from);
+    migrated
+}
+
+// Brings the store on a device over.
+fn migrate_from<'a, C: Calls>(
+    alloc: Global,
+    calls: &mut C,
+    from: &mut FileDisk,
+    old: &'a str,
+    new: &'a str,
+) -> Result<(), Ended<'a>>
+    ensures had { IsHad new.now (C.made calls.old) (C.made calls.new) }
+    ensures kept { OnOk result (IsKept new.now (C.made calls.old) (C.made calls.new)) }
+    ensures unwritten { IsSyncedTwice (history_of ⟦<FileDisk as Disk>⟧ from.old) (history_of ⟦<FileDisk as Disk>⟧ from.new) }
+{
+    let mut to = new_for(alloc, calls, from, old, new)?;
+    match migration::migrate(alloc, from, &mut to) {
         Ok(()) => Ok(()),
-        Err(refusal) => Err(Ended::over_two((old, &from), (new, &to), refusal)),
+        Err(refusal) => Err(Ended::over_two((old, from), (new, &to), refusal)),
+    }
+}
+
+// A device for a store that is brought over. The file is made where it is missing, once the old store is read.
+fn new_for<'a, C: Calls>(
+    alloc: Global,
+    calls: &mut C,
+    from: &mut FileDisk,
+    old: &'a str,
+    new: &'a str,
+) -> Result<FileDisk, Ended<'a>>
+    ensures had { IsHad new.now (C.made calls.old) (C.made calls.new) }
+    ensures kept { OnOk result (IsKept new.now (C.made calls.old) (C.made calls.new)) }
+    ensures unwritten { IsAtMostOneStep IsSync (history_of ⟦<FileDisk as Disk>⟧ from.old)
+        (history_of ⟦<FileDisk as Disk>⟧ from.new) }
+{
+    match file_there(calls, new)? {
+        Some(disk) => Ok(disk),
+        None => match Old::read(alloc, from) {
+            Ok(read) => make_file(calls, new, read.device_len()),
+            Err(refusal) => Err(Ended::over(old, from, refusal)),
+        },
     }
 }
 
@@ -254,23 +290,70 @@ fn copy<'a, C: Calls>(
     ensures kept { OnOk result (AreKept old.now new.now (C.made calls.old) (C.made calls.new)) }
 {
     let from = open_file(calls, old)?;
-    let there = file_there(calls, new)?;
-    let Numbered { device, shape } = shape_of(alloc, from);
+    let Brought { from, done } = copy_from(alloc, calls, from, old, new, given);
+    calls.close(old, from);
+    done
+}
+
+// What came of a copy. The device of the old store comes back.
+#[derive(Drop)]
+struct Brought<'a> {
+    from: FileDisk,
+    done: Result<(), Ended<'a>>,
+}
+
+// Copies the store on a device.
+fn copy_from<'a, C: Calls>(
+    alloc: Global,
+    calls: &mut C,
+    from: FileDisk,
+    old: &'a str,
+    new: &'a str,
+    given: ShapeOptions,
+) -> Brought<'a>
+    ensures had { IsHad new.now (C.made calls.old) (C.made calls.new) }
+    ensures kept { OnOk result.done (IsKept new.now (C.made calls.old) (C.made calls.new)) }
+    ensures unwritten { IsSyncedTwice (history_of ⟦<FileDisk as Disk>⟧ from) (history_of ⟦<FileDisk as Disk>⟧ result.from) }
+{
+    let there = match file_there(calls, new) {
+        Ok(there) => there,
+        Err(ended) => {
+            let done = Err(ended);
+            return Brought { from, done };
+        }
+    };
+    let Numbered {
+        device: from,
+        shape,
+    } = shape_of(alloc, from);
     let numbers = match shape {
         Ok(numbers) => numbers,
-        Err(refusal) => return Err(Ended::over(old, &device, refusal)),
+        Err(refusal) => {
+            let done = Err(Ended::over(old, &from, refusal));
+            return Brought { from, done };
+        }
     };
     let shape = with_numbers(given, numbers);
     let mut to = match there {
         Some(disk) => disk,
-        None if has_room_for(&numbers, &shape) => make_for(calls, new, shape, false)?,
-        None => return Err(Ended::Refused(Refusal::BadShape, None)),
+        None if has_room_for(&numbers, &shape) => match make_for(calls, new, shape, false) {
+            Ok(disk) => disk,
+            Err(ended) => {
+                let done = Err(ended);
+                return Brought { from, done };
+            }
+        },
+        None => {
+            let done = Err(Ended::Refused(Refusal::BadShape, None));
+            return Brought { from, done };
+        }
     };
-    let Copied { old: from, made } = migration::copy(alloc, device, &mut to, shape);
-    match made {
+    let Copied { old: from, made } = migration::copy(alloc, from, &mut to, shape);
+    let done = match made {
         Ok(()) => Ok(()),
         Err(refusal) => Err(Ended::over_two((old, &from), (new, &to), refusal)),
-    }
+    };
+    Brought { from, done }
 }
 
 // The numbers that the words leave out are the other ones.
