@@ -3,7 +3,7 @@ ghost use Rattle.std.specs.Prelude.{◌≡◌, ◌⊎◌, ◌≤◌, OnOk, OnErr
 ghost use Rattle.disk.specs.Crash.{history_of};
 ghost use Rattle.disk.specs.Device.{IsSync, IsAtMostOneStep};
 ghost use Rattle.inspection.specs.Matching.{IsSyncedTwice};
-ghost use Rattle.server.specs.Calls.{Asks, Keeps, AreHad, AreKept, IsHad, IsKept, IsRead, IsUnwritten, IsServed, ServesBy};
+ghost use Rattle.server.specs.Calls.{Asks, Keeps, AreHad, AreKept, IsHad, IsKept, IsClosed, IsRead, WasRead, IsUnwritten, IsServed, ServesBy};
 
 use crate::calls::{Calls, HostCalls};
 use crate::deltas::print_answer;
@@ -222,7 +222,8 @@ fn dump_file<'a, C: Calls, O: Write>(
     older: bool,
     output: &mut O,
 ) -> Result<(), Ended<'a>>
-    ensures { IsRead IsUnwritten path.now (C.made calls.old) (C.made calls.new) }
+    ensures read { IsRead IsUnwritten path.now (C.made calls.old) (C.made calls.new) }
+    ensures kept { OnOk result (WasRead IsUnwritten path.now (C.made calls.old) (C.made calls.new)) }
 {
     let disk = open_file(calls, path)?;
     let mut stream = Stream::new(output);
