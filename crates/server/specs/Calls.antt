@@ -57,9 +57,13 @@ IsUnwrittenTwice device = (opened : History) × (opened.past ≡ []) × IsSynced
 abbrev pub IsClosed : (History → Type 0) → List ℕ → List Call → List Call → Type 0
 IsClosed Device path old new = (device : History) × Device device × (new ≡ Closed path device ∷ old)
 
--- A file that is there is opened once, and closed again with a device where this holds; or it can't be opened. No other call is made.
+-- A file that is there is opened once, and closed again with a device where this holds. No other call is made.
+abbrev pub WasRead : (History → Type 0) → List ℕ → List Call → List Call → Type 0
+WasRead Device path old new = IsClosed Device path (Opened path ∷ old) new
+
+-- The same, or it can't be opened.
 abbrev pub IsRead : (History → Type 0) → List ℕ → List Call → List Call → Type 0
-IsRead Device path old new = (new ≡ FailedOpening path ∷ old) ⊎ IsClosed Device path (Opened path ∷ old) new
+IsRead Device path old new = (new ≡ FailedOpening path ∷ old) ⊎ WasRead Device path old new
 
 -- A file that isn't there is made, and removed again where room for it can't be had; or it isn't made.
 abbrev pub IsMade : List ℕ → List Call → List Call → Type 0
@@ -105,13 +109,13 @@ Asks (Migrate from to) old new = AreHad from.now to.now old new
 Asks (Copy from to shape) old new = AreHad from.now to.now old new
 Asks (Delta command) old new = new ≡ old
 
--- What a command leaves that could be done: a store that it makes is in a file.
+-- What a command leaves that could be done: a store that it makes is in a file, and a file that it reads was opened.
 abbrev pub Keeps : Invocation → List Call → List Call → Type 0
 Keeps (Format path shape reserve) old new = IsKept path.now old new
 Keeps (Serve path listening every older) old new = Unit {0}
-Keeps (Dump path older) old new = Unit {0}
-Keeps (Info path documents) old new = Unit {0}
-Keeps (Check path) old new = Unit {0}
+Keeps (Dump path older) old new = WasRead IsUnwritten path.now old new
+Keeps (Info path documents) old new = WasRead IsUnwritten path.now old new
+Keeps (Check path) old new = WasRead IsUnwrittenTwice path.now old new
 Keeps (Migrate from to) old new = AreKept from.now to.now old new
 Keeps (Copy from to shape) old new = AreKept from.now to.now old new
 Keeps (Delta command) old new = Unit {0}

@@ -10,6 +10,7 @@ ghost use Rattle.disk.specs.Crash.{history_of};
 ghost use Rattle.server.specs.Calls.{Call, Found, Missed, Unseen, Opened, FailedOpening, Made, FailedMaking, Closed, Removed, Listened, FailedListening};
 
 use crate::notes::Notes;
+use crate::standard::Standard;
 use disk::{Disk, FileDisk, FileFault};
 use std::fs::{self, File, Permissions};
 use std::io;
@@ -49,6 +50,10 @@ const FAILED_LISTENING: u64 = 9;
 pub(crate) trait Calls {
     /// The calls that were made, newest first.
     ghost made: { Self → List Call };
+
+    /// The null device in the place of each standard stream that is closed. No file of a store is asked for.
+    fn complete(&mut self) -> io::Result<Standard>
+        ensures { made self.new ≡ made self.old };
 
     /// Whether a file is there.
     fn is_there(&mut self, path: &str) -> io::Result<bool>
@@ -102,6 +107,10 @@ impl<'a, R> HostCalls<'a, R> {
 impl<R: Files<File = File> + Net<Listener = TcpListener, Stream = TcpStream>> Calls
     for HostCalls<'_, R> {
     ghost made = { λ calls. calls.notes.calls };
+
+    fn complete(&mut self) -> io::Result<Standard> {
+        Standard::complete(self.rt)
+    }
 
     fn is_there(&mut self, path: &str) -> io::Result<bool> {
         match fs::exists(self.rt, path) {

@@ -4,7 +4,7 @@ ghost use Rattle.std.specs.String.{string_bytes};
 ghost use Rattle.std.specs.Io.KnownBytes.{Appends};
 ghost use Rattle.disk.specs.Crash.{history_of};
 ghost use Rattle.disk.specs.Device.{IsSync, IsAtMostOneStep};
-ghost use Rattle.server.specs.Calls.{Closed, IsRead, IsUnwritten, IsUnwrittenTwice};
+ghost use Rattle.server.specs.Calls.{Closed, IsRead, WasRead, IsUnwritten, IsUnwrittenTwice};
 ghost use Rattle.server.specs.Checked.{checked_line};
 
 use crate::calls::Calls;
@@ -50,7 +50,8 @@ pub(crate) fn tell_of_store<'a, C: Calls, O: Write>(
     each: bool,
     output: &mut O,
 ) -> Result<(), Ended<'a>>
-    ensures { IsRead IsUnwritten path.now (C.made calls.old) (C.made calls.new) }
+    ensures read { IsRead IsUnwritten path.now (C.made calls.old) (C.made calls.new) }
+    ensures kept { OnOk result (WasRead IsUnwritten path.now (C.made calls.old) (C.made calls.new)) }
 {
     let disk = open_file(calls, path)?;
     let mut stream = Stream::new(output);
@@ -96,7 +97,8 @@ pub(crate) fn check_file<'a, C: Calls, O: Write>(
     path: &'a str,
     output: &mut O,
 ) -> Result<(), Ended<'a>>
-    ensures { IsRead IsUnwrittenTwice path.now (C.made calls.old) (C.made calls.new) }
+    ensures read { IsRead IsUnwrittenTwice path.now (C.made calls.old) (C.made calls.new) }
+    ensures kept { OnOk result (WasRead IsUnwrittenTwice path.now (C.made calls.old) (C.made calls.new)) }
 {
     let disk = open_file(calls, path)?;
     match check(alloc, disk) {

@@ -1,8 +1,8 @@
 //! The program `richd`, as a call over its words and its standard streams.
 //!
-//! `run` reads the words and makes, serves or prints the store of a file; `run_given` takes the words from the system. `dump` writes a
-//! line for each document of a state (`specs/Dump.antt`), and `print_answer` the line of what a task on deltas comes to
-//! (`specs/Deltas.antt`). Sessions are served by `serve_streams` and `serve_on` of `server_threads`.
+//! `run` reads the words and makes, serves or prints the store of a file, by `run_on` over the calls of the system; `run_given` takes the words
+//! from the system. `dump` writes a line for each document of a state (`specs/Dump.antt`), and `print_answer` the line of what a task on deltas
+//! comes to (`specs/Deltas.antt`). Sessions are served by `serve_streams` and `serve_on` of `server_threads`.
 //!
 //! `info`, `documents` and `check` of `inspection` tell how full a store is, and whether both its readings match; `specs/Checked.antt` has the
 //! line of a store that is sound. While a store is served to those who connect, lines for an operator go to standard error where they are asked

@@ -1,9 +1,9 @@
 //! The program over its words and its standard streams.
-ghost use Rattle.std.specs.Prelude.{◌≤◌, OnOk};
+ghost use Rattle.std.specs.Prelude.{◌≡◌, ◌⊎◌, ◌≤◌, OnOk, OnErr, IfOk};
 ghost use Rattle.disk.specs.Crash.{history_of};
 ghost use Rattle.disk.specs.Device.{IsSync, IsAtMostOneStep};
 ghost use Rattle.inspection.specs.Matching.{IsSyncedTwice};
-ghost use Rattle.server.specs.Calls.{Asks, Keeps, AreHad, AreKept, IsHad, IsKept, IsRead, IsUnwritten, IsServed, ServesBy};
+ghost use Rattle.server.specs.Calls.{Asks, Keeps, AreHad, AreKept, IsHad, IsKept, IsClosed, IsRead, WasRead, IsUnwritten, IsServed, ServesBy};
 
 use crate::calls::{Calls, HostCalls};
 use crate::deltas::print_answer;
@@ -12,7 +12,7 @@ use crate::ended::{Ended, LISTENING, tell};
 use crate::events::{Opened, milliseconds};
 use crate::files::{disk_for, file_there, make_file, make_for, open_file, open_store, without};
 use crate::inspected::{Printed, check_file, tell_of_store};
-use crate::standard::{NULL_DEVICE, Standard};
+use crate::standard::NULL_DEVICE;
 use crate::watching::{Alone, Front};
 use clap::error::ErrorKind;
 use disk::{Disk, FileDisk, Tried};
@@ -54,24 +54,9 @@ pub fn run<
 >(rt: &R, words: &[S], input: &mut I, output: &mut O, errors: &mut E) -> u8
     ensures { result ≤ 2 }
 {
-    let invocation = match Invocation::parse(rt.alloc(), words) {
-        Ok(invocation) => invocation,
-        Err(fault) => return show_usage(&fault, output, errors),
-    };
-    let standard = match Standard::complete(rt) {
-        Ok(standard) => standard,
-        Err(reason) => {
-            let ended = without(Tried::Opening, NULL_DEVICE, reason);
-            return tell_end(ended, output, errors);
-        }
-    };
+    let parsed = Invocation::parse(rt.alloc(), words);
     let mut calls = HostCalls::new(rt);
-    let status = match invoke(rt, &mut calls, invocation, input, output, errors) {
-        Ok(()) => 0,
-        Err(ended) => tell_end(ended, output, errors),
-    };
-    drop(standard);
-    status
+    run_on(rt, &mut calls, parsed, input, output, errors)
 }
 
 /// Runs the program over the words that the system gives it, as `run` does. Words that aren't UTF-8 can't be used.
@@ -94,6 +79,47 @@ pub fn run_given<
         Ok(words) => run(rt, words.as_slice(), input, output, errors),
         Err(fault) => show_usage(&fault, output, errors),
     }
+}
+
+// Runs the program over what its words ask for. It asks the system for what that command does, or for nothing, and for nothing where the words
+// can't be used.
+fn run_on<
+    'a,
+    R: AllocGlobal + Threads + Wait + Clock + Sync,
+    C: Calls,
+    I: Read,
+    O: Write + Send,
+    E: Write + Send,
+>(
+    rt: &R,
+    calls: &mut C,
+    parsed: Result<Invocation<'a>, clap::Error>,
+    input: &mut I,
+    output: &mut O,
+    errors: &mut E,
+) -> u8
+    ensures status { result ≤ 2 }
+    ensures asks { IfOk parsed.entry (λ invocation. (C.made calls.new ≡ C.made calls.old)
+        ⊎ Asks invocation (C.made calls.old) (C.made calls.new)) }
+    ensures unusable { OnErr parsed.entry (C.made calls.new ≡ C.made calls.old) }
+{
+    let invocation = match parsed {
+        Ok(invocation) => invocation,
+        Err(fault) => return show_usage(&fault, output, errors),
+    };
+    let standard = match calls.complete() {
+        Ok(standard) => standard,
+        Err(reason) => {
+            let ended = without(Tried::Opening, NULL_DEVICE, reason);
+            return tell_end(ended, output, errors);
+        }
+    };
+    let status = match invoke(rt, calls, invocation, input, output, errors) {
+        Ok(()) => 0,
+        Err(ended) => tell_end(ended, output, errors),
+    };
+    drop(standard);
+    status
 }
 
 // Does what the words ask for. It asks the system for those files and that address alone which they name, in this order.
@@ -196,7 +222,8 @@ fn dump_file<'a, C: Calls, O: Write>(
     older: bool,
     output: &mut O,
 ) -> Result<(), Ended<'a>>
-    ensures { IsRead IsUnwritten path.now (C.made calls.old) (C.made calls.new) }
+    ensures read { IsRead IsUnwritten path.now (C.made calls.old) (C.made calls.new) }
+    ensures kept { OnOk result (WasRead IsUnwritten path.now (C.made calls.old) (C.made calls.new)) }
 {
     let disk = open_file(calls, path)?;
     let mut stream = Stream::new(output);
