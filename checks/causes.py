@@ -22,12 +22,11 @@ import select
 import shutil
 import socket
 import subprocess
-import sys
 import tempfile
 import time
 
 from first_format import in_first_format
-from refusing import FAULT, PATIENCE, STORE_FAILED, S, Disagreement, Refusal, agree, content_of, library_in, richd, undisturbed
+from refusing import FAULT, PATIENCE, STORE_FAILED, S, Disagreement, Refusal, Skipped, agree, content_of, library_in, play_each, richd, undisturbed
 
 MISSING, IS_FOLDER, NO_LEAVE = "no such file or directory|not found", "is a directory", "permission denied"
 LOCKED, NO_ROOM = "another program has it open|would block|temporarily unavailable", "no space left"
@@ -256,12 +255,7 @@ def failing_store():
                     raise Disagreement(f"{kind} {later} ({how}), {'over TCP' if is_listening else 'over pipes'}: {disagreement}") from None
 
 
-class Skipped(Exception):
-    """A row can't be played here."""
-
-
 ROWS = [missing, a_folder, no_leave, locked, addresses, one_line, full_disk, failing_store]
-failed, skipped = 0, 0
 with tempfile.TemporaryDirectory() as folder:
     os.chmod(folder, 0o755)
     program = shutil.copy(richd, os.path.join(folder, "richd"))  # where nobody can run it
@@ -273,15 +267,4 @@ with tempfile.TemporaryDirectory() as folder:
     with open(old, "wb") as file:
         file.write(in_first_format(made))
     os.chmod(old, 0o666)
-    for row in ROWS:
-        try:
-            row()
-            print(f"ok       {row.__name__}", flush=True)
-        except Skipped as why:
-            skipped += 1
-            print(f"skipped  {row.__name__}: {why}", flush=True)
-        except (Disagreement, OSError, subprocess.SubprocessError) as disagreement:
-            failed += 1
-            print(f"FAILED   {row.__name__}: {disagreement}", flush=True)
-print(f"{'FAILED' if failed else 'ok'}: {len(ROWS)} rows, {failed} failed, {skipped} skipped")
-sys.exit(1 if failed else 0)
+    play_each(ROWS)

@@ -4,7 +4,6 @@ A word is used once, so it is found again in what a store holds. Each writer is 
 reply when its session ended it sends again in the next one, with the numbers of before.
 """
 import json
-import os
 import random
 import socket
 import subprocess
@@ -95,28 +94,19 @@ class Command:
         return self.rev is None and self.code is None
 
 
-class Writer(threading.Thread):
-    """A source. It puts words into documents that all share, in some of which it takes its last change back, and it creates, edits and deletes
-    a document of its own. `commands` are all that it sent, by document."""
+class Peer(threading.Thread):
+    """A source whose session is begun again where it is cut, until the place ends. What a session does is its `serve`."""
 
-    def __init__(self, number, place):
+    def __init__(self, source, place):
         super().__init__(daemon=True)
-        self.number, self.source, self.place = number, f"s{number}", place
-        self.drawn = random.Random(number)
-        self.commands, self.base, self.numbers = {}, {}, {}
-        self.words, self.placed = 0, {"shared": 0, "undone": 0}
-        self.waits, self.refused, self.sent_again = [], {}, 0
+        self.source, self.place = source, place
         self.fault, self.session, self.is_cut = None, None, True
 
     def run(self):
         while not self.place.ends.is_set():
             try:
                 self.session = Session(self.place.port, self.source)
-                self.is_cut = False
-                self.send_again()
-                while not self.place.ends.is_set():
-                    self.turn()
-                    time.sleep(self.drawn.random() * self.place.pause)
+                self.serve()
             except Cut:
                 time.sleep(0.02)
             except Exception as fault:
@@ -126,6 +116,26 @@ class Writer(threading.Thread):
                 if self.session is not None:
                     self.session.close()
                 self.is_cut = True
+
+
+class Writer(Peer):
+    """A source. It puts words into documents that all share, in some of which it takes its last change back, and it creates, edits and deletes
+    a document of its own. `commands` are all that it sent, by document."""
+
+    def __init__(self, number, place):
+        super().__init__(f"s{number}", place)
+        self.number = number
+        self.drawn = random.Random(number)
+        self.commands, self.base, self.numbers = {}, {}, {}
+        self.words, self.placed = 0, {"shared": 0, "undone": 0}
+        self.waits, self.refused, self.sent_again = [], {}, 0
+
+    def serve(self):
+        self.is_cut = False
+        self.send_again()
+        while not self.place.ends.is_set():
+            self.turn()
+            time.sleep(self.drawn.random() * self.place.pause)
 
     def turn(self):
         kind = self.drawn.random()
@@ -217,31 +227,17 @@ class Writer(threading.Thread):
                 self.catch_up(doc)
 
 
-class Follower(threading.Thread):
+class Follower(Peer):
     """A session that follows the newest documents, and folds their news. `texts` are the documents that it holds, with their revisions;
     `inserted` has the words of each revision that it was told of."""
 
     def __init__(self, number, place):
-        super().__init__(daemon=True)
-        self.source, self.place = f"f{number}", place
+        super().__init__(f"f{number}", place)
         self.texts, self.inserted, self.news, self.fetched = {}, {}, 0, 0
-        self.fault, self.session, self.is_cut = None, None, True
 
-    def run(self):
-        while not self.place.ends.is_set():
-            try:
-                self.session = Session(self.place.port, self.source)
-                self.session.connection.settimeout(PATIENCE)
-                self.follow()
-            except Cut:
-                time.sleep(0.02)
-            except Exception as fault:
-                self.fault = fault
-                return
-            finally:
-                if self.session is not None:
-                    self.session.close()
-                self.is_cut = True
+    def serve(self):
+        self.session.connection.settimeout(PATIENCE)
+        self.follow()
 
     def follow(self):
         """Follows until the server ends. It asks for a document that isn't there now and then, so that a reply comes."""

@@ -28,14 +28,10 @@ import tempfile
 import time
 
 from first_format import in_first_format
-from refusing import FAULT, PATIENCE, STORE_FAILED, S, Disagreement, Refusal, agree, content_of, library_in, richd, undisturbed
+from refusing import FAULT, PATIENCE, STORE_FAILED, S, Disagreement, Refusal, Skipped, agree, content_of, library_in, play_each, richd, undisturbed
 
 LINE = re.compile(r"(\d+\.\d{3}) (\w+)((?: [a-z_0-9]+ \S+)*)")
 PLACES = 64
-
-
-class Skipped(Exception):
-    """A row can't be played here."""
 
 
 class Peer:
@@ -455,18 +451,6 @@ def words():
 IS_SUPERUSER = os.geteuid() == 0
 ROWS = [words, deltas_on_lines, rights, reserve, exit_on_failure, goes_on_failed, idle, never_idle]
 ROWS += [log_of_numbers, log_of_peers, log_of_failure, blocked, blocked_at_the_end]
-failed, skipped = 0, 0
 with tempfile.TemporaryDirectory() as folder:
     library = library_in(folder)
-    for row in [row for row in ROWS if row.__name__ in sys.argv[1:] or len(sys.argv) < 2]:
-        try:
-            row()
-            print(f"ok       {row.__name__}", flush=True)
-        except Skipped as why:
-            skipped += 1
-            print(f"skipped  {row.__name__}: {why}", flush=True)
-        except (Disagreement, OSError, subprocess.SubprocessError) as disagreement:
-            failed += 1
-            print(f"FAILED   {row.__name__}: {disagreement}", flush=True)
-print(f"{'FAILED' if failed else 'ok'}: {len(ROWS)} rows, {failed} failed, {skipped} skipped")
-sys.exit(1 if failed else 0)
+    play_each([row for row in ROWS if row.__name__ in sys.argv[1:] or len(sys.argv) < 2])

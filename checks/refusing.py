@@ -21,6 +21,10 @@ class Disagreement(Exception):
     """The program did what it must not."""
 
 
+class Skipped(Exception):
+    """A row can't be played here."""
+
+
 def agree(truth, what):
     if not truth:
         raise Disagreement(what)
@@ -204,6 +208,23 @@ def try_each(tally, rows, kinds, most, workers):
                     f"{tally.disagreements - wrong} disagreements, {took:.1f} s",
                     flush=True,
                 )
+
+
+def play_each(rows):
+    """Plays rows that are calls without arguments, prints a line for each, and ends the program."""
+    failed = skipped = 0
+    for row in rows:
+        try:
+            row()
+            print(f"ok       {row.__name__}", flush=True)
+        except Skipped as why:
+            skipped += 1
+            print(f"skipped  {row.__name__}: {why}", flush=True)
+        except (Disagreement, OSError, subprocess.SubprocessError) as disagreement:
+            failed += 1
+            print(f"FAILED   {row.__name__}: {disagreement}", flush=True)
+    print(f"{'FAILED' if failed else 'ok'}: {len(rows)} rows, {failed} failed, {skipped} skipped")
+    sys.exit(1 if failed else 0)
 
 
 def arguments():

@@ -12,6 +12,18 @@ async function begun(t, settings) {
   return { store, ...served };
 }
 
+/** A browser of a gateway whose store is gone. It listened on that port. */
+async function withoutStore(t) {
+  const { store, url, gateway } = await begun(t);
+  const ann = await Talk.begin(t, url, "ann");
+  await ann.ask({ do: "lease", doc: "d" });
+  const { port } = store.address;
+  store.server.close();
+  for (const socket of store.sessions) socket.destroy();
+  await until(() => !gateway.stores.get("s1").isOpen);
+  return { store, gateway, ann, port };
+}
+
 test("a browser with a command in a session that is cut is closed, and the command isn't sent again", async (t) => {
   const { store, url } = await begun(t);
   const ann = await Talk.begin(t, url, "ann");
@@ -57,13 +69,7 @@ test("a subscription goes on over a cut, from the last revision that was told", 
 });
 
 test("commands of a browser that is gone aren't sent", async (t) => {
-  const { store, url, gateway } = await begun(t);
-  const ann = await Talk.begin(t, url, "ann");
-  await ann.ask({ do: "lease", doc: "d" });
-  const { port } = store.address;
-  store.server.close();
-  for (const socket of store.sessions) socket.destroy();
-  await until(() => !gateway.stores.get("s1").isOpen);
+  const { store, gateway, ann, port } = await withoutStore(t);
   ann.send(edit(1), edit(2));
   await pause(100);
   assert.equal(ann.code, null, "they wait");
@@ -76,13 +82,7 @@ test("commands of a browser that is gone aren't sent", async (t) => {
 });
 
 test("what waits more than ten seconds for a store is to be sent again", async (t) => {
-  const { store, url, gateway } = await begun(t);
-  const ann = await Talk.begin(t, url, "ann");
-  await ann.ask({ do: "lease", doc: "d" });
-  const { port } = store.address;
-  store.server.close();
-  for (const socket of store.sessions) socket.destroy();
-  await until(() => !gateway.stores.get("s1").isOpen);
+  const { store, ann, port } = await withoutStore(t);
   const began = performance.now();
   ann.send(edit(1), { do: "fetch", doc: "d" });
   await until(() => ann.replies.length === 4, "two refusals", 15_000);

@@ -50,6 +50,13 @@ function started(program) {
   return program;
 }
 
+/** Kills a program, where it runs, and waits for its end. */
+export async function ended(program) {
+  if (program === undefined || program.exitCode !== null || program.signalCode !== null) return;
+  program.kill("SIGKILL");
+  await once(program, "exit");
+}
+
 /** A program that is started again and again, and killed. */
 class Program {
   #command;
@@ -193,8 +200,6 @@ export class EtcdProgram {
   async kill() {
     const process = this.#process;
     this.#process = undefined;
-    if (process === undefined || process.exitCode !== null || process.signalCode !== null) return;
-    process.kill("SIGKILL");
-    await once(process, "exit");
+    await ended(process);
   }
 }

@@ -1,11 +1,10 @@
 // The programs of the cluster besides those that the other tests run: HAProxy, the processes of browsers; and what all use.
 
 import { fork, spawn } from "node:child_process";
-import { once } from "node:events";
 import { readFileSync, readdirSync, writeFileSync } from "node:fs";
 import net from "node:net";
 import path from "node:path";
-import { folderFor, until } from "../programs.js";
+import { ended, folderFor, until } from "../programs.js";
 
 const TICKS = 100; // a second
 const HAPROXY = "/usr/sbin/haproxy";
@@ -66,9 +65,7 @@ ${servers.join("\n")}
   async kill() {
     const process = this.#process;
     this.#process = undefined;
-    if (process === undefined || process.exitCode !== null || process.signalCode !== null) return;
-    process.kill("SIGKILL");
-    await once(process, "exit");
+    await ended(process);
   }
 }
 
