@@ -15,7 +15,8 @@ use Rattle.revision.specs.State.{State, fold, grown, grows, all_grow}
 use Rattle.recovery.specs.declared.store.Store.{Store}
 use Rattle.recovery.specs.Faults.{FailsAtFaults}
 use Rattle.recovery.specs.Found.{commands_of, FoundAs}
-use Rattle.recovery.specs.Open.{IsOpen, IsUnchanged, IsFreedNow, IsHalfFreed, IsCommittedNow, IsCommittedBehind, has_room, IsRetiredNow, IsWithOrWithout, device_of, state_of, has_failed}
+use Rattle.milestone.specs.Job.{Job}
+use Rattle.recovery.specs.Open.{IsOpen, IsUnchanged, IsFreedNow, IsHalfFreed, IsCommittedNow, IsCommittedBehind, has_room, IsPutNow, IsRetiredNow, IsWithOrWithout, device_of, state_of, has_failed}
 use Rattle.recovery.specs.declared.run.StoreStep.TheVariants.{Retire as Retires}
 use Rattle.recovery.specs.Marked.{MayRetire}
 use Rattle.recovery.specs.Run.{IsTaken, IsWhy}
@@ -125,6 +126,18 @@ module _ {D : Type 0} {disk : Ghosts D} (old new : Store D disk) where
   retire_why (Ok answer) only needed = tt
   retire_why (Err refusal) (inl is) needed = λ no_fault. (is, needed (ap (λ (e : Refusal). Err e) is))
   retire_why (Err refusal) (inr fault) needed = λ no_fault. absurd (no_fault fault)
+
+  -- what a milestone of a job leaves
+  put_done : (job : Job) (result : Result (Unit {0}) Refusal) → OnOk result ((is_open : IsOpen old) → IsPutNow is_open.cells is_open.table job new) → OnOk result (IsOpen old → IsOpen new)
+  put_done job (Ok answer) done = λ is_open. (done is_open).goes_on
+  put_done job (Err refusal) done = tt
+
+  pub goes_put : (job : Job) (result : Result (Unit {0}) Refusal) → FailsAtFaults result old new
+      → (has_failed old ≡ false → IsOpen old → LeavesOnly disk (λ content. FoundAs content (state_of old)) (device_of old) (device_of new))
+      → OnOk result ((is_open : IsOpen old) → IsPutNow is_open.cells is_open.table job new)
+      → IfErr result (λ e. e ≢ Fault → IsOpen old → IsOpen new)
+      → Goes (λ content. FoundAs content (state_of old)) old new
+  goes_put job result faults any_moment done kept = goes_call result faults.failed_before faults.fails any_moment (put_done job result done) kept
 
 -- one batch that is committed more
 pub kept_more : (start old new : State) (before after : Published) (receipt batch : List Taken) → old ≡ fold start (commands_of (before.told ++ before.unpublished)) → before.unpublished ≡ []

@@ -1,7 +1,7 @@
 //! What a flusher does for its store between batches: milestones, and the retirement of what nothing needs any more.
-ghost use Rattle.std.specs.Prelude.{◌≡◌, ◌≢◌, ◌⊎◌, ◌≤◌, ℕ, [], true, false, Some, None, length, take, slice_get, Contains, OnOk, OnErr, IfOk, IfErr, IsErrOf};
+ghost use Rattle.std.specs.Prelude.{◌≡◌, ◌≢◌, ◌⊎◌, ◌↔◌, ◌≤◌, ℕ, [], true, false, Some, None, length, take, slice_get, Contains, OnOk, OnErr, IfOk, IfErr, IsErrOf};
 ghost use Rattle.refusal.specs.declared.Refusal.{Refusal as Why};
-ghost use Rattle.refusal.specs.declared.Refusal.TheVariants.{NoDocument, Future, TooOld, StillNeeded, NoMemory, Fault};
+ghost use Rattle.refusal.specs.declared.Refusal.TheVariants.{NoDocument, Future, TooOld, StillNeeded, Stranger, NoMemory, Fault};
 ghost use Rattle.history.specs.Cell.{cells_at};
 ghost use Rattle.recovery.specs.declared.run.StoreStep.TheVariants.{Milestone, Retire};
 ghost use Rattle.recovery.specs.Begun.{IsLeftByMemory};
@@ -9,7 +9,7 @@ ghost use Rattle.recovery.specs.Due.{job_due_for};
 ghost use Rattle.recovery.specs.Faults.{FailsAtFaults};
 ghost use Rattle.recovery.specs.Found.{FoundAs};
 ghost use Rattle.recovery.specs.Jobs.{IsJobTo, highest, last_job, no_job_for, with_job, without_job};
-ghost use Rattle.recovery.specs.Open.{IsOpen, IsUnchanged, device_of, state_of, has_failed, known_cells, kept_jobs};
+ghost use Rattle.recovery.specs.Open.{IsOpen, IsPutNow, IsUnchanged, device_of, state_of, has_failed, known_cells, kept_jobs};
 ghost use Rattle.recovery.specs.PutJobs.{ArePut, CostsTogether};
 ghost use Rattle.recovery.specs.Cells.{highest_known};
 ghost use Rattle.recovery.specs.Unwritten.{IsUnchangedButJobs};
@@ -115,6 +115,29 @@ impl<D: Disk, J: Site> Flusher<D, J> {
         ensures waiting { waiting_of self.new ≡ waiting_of self.old }
     {
         self.store.give_up_job(job);
+    }
+
+    /// Puts the milestone that came of a job, as `Store::put_milestone` does. What is held, and what is published, stays.
+    pub fn put_milestone(&mut self, alloc: Global, composed: &Composed) -> Result<(), Refusal>
+        ensures faults { FailsAtFaults result (store_of self.old) (store_of self.new) }
+        ensures goes { Goes (λ content. FoundAs content (state_of (store_of self.old))) (store_of self.old)
+            (store_of self.new) }
+        ensures state { state_of (store_of self.new) ≡ state_of (store_of self.old) }
+        ensures done { OnOk result ((is_open : IsOpen (store_of self.old))
+            → IsPutNow is_open.cells is_open.table composed.now (store_of self.new)) }
+        ensures dropped { OnOk result (kept_jobs (store_of self.new)
+            ≡ without_job composed.now.document (kept_jobs (store_of self.old))) }
+        ensures untouched { (IsErrOf result Stranger) ⊎ (IsErrOf result NoMemory)
+            → IsUnchanged (store_of self.old) (store_of self.new) }
+        ensures jobs { OnErr result (kept_jobs (store_of self.new) ≡ kept_jobs (store_of self.old)) }
+        ensures stranger { has_failed (store_of self.old) ≡ false
+            → (IsErrOf result Stranger ↔ (¬ Contains (kept_jobs (store_of self.old)) composed.now)) }
+        ensures only { IfErr result (λ e. (e ≡ Stranger) ⊎ ((e ≡ NoMemory) ⊎ (e ≡ Fault))) }
+        ensures told { told_of self.new ≡ told_of self.old }
+        ensures committed { committed_of self.new ≡ committed_of self.old }
+        ensures waiting { waiting_of self.new ≡ waiting_of self.old }
+    {
+        self.store.put_milestone(alloc, composed)
     }
 
     /// Puts the milestones of composed jobs as one step, as `Store::put_milestones` does, and returns how many of them it took, from the first on. What is held,
