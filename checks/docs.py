@@ -53,10 +53,10 @@ PHRASES = {
 # names that types of two crates or more have today (docs/WORDS.md says what some of them mean). A new type gets a name of its own.
 TWICE = {
     "Action", "Ahead", "Answer", "AreMarked", "AreParts", "Batch", "Begun", "Board", "Call", "Change", "ComesOf", "Command", "Content", "Cursor",
-    "Desk", "Ended", "Event", "Exchange", "Failure", "Fits", "FitsNow", "Found", "Front", "HasRoom", "IsAppended", "IsFree", "IsKeptFrom", "IsNext",
-    "IsPart", "IsReadAs", "IsStep", "IsUncommitted", "IsWritten", "Kept", "Key", "Kind", "Limits", "Log", "Mark", "News", "Nothing", "Opened",
-    "Order", "Part", "Past", "Peer", "Place", "Record", "Reply", "Run", "Sent", "Shown", "Shows", "Spells", "Stands", "StandsFor", "State",
-    "Step", "Stop", "Stops", "Tally", "Ticket", "Told", "Unread", "Waiting", "Written",
+    "Desk", "Ended", "Event", "Exchange", "Fits", "FitsNow", "Found", "Front", "HasRoom", "IsAppended", "IsFree", "IsKeptFrom", "IsNext",
+    "IsPart", "IsReadAs", "IsStep", "IsWritten", "Kept", "Key", "Kind", "Limits", "Log", "Mark", "Moment", "Moments", "News",
+    "Nothing", "Opened", "Order", "Part", "Peer", "Place", "Record", "Reply", "Run", "Sent", "Shown", "Shows", "Spells", "Stands",
+    "StandsFor", "State", "Step", "Stops", "Tally", "Ticket", "Told", "Waiting", "Written",
 }
 
 SUFFIXES = (".rt", ".antt", ".edit", ".md", ".py", ".mjs", ".txt")

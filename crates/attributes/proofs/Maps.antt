@@ -14,7 +14,12 @@ pub use Rattle.attributes.specs.Table.{is_name}
 pub same_name : (x y : List ℕ) → by_bytes x y ≡ Equal → x ≡ y
 same_name = slice_cmp-IsAntisymmetric nat_cmp-IsAntisymmetric
 
-equal_from : (r : Ordering) → is_eq r ≡ true → r ≡ Equal
+-- a choice between the same is that
+pub cond_same : {A : Type 0} (b : Bool) (x : A) → cond b x x ≡ x
+cond_same true x = refl
+cond_same false x = refl
+
+pub equal_from : (r : Ordering) → is_eq r ≡ true → r ≡ Equal
 equal_from Less e = absurd (cc)
 equal_from Equal e = refl
 equal_from Greater e = absurd (cc)

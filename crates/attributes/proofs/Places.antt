@@ -1,5 +1,5 @@
 -- Walking over entries in order to the place of a name.
-use Rattle.std.proofs.Common.{◌≡◌, ℕ, suc, ◌+◌, ◌<◌, Bool, true, false, cond, List, [], ◌∷◌, ◌++◌, length, take, drop, get_or, Some, None, refl, sym, ap, ap₂, subst, ◌∙◌, Ordering, Less, Equal, Greater, arith, append-nil}
+use Rattle.std.proofs.Common.{◌≡◌, ℕ, suc, ◌+◌, ◌<◌, Bool, true, false, cond, List, [], ◌∷◌, ◌++◌, length, take, drop, get_or, Some, None, refl, sym, ap, ap₂, subst, ◌∙◌, Ordering, Less, Equal, Greater, arith, append-nil, add-one}
 use Rattle.std.proofs.Math.Seq.{drop-cons, take-length, get_or-append_seam, set-append_seam, take-append_seam, drop-append_seam}
 use Rattle.std.proofs.lemmas.List.{take-append-drop, take_more, length-take-le}
 use Rattle.std.specs.Prelude.{not, T}
@@ -131,6 +131,11 @@ module _ {X : Type 0} (name : List ℕ) (es : List (List ℕ × X)) (i : ℕ) (s
 -- what a loop over a map's list reads, of the map
 pub read_at : {A : Type 0} (items es : List A) (i : ℕ) (e : A) → items ≡ es → i < length items → e ≡ get_or items i e → (i < length es) × (e ≡ get_or es i e)
 read_at items es i e same inside is = subst (λ l. (i < length l) × (e ≡ get_or l i e)) same (inside, is)
+
+-- a list from a place on
+pub drop-here : {A : Type 0} (items : List A) (i : ℕ) (item : A) → i < length items → item ≡ get_or items i item → drop i items ≡ item ∷ drop (i + 1) items
+drop-here items i item inside is =
+    drop-cons items i item inside ∙ (ap (λ x. x ∷ drop (suc i) items) (sym is) ∙ ap (λ j. item ∷ drop j items) (sym (add-one i)))
 
 pub compared : (name text key : List ℕ) (order : Ordering) → order ≡ by_bytes name text → text ≡ key → by_bytes name key ≡ order
 compared name text key order is same = ap (by_bytes name) (sym same) ∙ sym is

@@ -13,7 +13,7 @@ use Rattle.attributes.specs.Scalar.{Scalar}
 use Rattle.attributes.proofs.AtEachName.{get-changed, get-reverted, get-put_or_remove, after_cond}
 use Rattle.attributes.proofs.Maps.{is_name, same_map, get-insert, get-overwritten, get-without, first_cond, T_parts, less_from, same_name_from}
 
-T_both : (a b : Bool) → T a → T b → T (a && b)
+pub T_both : (a b : Bool) → T a → T b → T (a && b)
 T_both true b p q = q
 T_both false b p q = p
 
@@ -29,7 +29,7 @@ is_sorted-front (e ∷ before) rest sorted =
     let parts = T_parts (below_all by_bytes e.0 (before ++ rest)) (is_sorted by_bytes (before ++ rest)) sorted in
     T_both (below_all by_bytes e.0 before) (is_sorted by_bytes before) (below_all-front e.0 before rest parts.0) (is_sorted-front before rest parts.1)
 
-below_last : {X : Type 0} (name : List ℕ) (before : List (List ℕ × X)) (e : List ℕ × X) → T (below_all by_bytes name (before ++ e ∷ [])) → by_bytes name e.0 ≡ Less
+pub below_last : {X : Type 0} (name : List ℕ) (before : List (List ℕ × X)) (e : List ℕ × X) → T (below_all by_bytes name (before ++ e ∷ [])) → by_bytes name e.0 ≡ Less
 below_last name [] e below = less_from (by_bytes name e.0) (T_parts (is_lt (by_bytes name e.0)) true below).0
 below_last name (f ∷ before) e below =
     below_last name before e (T_parts (is_lt (by_bytes name f.0)) (below_all by_bytes name (before ++ e ∷ [])) below).1

@@ -1,12 +1,11 @@
 //! Attributes.
-ghost use Rattle.std.specs.Prelude.{◌≡◌, [], IfOk, OnOk, OnErr, IsOkUnless, option_copied};
+ghost use Rattle.std.specs.Prelude.{◌≡◌, [], IfOk, OnOk, OnErr, option_copied};
 ghost use Rattle.attributes.specs.Map.{empty, insert, get, remove};
 
 use crate::key::Key;
 use crate::map::Map;
 use crate::value::Value;
-use refusal::Refusal;
-use std::alloc::Global;
+use std::alloc::{AllocError, Global};
 use std::marker::Model;
 
 /// Attributes of an insertion or a unit: a value at each of their names.
@@ -38,10 +37,9 @@ impl Attrs {
     }
 
     /// Puts a value at a name, in place of what stood there.
-    pub fn set(&mut self, key: Key, value: Value) -> Result<(), Refusal>
+    pub fn set(&mut self, key: Key, value: Value) -> Result<(), AllocError>
         ensures ok { OnOk result (self.new ≡ insert self.old key value) }
         ensures err { OnErr result (self.new ≡ self.old) }
-        ensures only { IsOkUnless result Refusal.NoMemory }
     {
         self.map.set(key, value)
     }
@@ -67,9 +65,8 @@ impl Attrs {
     }
 
     /// Equal attributes.
-    pub fn copy(&self, alloc: Global) -> Result<Self, Refusal>
+    pub fn copy(&self, alloc: Global) -> Result<Self, AllocError>
         ensures same { IfOk result (λ attrs. attrs ≡ self.now) }
-        ensures only { IsOkUnless result Refusal.NoMemory }
     {
         let mut copy = Attrs::new(alloc);
         for (key, value) in self.entries() {

@@ -1,12 +1,11 @@
 //! Changes of attributes.
-ghost use Rattle.std.specs.Prelude.{◌≡◌, ◌↔◌, IfOk, IsTrue, OnOk, OnErr, IsOkUnless, option_copied};
+ghost use Rattle.std.specs.Prelude.{◌≡◌, ◌↔◌, IfOk, IsTrue, OnOk, OnErr, option_copied};
 ghost use Rattle.attributes.specs.Map.{empty, insert, get, contains};
 
 use crate::key::Key;
 use crate::map::Map;
 use crate::value::Value;
-use refusal::Refusal;
-use std::alloc::Global;
+use std::alloc::{AllocError, Global};
 use std::marker::Model;
 
 /// A change of attributes: at each of its names a new value, or None, which removes the name.
@@ -46,10 +45,9 @@ impl Change {
     }
 
     /// Sets or removes a name, in place of what stood there.
-    pub fn set(&mut self, key: Key, value: Option<Value>) -> Result<(), Refusal>
+    pub fn set(&mut self, key: Key, value: Option<Value>) -> Result<(), AllocError>
         ensures ok { OnOk result (self.new ≡ insert self.old key value) }
         ensures err { OnErr result (self.new ≡ self.old) }
-        ensures only { IsOkUnless result Refusal.NoMemory }
     {
         self.map.set(key, value)
     }
@@ -60,9 +58,8 @@ impl Change {
         alloc: Global,
         key: &Key,
         value: &Option<Value>,
-    ) -> Result<(), Refusal>
+    ) -> Result<(), AllocError>
         ensures ok { OnOk result (self.new ≡ insert self.old key.now value.now) }
-        ensures only { IsOkUnless result Refusal.NoMemory }
     {
         let key = key.copy(alloc)?;
         let value = copy_value(alloc, value)?;
@@ -91,9 +88,8 @@ impl Change {
     }
 
     /// An equal change.
-    pub fn copy(&self, alloc: Global) -> Result<Self, Refusal>
+    pub fn copy(&self, alloc: Global) -> Result<Self, AllocError>
         ensures same { IfOk result (λ change. change ≡ self.now) }
-        ensures only { IsOkUnless result Refusal.NoMemory }
     {
         let mut copy = Change::new(alloc);
         for (key, value) in self.entries() {
@@ -104,9 +100,8 @@ impl Change {
 }
 
 /// An equal value, or none.
-pub(crate) fn copy_value(alloc: Global, value: &Option<Value>) -> Result<Option<Value>, Refusal>
+pub(crate) fn copy_value(alloc: Global, value: &Option<Value>) -> Result<Option<Value>, AllocError>
     ensures same { IfOk result (λ copy. copy ≡ value.now) }
-    ensures only { IsOkUnless result Refusal.NoMemory }
 {
     match value {
         Some(value) => Ok(Some(value.copy(alloc)?)),

@@ -1,5 +1,5 @@
 //! What changes make of attributes and of each other.
-ghost use Rattle.std.specs.Prelude.{◌≡◌, IfOk, IsOkUnless};
+ghost use Rattle.std.specs.Prelude.{◌≡◌, IfOk};
 ghost use Rattle.attributes.specs.Map.{get};
 ghost use Rattle.attributes.specs.Attributes.{changed, composed, transformed, reverted, same_option};
 
@@ -7,13 +7,11 @@ use crate::attrs::Attrs;
 use crate::change::Change;
 use crate::key::Key;
 use crate::value::Value;
-use refusal::Refusal;
-use std::alloc::Global;
+use std::alloc::{AllocError, Global};
 
 /// The attributes after a change.
-pub fn apply(alloc: Global, attrs: &Attrs, change: &Change) -> Result<Attrs, Refusal>
+pub fn apply(alloc: Global, attrs: &Attrs, change: &Change) -> Result<Attrs, AllocError>
     ensures value { IfOk result (λ after. after ≡ changed attrs.now change.now) }
-    ensures only { IsOkUnless result Refusal.NoMemory }
 {
     let mut after = attrs.copy(alloc)?;
     for (key, value) in change.entries() {
@@ -26,9 +24,8 @@ pub fn apply(alloc: Global, attrs: &Attrs, change: &Change) -> Result<Attrs, Ref
 }
 
 /// One change for two, the second after the first.
-pub fn compose(alloc: Global, first: &Change, second: &Change) -> Result<Change, Refusal>
+pub fn compose(alloc: Global, first: &Change, second: &Change) -> Result<Change, AllocError>
     ensures value { IfOk result (λ both. both ≡ composed first.now second.now) }
-    ensures only { IsOkUnless result Refusal.NoMemory }
 {
     let mut both = first.copy(alloc)?;
     for (key, value) in second.entries() {
@@ -43,9 +40,8 @@ pub fn transform(
     first: &Change,
     second: &Change,
     priority: bool,
-) -> Result<Change, Refusal>
+) -> Result<Change, AllocError>
     ensures value { IfOk result (λ after. after ≡ transformed first.now second.now priority) }
-    ensures only { IsOkUnless result Refusal.NoMemory }
 {
     if !priority {
         return second.copy(alloc);
@@ -60,9 +56,8 @@ pub fn transform(
 }
 
 /// The change back to the attributes: the old value, or a removal, at each name that the change gives another value.
-pub fn invert(alloc: Global, change: &Change, attrs: &Attrs) -> Result<Change, Refusal>
+pub fn invert(alloc: Global, change: &Change, attrs: &Attrs) -> Result<Change, AllocError>
     ensures value { IfOk result (λ back. back ≡ reverted change.now attrs.now) }
-    ensures only { IsOkUnless result Refusal.NoMemory }
 {
     let mut back = Change::new(alloc);
     for (key, value) in change.entries() {
@@ -85,9 +80,8 @@ fn stands_at(attrs: &Attrs, key: &Key, value: &Option<Value>) -> bool
 }
 
 // the value at a name, or none
-fn copy_at(alloc: Global, attrs: &Attrs, key: &Key) -> Result<Option<Value>, Refusal>
+fn copy_at(alloc: Global, attrs: &Attrs, key: &Key) -> Result<Option<Value>, AllocError>
     ensures same { IfOk result (λ old. old ≡ get attrs.now key.now) }
-    ensures only { IsOkUnless result Refusal.NoMemory }
 {
     match attrs.get(key.as_str()) {
         Some(value) => Ok(Some(value.copy(alloc)?)),

@@ -1,9 +1,9 @@
 //! Names of attributes and embeds.
-ghost use Rattle.std.specs.Prelude.{◌≡◌, ◌↔◌, ◌⊎◌, IfOk, OnOk, IfErr, IsOkUnless};
+ghost use Rattle.std.specs.Prelude.{◌≡◌, ◌↔◌, ◌⊎◌, IfOk, OnOk, IfErr};
 ghost use Rattle.attributes.specs.Attributes.{IsKey};
 
 use refusal::Refusal;
-use std::alloc::Global;
+use std::alloc::{AllocError, Global};
 use std::marker::Model;
 
 /// The longest name, in bytes.
@@ -52,13 +52,12 @@ impl Key {
     }
 
     /// An equal name.
-    pub fn copy(&self, alloc: Global) -> Result<Self, Refusal>
+    pub fn copy(&self, alloc: Global) -> Result<Self, AllocError>
         ensures same { IfOk result (λ key. key ≡ self.now) }
-        ensures only { IsOkUnless result Refusal.NoMemory }
     {
         match String::from_str(alloc, self.text.as_str()) {
             Ok(text) => Ok(Key { text }),
-            Err(_) => Err(Refusal::NoMemory),
+            Err(_) => Err(AllocError),
         }
     }
 }

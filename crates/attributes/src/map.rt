@@ -1,5 +1,5 @@
 //! A sorted map from names to values of any kind.
-ghost use Rattle.std.specs.Prelude.{◌≡◌, T, MatchResult, OnOk, OnErr, IsOkUnless, option_copied};
+ghost use Rattle.std.specs.Prelude.{◌≡◌, T, MatchResult, OnOk, OnErr, option_copied};
 ghost use Rattle.std.specs.FinMap.Entries.{is_sorted};
 ghost use Rattle.attributes.specs.Map as map;
 ghost use Rattle.attributes.specs.Map.{by_bytes};
@@ -7,8 +7,7 @@ ghost use Rattle.attributes.specs.Place.{IsHere, IsFree};
 ghost use lib.Dec.{T_prop};
 
 use crate::key::Key;
-use refusal::Refusal;
-use std::alloc::Global;
+use std::alloc::{AllocError, Global};
 use std::cmp::Ordering;
 use std::marker::Model;
 
@@ -78,12 +77,11 @@ impl<V> Map<V> {
     }
 
     /// Puts a value at a name, in place of what stood there.
-    pub fn set(&mut self, key: Key, value: V) -> Result<(), Refusal>
+    pub fn set(&mut self, key: Key, value: V) -> Result<(), AllocError>
     where
         V: Drop,
         ensures ok { OnOk result (self.new ≡ map.insert self.old key value) }
         ensures err { OnErr result (self.new ≡ self.old) }
-        ensures only { IsOkUnless result Refusal.NoMemory }
     {
         match self.place(key.as_str()) {
             Ok(i) => {

@@ -1,9 +1,9 @@
 //! Values of attributes and embeds.
-ghost use Rattle.std.specs.Prelude.{◌≡◌, ◌↔◌, IfOk, OnOk, IfErr, IsOkUnless};
+ghost use Rattle.std.specs.Prelude.{◌≡◌, ◌↔◌, IfOk, OnOk, IsOkUnless};
 ghost use Rattle.attributes.specs.Scalar.{Scalar, IsExact, text_scalar, whole_scalar, flag_scalar};
 
 use refusal::Refusal;
-use std::alloc::Global;
+use std::alloc::{AllocError, Global};
 use std::marker::Model;
 
 /// 2^53: every whole number of a smaller magnitude is one that JSON readers keep exactly.
@@ -49,15 +49,14 @@ impl Value {
     ghost use Rattle.attributes.specs.Scalar.{IsExactScalar};
 
     /// A text.
-    pub fn text(alloc: Global, text: &str) -> Result<Self, Refusal>
+    pub fn text(alloc: Global, text: &str) -> Result<Self, AllocError>
         ensures text { IfOk result (λ value. value ≡ text_scalar text.now) }
-        ensures only { IsOkUnless result Refusal.NoMemory }
     {
         match String::from_str(alloc, text) {
             Ok(text) => Ok(Value {
                 kind: Kind::Text(text),
             }),
-            Err(_) => Err(Refusal::NoMemory),
+            Err(_) => Err(AllocError),
         }
     }
 
@@ -98,9 +97,8 @@ impl Value {
     }
 
     /// An equal value.
-    pub fn copy(&self, alloc: Global) -> Result<Self, Refusal>
+    pub fn copy(&self, alloc: Global) -> Result<Self, AllocError>
         ensures same { IfOk result (λ value. value ≡ self.now) }
-        ensures only { IsOkUnless result Refusal.NoMemory }
     {
         match &self.kind {
             Kind::Text(text) => Value::text(alloc, text.as_str()),

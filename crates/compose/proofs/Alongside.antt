@@ -3,7 +3,7 @@ use Rattle.std.proofs.Common.{◌≡◌, ℕ, zero, suc, List, [], ◌∷◌, �
 use Rattle.std.proofs.lemmas.List.{append_assoc, append-nil}
 use Rattle.attributes.specs.Map.{empty, insert_all}
 use Rattle.attributes.specs.Attributes.{Attributes, Changes, changed, composed as change_composed}
-use Rattle.delta.specs.Element.{Element, letters, embedded}
+use Rattle.delta.specs.Element.{Element, letters}
 use Rattle.delta.specs.Gaps.{Gaps, End, Gap, Fate, Del, Keep, front, run, fated}
 use Rattle.delta.specs.Normal.{past, settled}
 use Rattle.delta.proofs.CallerLemmas.{changed-empty, front-nil, front-front, settled-front, past-front}
@@ -16,7 +16,7 @@ laid-nothing [] = refl
 laid-nothing (x ∷ xs) =
     ap (λ a. record x { attributes = a } ∷ units_after xs (End [])) (changed-empty x.attributes) ∙ ap (λ l. x ∷ l) (laid-nothing xs)
 
-beyond-nothing : (xs : List Element) → beyond xs (End []) ≡ End []
+pub beyond-nothing : (xs : List Element) → beyond xs (End []) ≡ End []
 beyond-nothing [] = refl
 beyond-nothing (x ∷ xs) = beyond-nothing xs
 
@@ -71,7 +71,7 @@ laid-front : (x : Element) (xs ys : List Element) (h : Gaps) → units_after (x 
 laid-front x xs ys (End zs) = append_assoc ys zs (fated (Keep empty) x ++ units_after xs (End []))
 laid-front x xs ys (Gap zs f h) = append_assoc ys zs (fated f x ++ units_after xs h)
 
-beyond-front : (x : Element) (xs ys : List Element) (h : Gaps) → beyond (x ∷ xs) (front ys h) ≡ beyond (x ∷ xs) h
+pub beyond-front : (x : Element) (xs ys : List Element) (h : Gaps) → beyond (x ∷ xs) (front ys h) ≡ beyond (x ∷ xs) h
 beyond-front x xs ys (End zs) = refl
 beyond-front x xs ys (Gap zs f h) = refl
 

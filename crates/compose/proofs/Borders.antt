@@ -2,7 +2,8 @@
 use Rattle.std.proofs.Common.{◌≡◌, ℕ, zero, suc, ◌-◌, ◌<◌, Bool, true, false, List, [], ◌∷◌, ◌++◌, length, take, drop, refl, sym, ap, ◌∙◌, arith}
 use Rattle.std.specs.Prelude.{IsTrue, not, ◌&&◌, slice_index}
 use Rattle.std.specs.Char.Utf16.{is_high_surrogate, is_low_surrogate}
-use Rattle.std.proofs.Math.Bool.{and-false}
+use Rattle.std.proofs.Math.Bool.{and-false, and-true}
+use Rattle.std.proofs.lemmas.Bool.{not-true}
 use Rattle.attributes.specs.Map.{empty}
 use Rattle.attributes.specs.Attributes.{Attributes, same_attributes, same_changes, same_attributes-Decides}
 use Rattle.delta.specs.Element.{Element, letters, lettered, embedded}
@@ -29,10 +30,6 @@ not-and_left false u h = refl
 
 not-and_false : (t : Bool) → not (t && false) ≡ true
 not-and_false t = ap not (and-false t)
-
-not-false : (t : Bool) → not t ≡ true → t ≡ false
-not-false true h = absurd (cc)
-not-false false h = refl
 
 -- something inserted parts what stands beside it
 parts-insert : (f : Fate) (x : Element) (xs : List Element) (g : Gaps) → parts f (front (x ∷ xs) g) ≡ true
@@ -70,7 +67,7 @@ border-apart (u ∷ []) a [] f h apart built = refl
 border-apart (u ∷ []) a (insert_text [] b ∷ ops) f h apart built = absurd (omega (arith, (built-parts (insert_text [] b) ops built).0))
 border-apart (u ∷ []) a (insert_text (v ∷ vs) b ∷ ops) f h apart built =
     ap (λ l. border (lettered u a ∷ []) l f h) (inserts-front (letters (v ∷ vs) b) (counted ops))
-    ∙ (ap (λ t. ((is_high_surrogate u && is_low_surrogate v) && t) && parts f h) (not-false (same_attributes a b) apart)
+    ∙ (ap (λ t. ((is_high_surrogate u && is_low_surrogate v) && t) && parts f h) (not-true (same_attributes a b) apart)
     ∙ ap (λ t. t && parts f h) (and-false (is_high_surrogate u && is_low_surrogate v)))
 border-apart (u ∷ []) a (insert_embed key value b ∷ ops) f h apart built =
     ap (λ l. border (lettered u a ∷ []) l f h) (inserts-front (embedded key value b ∷ []) (counted ops))
@@ -82,11 +79,6 @@ border-apart (u ∷ []) a (delete (suc n) ∷ ops) f h apart built = refl
 pub border-embed : (key : List ℕ) (value : Rattle.attributes.specs.Scalar.Scalar) (a : Attributes) (ys : List Element) (f : Fate) (h : Gaps) → border (embedded key value a ∷ []) ys f h ≡ false
 border-embed key value a [] f h = refl
 border-embed key value a (y ∷ ys) f h = refl
-
--- within a text a pair stands where a high unit and a low unit do
-and-true : (t : Bool) → (t && true) ≡ t
-and-true true = refl
-and-true false = refl
 
 pub border-within : (n : ℕ) (us : List ℕ) (a : Attributes) (zs : List Element) (f : Fate) (h : Gaps) → 0 < n → n < length us
     → border (letters (take n us) a) (letters (drop n us) a ++ zs) f h ≡ ((is_high_surrogate (slice_index us (n - 1)) && is_low_surrogate (slice_index us n)) && parts f h)

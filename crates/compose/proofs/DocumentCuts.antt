@@ -2,7 +2,7 @@
 use Rattle.std.proofs.Common.{◌≡◌, ◌≢◌, ℕ, zero, suc, ◌⊎◌, inl, inr, Bool, true, false, List, [], ◌∷◌, refl, sym, ap, ◌∙◌}
 use Rattle.std.specs.Prelude.{not, ◌&&◌, ◌||◌}
 use Rattle.std.specs.Char.Utf16.{is_high_surrogate, is_low_surrogate}
-use Rattle.std.proofs.lemmas.Bool.{and_parts, and_from}
+use Rattle.std.proofs.lemmas.Bool.{and_parts, and_from, or_left, or_right}
 use Rattle.attributes.specs.Attributes.{same_attributes, same_attributes-Decides, same_changes-Decides}
 use Rattle.delta.specs.Element.{Element, Item, code_unit, embed}
 use Rattle.delta.specs.Operation.{Operation}
@@ -125,14 +125,6 @@ or-cases : (s t : Bool) → (s || t) ≡ true → (s ≡ true) ⊎ (t ≡ true)
 or-cases true t e = inl refl
 or-cases false t e = inr e
 
-or-right : (s t : Bool) → t ≡ true → (s || t) ≡ true
-or-right true t e = refl
-or-right false t e = e
-
-or-left : (s t : Bool) → s ≡ true → (s || t) ≡ true
-or-left true t e = refl
-or-left false t e = absurd (cc)
-
 pub cut-there : (d : List Element) (g : Gaps) → cuts_units d g ≡ true → Cuts d g
 cut-there [] g e = absurd (cc)
 cut-there (x ∷ []) g e = absurd (cc)
@@ -146,9 +138,9 @@ there-cut : (d : List Element) (g : Gaps) (i : ℕ) → IsPairAt d i → Parted 
 there-cut [] g i pair parted = absurd pair
 there-cut (x ∷ []) g i pair parted = absurd pair
 there-cut (x ∷ y ∷ d) g zero pair parted =
-    or-left (is_pair x y && parts (fate g) (tail g)) (cuts_units (y ∷ d) (tail g)) (and_from (is_pair x y) (parts (fate g) (tail g)) (fact-pair x y pair) (first-parted g parted))
+    or_left (is_pair x y && parts (fate g) (tail g)) (cuts_units (y ∷ d) (tail g)) (and_from (is_pair x y) (parts (fate g) (tail g)) (fact-pair x y pair) (first-parted g parted))
 there-cut (x ∷ y ∷ d) g (suc i) pair parted =
-    or-right (is_pair x y && parts (fate g) (tail g)) (cuts_units (y ∷ d) (tail g)) (there-cut (y ∷ d) (tail g) i pair (rest-parted g i parted))
+    or_right (is_pair x y && parts (fate g) (tail g)) (cuts_units (y ∷ d) (tail g)) (there-cut (y ∷ d) (tail g) i pair (rest-parted g i parted))
 
 pub units-cut : (d : List Element) (g : Gaps) → Cuts d g → cuts_units d g ≡ true
 units-cut d g cut = there-cut d g cut.0 cut.1 cut.2
@@ -169,10 +161,10 @@ cut-text (Gap xs (Keep c) g) b e =
 
 text-there : (a b : Gaps) → CutsInserted a b → cuts a b ≡ true
 text-there (End xs) b cut = units-cut xs b cut
-text-there (Gap xs Del g) b (inl here) = or-left (cuts_units xs b) (cuts g (beyond xs b)) (units-cut xs b here)
-text-there (Gap xs Del g) b (inr later) = or-right (cuts_units xs b) (cuts g (beyond xs b)) (text-there g (beyond xs b) later)
-text-there (Gap xs (Keep c) g) b (inl here) = or-left (cuts_units xs b) (cuts g (tail (beyond xs b))) (units-cut xs b here)
-text-there (Gap xs (Keep c) g) b (inr later) = or-right (cuts_units xs b) (cuts g (tail (beyond xs b))) (text-there g (tail (beyond xs b)) later)
+text-there (Gap xs Del g) b (inl here) = or_left (cuts_units xs b) (cuts g (beyond xs b)) (units-cut xs b here)
+text-there (Gap xs Del g) b (inr later) = or_right (cuts_units xs b) (cuts g (beyond xs b)) (text-there g (beyond xs b) later)
+text-there (Gap xs (Keep c) g) b (inl here) = or_left (cuts_units xs b) (cuts g (tail (beyond xs b))) (units-cut xs b here)
+text-there (Gap xs (Keep c) g) b (inr later) = or_right (cuts_units xs b) (cuts g (tail (beyond xs b))) (text-there g (tail (beyond xs b)) later)
 
 pub cuts_of_units : CutsOfUnits
 cuts_of_units d g = (cut-there d g, units-cut d g)

@@ -58,9 +58,6 @@ refused-cut old now first second before after e further cuts (inl cut) f s more 
     subst (IsComposeRefused f s) (sym cut) (cut-text (counted f) (counted s) (now_is.cut ∙ cuts cut more now_is.before_normal))
 refused-cut old now first second before after e further cuts (inr memory) f s more so = subst (IsComposeRefused f s) (sym memory) tt
 
-pub refused-memory : (old first second : List Operation) (e : Refusal) → e ≡ NoMemory → IsRefusedPartway old first second e
-refused-memory old first second e memory f s more so = subst (IsComposeRefused f s) (sym memory) tt
-
 -- what a loop over both keeps
 pub record IsLaid (old first second out before after : List Operation) : Type 0 where
   pub on : ComposesFurther old first second out before after

@@ -3,15 +3,12 @@ use Rattle.std.proofs.Common.{◌≡◌, suc, ◌+◌, ◌≤◌, List, [], ◌�
 use Rattle.attributes.specs.Attributes.{Changes}
 use Rattle.delta.specs.Element.{Element}
 use Rattle.delta.specs.Operation.{Operation, base_of, out_of}
-use Rattle.delta.specs.Gaps.{Gaps, End, Gap, Fate, Del, Keep, front, fated, counted, joined, units_below, units_made, units_kept}
+use Rattle.delta.specs.Gaps.{Gaps, End, Gap, Fate, Del, Keep, fated, counted, joined, units_below, units_made, units_kept}
 use Rattle.delta.specs.Normal.{settled, spelled, nf}
-use Rattle.delta.proofs.CallerLemmas.{units_below-front, units_below-counted, counted-spelled, units_made-counted, units_below-settled, units_made-settled, base_of-spelled, out_of-spelled, lengths-nf}
+use Rattle.delta.proofs.CallerLemmas.{units_below-front, units_below-counted, counted-spelled, units_made-counted, units_below-settled, units_made-settled, base_of-spelled, out_of-spelled, lengths-nf, length-fated}
 use Rattle.compose.specs.Places.{inserts, fate, tail}
 use Rattle.compose.specs.Composed.{units_after, beyond, kept_then, composed, one_for}
-
-pub made-front : (xs : List Element) (g : Gaps) → units_made (front xs g) ≡ length xs + units_made g
-made-front xs (End ys) = length-append xs ys
-made-front xs (Gap ys f g) = omega (arith, length-append xs ys)
+pub use Rattle.delta.proofs.CallerLemmas.{units_made-front as made-front}
 
 -- one after the other
 pub below-joined : (g h : Gaps) → units_below (joined g h) ≡ units_below g + units_below h
@@ -55,10 +52,6 @@ below-composed (Gap xs Del g) b =
 below-composed (Gap xs (Keep c) g) b =
     let r : Gaps = beyond xs b in
     omega (arith, units_below-front (units_after xs b) (Gap (inserts r) (kept_then c (fate r)) (composed g (tail r))), below-composed g (tail r), below-tail r, below-beyond xs b)
-
-length-fated : (f : Fate) (x : Element) → length (fated f x) ≡ units_kept f
-length-fated Del x = refl
-length-fated (Keep c) x = refl
 
 kept-then : (c : Changes) (f : Fate) → units_kept (kept_then c f) ≡ units_kept f
 kept-then c Del = refl

@@ -1,8 +1,6 @@
 -- One delta for several, one after another.
 use Rattle.std.proofs.lemmas.Bool.{cases_lt}
-use Rattle.std.proofs.Math.ListN.{get_or}
-use Rattle.std.proofs.Math.Seq.{drop-cons}
-use Rattle.std.proofs.Common.{◌≡◌, ℕ, suc, ◌+◌, ◌≤◌, ◌<◌, ◌^◌, inl, inr, ⊎_elim, List, [], ◌∷◌, ◌++◌, length, drop, length-append, refl, sym, ap, subst, ◌∙◌, arith}
+use Rattle.std.proofs.Common.{◌≡◌, ℕ, suc, ◌+◌, ◌≤◌, ◌<◌, ◌^◌, inl, inr, ⊎_elim, List, [], ◌∷◌, ◌++◌, length, length-append, refl, sym, ap, subst, ◌∙◌, arith}
 use Rattle.delta.specs.Element.{Element}
 use Rattle.refusal.specs.declared.Refusal.{Refusal}
 use Rattle.refusal.specs.declared.Refusal.TheVariants.{CutsPair, BadOps, NoMemory}
@@ -20,6 +18,7 @@ use Rattle.compose.specs.Outcome.{CanCompose, CanComposeAll, IsComposeRefused, I
 use Rattle.compose.proofs.Compositions.{composes_by_normal}
 use Rattle.compose.proofs.Lengths.{lengths-one}
 use Rattle.compose.proofs.WholePairs.{whole-nothing, whole-one, whole-text}
+pub use Rattle.attributes.proofs.CallerLemmas.{drop-here}
 
 -- one gap form for two stands on no more units than are there
 units-tail : (b : Gaps) (n : ℕ) → units_below b ≤ suc n → units_below (tail b) ≤ n
@@ -94,10 +93,6 @@ pub record AreComposed (deltas : List (List Operation)) (one : List Operation) (
   pub refused : (e : Refusal) → IsComposeAllRefused one left e → IsComposeAllRefused [] deltas e
   pub lengths : (base_of one + out_of one) + lengths_of left ≤ lengths_of deltas
 
-pub composed-start : (deltas : List (List Operation)) (one : List Operation) → one ≡ [] → AreComposed deltas one deltas
-composed-start deltas one none =
-    subst (λ o. AreComposed deltas o deltas) (sym none) (record { same = refl; accepted = λ h. h; refused = λ e h. h; lengths = omega arith })
-
 pub composed-step : (deltas : List (List Operation)) (one next made : List Operation) (others : List (List Operation)) → AreComposed deltas one (next ∷ others)
     → made ≡ one_for one next → CanCompose one next → AreComposed deltas made others
 composed-step deltas one next made others so made_is can =
@@ -162,9 +157,3 @@ long-two a b past =
 pub long-many : (deltas : List (List Operation)) (one next : List Operation) (others : List (List Operation)) → AreComposed deltas one (next ∷ others)
     → IsComposeRefused one next BadOps → 2 ^ 48 < lengths_of deltas
 long-many deltas one next others so refused = omega (arith, so.lengths, long-two one next refused.1)
-
--- the deltas from a place on
-pub drop-here : (deltas : List (List Operation)) (i : ℕ) (next : List Operation) → i < length deltas → next ≡ get_or deltas i next → drop i deltas ≡ next ∷ drop (i + 1) deltas
-drop-here deltas i next within is =
-    let more : suc i ≡ i + 1 = omega arith in
-    drop-cons deltas i next within ∙ (ap (λ x. x ∷ drop (suc i) deltas) (sym is) ∙ ap (λ j. next ∷ drop j deltas) more)

@@ -3,7 +3,7 @@ use Rattle.std.proofs.Common.{◌≡◌, ℕ, suc, ◌+◌, ◌-◌, ◌<◌, �
 use Rattle.std.specs.Prelude.{IsTrue, ◌&&◌, ◌||◌, slice_index}
 use Rattle.std.specs.Char.Utf16.{is_high_surrogate, is_low_surrogate}
 use Rattle.std.proofs.lemmas.List.{append-nil}
-use Rattle.std.proofs.lemmas.Bool.{cases_lt}
+use Rattle.std.proofs.lemmas.Bool.{cases_lt, or_left}
 use Rattle.std.proofs.Math.Seq.{take-length}
 use Rattle.attributes.specs.Map.{empty}
 use Rattle.attributes.specs.Attributes.{Attributes, Changes, changed}
@@ -21,6 +21,7 @@ use Rattle.compose.proofs.Alongside.{composed-empty, composed-front, composed-ke
 use Rattle.compose.proofs.Pairs.{border, cuts-border, cuts-kept}
 use Rattle.compose.proofs.OutParts.{out-cut}
 use Rattle.compose.proofs.Borders.{inserts-front, fate_of, parts-next, border-apart, border-embed, border-within}
+pub use Rattle.document.proofs.CallerLemmas.{length-letters, normal_some as some-first}
 
 -- the first operation inserts or keeps, the second keeps or deletes
 pub record DoMeet (op next : Operation) : Type 0 where
@@ -83,10 +84,6 @@ abbrev pub border_of : Operation → List Element → Fate → Gaps → Bool
 border_of (insert_text us a) ys f h = border (letters us a) ys f h
 border_of (insert_embed key value a) ys f h = border (embedded key value a ∷ []) ys f h
 border_of op ys f h = false
-
-length-letters : (us : List ℕ) (a : Attributes) → length (letters us a) ≡ length us
-length-letters [] a = refl
-length-letters (u ∷ us) a = ap suc (length-letters us a)
 
 text-cuts : (us : List ℕ) (a : Attributes) (k : ℕ) (f : Fate) (g h : Gaps) → k ≡ length us
     → cuts (front (letters us a) g) (run k f h) ≡ (border (letters us a) (inserts g) f h || cuts g h)
@@ -211,9 +208,6 @@ out-met (insert_embed key value a) (delete n) same = omega arith
 out-met (delete m) (retain n d) same = omega arith
 out-met (delete m) (delete n) same = omega arith
 
-pub some-first : (op : Operation) (ops : List Operation) → IsNormal (op ∷ ops) → 0 < op_len op
-some-first op ops normal = (built-parts op ops (normal-parts op ops normal).0).0
-
 pub some-min : (op next : Operation) (rest : List Operation) (n : ℕ) → 0 < op_len op → IsNormal (next ∷ rest) → n ≡ min (op_len op) (op_len next) → 0 < n
 some-min op next rest n first second is_min = omega (arith, first, some-first next rest second)
 
@@ -314,10 +308,6 @@ fate_of-first n (insert_embed key value a) = refl
 fate_of-first n (retain m c) = refl
 fate_of-first n (delete m) = refl
 
-or-first : (s t : Bool) → s ≡ true → (s || t) ≡ true
-or-first true t e = refl
-or-first false t e = absurd (cc)
-
 pub pair_cut : (op next : Operation) (ops rest : List Operation) (n : ℕ) → is_delete op ≡ false → is_insert next ≡ false → IsNormal (op ∷ ops) → IsNormal (next ∷ rest)
     → n ≡ min (op_len op) (op_len next) → EndsInPair n op → IsTrue (cuts (counted (op ∷ ops)) (counted (next ∷ rest)))
 pair_cut op next ops rest n stays stands first second is_min cut =
@@ -333,5 +323,5 @@ pair_cut op next ops rest n stays stands first second is_min cut =
     ap (λ g. cuts g (counted (next ∷ rest))) (counted-cut n op ops some (omega arith))
     ∙ (ap (cuts (counted (part ∷ left_after n op ops))) (counted-cut n next rest some (omega arith))
     ∙ (cuts-met part then (left_after n op ops) (left_after n next rest) (stays-first n op next (record { stays = stays; stands = stands })) same
-    ∙ or-first (border_of part (inserts (counted (left_after n op ops))) (fate_of then) (counted (left_after n next rest))) (cuts (counted (left_after n op ops)) (counted (left_after n next rest)))
+    ∙ or_left (border_of part (inserts (counted (left_after n op ops))) (fate_of then) (counted (left_after n next rest))) (cuts (counted (left_after n op ops)) (counted (left_after n next rest)))
     (border-there n op ops (fate_of then) (counted (left_after n next rest)) cut parted)))

@@ -1,34 +1,25 @@
 -- Where pairs are cut, as two gap forms begin.
-use Rattle.std.proofs.Common.{◌≡◌, ℕ, zero, suc, Bool, true, false, List, [], ◌∷◌, ◌++◌, length, refl, sym, ap, ◌∙◌}
+use Rattle.std.proofs.Common.{◌≡◌, ℕ, zero, suc, Bool, true, false, List, [], ◌∷◌, ◌++◌, length, refl, ap, ◌∙◌}
+use Rattle.std.proofs.Math.Bool.{or_assoc}
 use Rattle.std.specs.Prelude.{not, ◌&&◌, ◌||◌}
-use Rattle.attributes.specs.Attributes.{Changes, same_changes-Decides}
+use Rattle.attributes.specs.Attributes.{Changes}
 use Rattle.delta.specs.Element.{Element}
 use Rattle.delta.specs.Gaps.{Gaps, End, Gap, Fate, Del, Keep, front, run}
 use Rattle.compose.specs.Places.{inserts, tail}
 use Rattle.compose.specs.Composed.{beyond}
-use Rattle.compose.specs.steps.PairTest.{is_pair, same_fate, parts, cuts_units, cuts}
+use Rattle.compose.specs.steps.PairTest.{is_pair, parts, cuts_units, cuts}
+use Rattle.compose.proofs.Alongside.{beyond-nothing, beyond-front}
+use Rattle.compose.proofs.DocumentCuts.{fate-itself}
 
 and-false : (t : Bool) → (t && false) ≡ false
 and-false true = refl
 and-false false = refl
 
-or-assoc : (s t u : Bool) → (s || (t || u)) ≡ ((s || t) || u)
-or-assoc true t u = refl
-or-assoc false t u = refl
-
-same_fate-refl : (f : Fate) → same_fate f f ≡ true
-same_fate-refl Del = refl
-same_fate-refl (Keep c) = (same_changes-Decides c c).1 refl
-
 -- nothing cuts nothing
-cuts_units-nothing : (xs : List Element) → cuts_units xs (End []) ≡ false
+pub cuts_units-nothing : (xs : List Element) → cuts_units xs (End []) ≡ false
 cuts_units-nothing [] = refl
 cuts_units-nothing (x ∷ []) = refl
 cuts_units-nothing (x ∷ y ∷ xs) = ap (λ t. t || cuts_units (y ∷ xs) (End [])) (and-false (is_pair x y)) ∙ cuts_units-nothing (y ∷ xs)
-
-beyond-nothing : (xs : List Element) → beyond xs (End []) ≡ End []
-beyond-nothing [] = refl
-beyond-nothing (x ∷ xs) = beyond-nothing xs
 
 pub cuts-nothing : (g : Gaps) → cuts g (End []) ≡ false
 cuts-nothing (End xs) = cuts_units-nothing xs
@@ -37,16 +28,12 @@ cuts-nothing (Gap xs (Keep c) g) =
     ap (λ t. t || cuts g (tail (beyond xs (End [])))) (cuts_units-nothing xs) ∙ (ap (λ b. cuts g (tail b)) (beyond-nothing xs) ∙ cuts-nothing g)
 
 -- what the second inserts first cuts nothing
-cuts_units-front : (xs ys : List Element) (h : Gaps) → cuts_units xs (front ys h) ≡ cuts_units xs h
+pub cuts_units-front : (xs ys : List Element) (h : Gaps) → cuts_units xs (front ys h) ≡ cuts_units xs h
 cuts_units-front [] ys h = refl
 cuts_units-front (x ∷ []) ys (End zs) = refl
 cuts_units-front (x ∷ []) ys (Gap zs f h) = refl
 cuts_units-front (x ∷ y ∷ xs) ys (End zs) = refl
 cuts_units-front (x ∷ y ∷ xs) ys (Gap zs f h) = refl
-
-beyond-front : (x : Element) (xs ys : List Element) (h : Gaps) → beyond (x ∷ xs) (front ys h) ≡ beyond (x ∷ xs) h
-beyond-front x xs ys (End zs) = refl
-beyond-front x xs ys (Gap zs f h) = refl
 
 tail-front : (ys : List Element) (h : Gaps) → tail (front ys h) ≡ tail h
 tail-front ys (End zs) = refl
@@ -82,7 +69,7 @@ cuts_units-border [] ys f h = refl
 cuts_units-border (x ∷ []) [] f h = refl
 cuts_units-border (x ∷ []) (y ∷ ys) f h = refl
 cuts_units-border (x ∷ z ∷ xs) ys f h =
-    ap (λ t. (is_pair x z && not (t && true)) || cuts_units (z ∷ xs ++ ys) (run (length (z ∷ xs)) f h)) (same_fate-refl f)
+    ap (λ t. (is_pair x z && not (t && true)) || cuts_units (z ∷ xs ++ ys) (run (length (z ∷ xs)) f h)) (fate-itself f)
     ∙ (ap (λ t. t || cuts_units (z ∷ xs ++ ys) (run (length (z ∷ xs)) f h)) (and-false (is_pair x z)) ∙ cuts_units-border (z ∷ xs) ys f h)
 
 beyond-border : (xs ys : List Element) (f : Fate) (h : Gaps) → beyond (xs ++ ys) (run (length xs) f h) ≡ beyond ys h
@@ -94,8 +81,8 @@ cuts-border xs (End ys) f h = cuts_units-border xs ys f h
 cuts-border xs (Gap ys Del g) f h =
     ap (λ t. t || cuts g (beyond (xs ++ ys) (run (length xs) f h))) (cuts_units-border xs ys f h)
     ∙ (ap (λ r. (border xs ys f h || cuts_units ys h) || cuts g r) (beyond-border xs ys f h)
-    ∙ sym (or-assoc (border xs ys f h) (cuts_units ys h) (cuts g (beyond ys h))))
+    ∙ or_assoc (border xs ys f h) (cuts_units ys h) (cuts g (beyond ys h)))
 cuts-border xs (Gap ys (Keep c) g) f h =
     ap (λ t. t || cuts g (tail (beyond (xs ++ ys) (run (length xs) f h)))) (cuts_units-border xs ys f h)
     ∙ (ap (λ r. (border xs ys f h || cuts_units ys h) || cuts g (tail r)) (beyond-border xs ys f h)
-    ∙ sym (or-assoc (border xs ys f h) (cuts_units ys h) (cuts g (tail (beyond ys h)))))
+    ∙ or_assoc (border xs ys f h) (cuts_units ys h) (cuts g (tail (beyond ys h))))

@@ -1,5 +1,5 @@
 -- What takes one operation back, on the units that it stands on.
-use Rattle.std.proofs.Common.{◌≡◌, ℕ, suc, ◌+◌, true, false, List, [], ◌∷◌, ◌++◌, length, refl, sym, ap, subst, ◌∙◌, arith, length-append, append_assoc}
+use Rattle.std.proofs.Common.{◌≡◌, ℕ, ◌+◌, true, false, List, [], ◌∷◌, ◌++◌, length, refl, sym, ap, subst, ◌∙◌, arith, length-append, append_assoc}
 use Rattle.attributes.specs.Map.{empty}
 use Rattle.attributes.specs.Attributes.{Attributes, Changes, reverted, reverted_by}
 use Rattle.delta.specs.Element.{Element, letters, embedded}
@@ -12,7 +12,7 @@ use Rattle.document.specs.declared.run.Piece.TheVariants as piece
 use Rattle.document.specs.Pieces.{piece_units, piece_attributes}
 use Rattle.compose.specs.Inverse.{inverse, unit_back}
 use Rattle.compose.specs.steps.SteppingBack.{for_units, TakesBack, IsTakenBack}
-use Rattle.compose.proofs.Meetings.{run-joined}
+use Rattle.compose.proofs.Meetings.{length-letters, run-joined}
 
 -- what is inserted is deleted
 run-append : (xs ys : List Element) (g : Gaps) → run (length (xs ++ ys)) Del g ≡ run (length xs) Del (run (length ys) Del g)
@@ -38,10 +38,6 @@ inverse-plain (x ∷ xs) g d = ap (Gap [] (Keep empty)) (inverse-plain xs g d)
 inverse-deleted : (xs : List Element) (g : Gaps) (d : List Element) → inverse (run (length xs) Del g) (xs ++ d) ≡ front xs (inverse g d)
 inverse-deleted [] g d = sym (front-nil (inverse g d))
 inverse-deleted (x ∷ xs) g d = ap (front (x ∷ [])) (inverse-deleted xs g d) ∙ front-front (x ∷ []) xs (inverse g d)
-
-length-letters : (us : List ℕ) (a : Attributes) → length (letters us a) ≡ length us
-length-letters [] a = refl
-length-letters (u ∷ us) a = ap suc (length-letters us a)
 
 -- an insert
 out-effect : (op : Operation) (rest : List Operation) (d : List Element) → is_insert op ≡ true

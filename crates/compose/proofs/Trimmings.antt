@@ -2,6 +2,7 @@
 use Rattle.std.proofs.Common.{◌≡◌, ℕ, zero, suc, ◌+◌, ◌≤◌, ◌<◌, ◌^◌, Bool, true, false, cond, List, [], ◌∷◌, ◌++◌, refl, sym, ap, subst, ◌∙◌, arith}
 use Rattle.std.specs.Prelude.{not, ◌&&◌}
 use Rattle.std.proofs.Math.Bool.{and-false}
+use Rattle.std.proofs.lemmas.Bool.{not-true}
 use Rattle.std.proofs.lemmas.List.{append_assoc, append-nil}
 use Rattle.attributes.specs.Map.{empty}
 use Rattle.attributes.specs.Attributes.{Changes, same_changes}
@@ -160,10 +161,6 @@ bounded-before ops op more other some bounded =
     let base_bound = bounded.base in
     let out_bound = bounded.out in
     (omega (arith, base_all, base_more, plain, base_sum, base_bound), omega (arith, base_all, base_more, both_all, both_more, plain, base_sum, out_sum, out_bound))
-
-not-true : (t : Bool) → not t ≡ true → t ≡ false
-not-true true e = absurd (cc)
-not-true false e = refl
 
 -- operations in normal form end with such an operation, so all that stands before them counts in full too
 last-apart : (op : Operation) (ops : List Operation) → IsNormal (op ∷ ops)

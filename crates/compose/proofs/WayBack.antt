@@ -1,46 +1,23 @@
 -- How far the way back has been made.
-use Rattle.std.proofs.Common.{◌≡◌, ℕ, zero, suc, ◌+◌, ◌≤◌, ◌<◌, List, [], ◌∷◌, ◌++◌, length, drop, get_or, inl, inr, sym, ap, subst, ◌∙◌, arith, length-append, add-one}
-use Rattle.std.proofs.Math.Seq.{drop-cons, drop-append_seam}
+use Rattle.std.proofs.Common.{◌≡◌, ℕ, ◌+◌, ◌≤◌, List, [], ◌∷◌, ◌++◌, length, inl, inr, sym, ap, subst, ◌∙◌, arith, length-append}
 use Rattle.delta.specs.Element.{Element}
 use Rattle.delta.specs.Operation.{Operation, op_base, op_out, base_of, out_of}
 use Rattle.delta.specs.Gaps.{counted, joined}
 use Rattle.delta.specs.Normal.{settled, trimmed, spelled, nf}
 use Rattle.delta.proofs.CallerLemmas.{front-nil, joined-End}
-use Rattle.document.specs.Pairs.{IsPairAt, IsWithinPair}
+use Rattle.document.specs.Pairs.{IsWithinPair}
 use Rattle.document.specs.steps.Passes.{StopsInPair}
 use Rattle.compose.specs.Inverse.{inverse}
 use Rattle.compose.specs.steps.SteppingBack.{IsTakenBack}
-
--- the operation at a place and those after it
-pub drop-here : (ops : List Operation) (i : ℕ) (op : Operation) → i < length ops → op ≡ get_or ops i op → drop i ops ≡ op ∷ drop (i + 1) ops
-drop-here ops i op within is =
-    drop-cons ops i op within ∙ (ap (λ x. x ∷ drop (suc i) ops) (sym is) ∙ ap (λ j. op ∷ drop j ops) (sym (add-one i)))
-
--- a pair of units is one with more before it
-pair-later : (x : Element) (d : List Element) (i : ℕ) → IsPairAt d i → IsPairAt (x ∷ d) (suc i)
-pair-later x [] i at = absurd at
-pair-later x (y ∷ d) i at = at
-
-pair-after : (a d : List Element) (i k : ℕ) → IsPairAt d i → k ≡ length a + i → IsPairAt (a ++ d) k
-pair-after [] d i k at e = subst (IsPairAt d) (let same : i ≡ k = omega (arith, e) in same) at
-pair-after (x ∷ a) d i zero at e = absurd (omega (arith, e))
-pair-after (x ∷ a) d i (suc k) at e = pair-later x (a ++ d) k (pair-after a d i k at (omega (arith, e)))
-
-within-after : (a d : List Element) (n k : ℕ) → IsWithinPair d n → k ≡ length a + n → IsWithinPair (a ++ d) k
-within-after a d zero k within e = absurd within
-within-after a d (suc i) zero within e = absurd (omega (arith, e))
-within-after a d (suc i) (suc k) within e = pair-after a d i k within (omega (arith, e))
+use Rattle.document.proofs.CallerLemmas.{drop-taken, IsWithinPair-after}
+pub use Rattle.attributes.proofs.CallerLemmas.{drop-here}
 
 -- what was stepped over is no longer there
 pub left_length : (old new taken : List Element) → old ≡ taken ++ new → length old ≡ length taken + length new
 left_length old new taken parts = ap length parts ∙ length-append taken new
 
 pub left_whole : (old new taken : List Element) (n m : ℕ) → old ≡ taken ++ new → n ≡ length taken + m → ¬ (IsWithinPair old n) → ¬ (IsWithinPair new m)
-left_whole old new taken n m parts e whole within = whole (subst (λ d. IsWithinPair d n) (sym parts) (within-after taken new m n within e))
-
-drop-taken : (old new taken : List Element) (n : ℕ) → old ≡ taken ++ new → length taken ≡ n → drop n old ≡ new
-drop-taken old new taken n parts count =
-    ap (drop n) parts ∙ (ap (λ m. drop m (taken ++ new)) (sym count) ∙ drop-append_seam taken new)
+left_whole old new taken n m parts e whole within = whole (subst (λ d. IsWithinPair d n) (sym parts) (IsWithinPair-after taken new m n within e))
 
 -- what was made, and then what takes back what is left, lead to the same as the whole way back
 pub record IsPartlyUndone (document left : List Element) (ops rest made : List Operation) : Type 0 where

@@ -4,7 +4,6 @@ use Rattle.std.specs.Prelude.{Option, Some, None}
 use Rattle.std.specs.Prelude.{not, ◌&&◌, ◌||◌}
 use Rattle.attributes.specs.Map.{empty, get}
 use Rattle.attributes.specs.Laws.{first_of}
-use Rattle.attributes.specs.Scalar.{Scalar}
 use Rattle.attributes.proofs.CallerLemmas.{same_changes_map, get-composed}
 use Rattle.attributes.specs.Attributes.{Changes, changed, composed as change_composed, same_changes, same_changes-Decides}
 use Rattle.delta.specs.Element.{Element}
@@ -19,23 +18,17 @@ use Rattle.compose.specs.Cuts.{CutsText}
 use Rattle.compose.specs.Places.{inserts, fate, tail}
 use Rattle.compose.specs.steps.PairTest.{is_pair, same_fate, is_nothing, parts, is_parted, cuts_units, cuts}
 use Rattle.compose.proofs.DocumentCuts.{pair-fact, fact-pair, fate-itself, fate-fact, nothing-fact, cut-there, units-cut, text-cut}
+use Rattle.compose.proofs.Pairs.{cuts_units-nothing, cuts_units-front}
+use Rattle.std.proofs.lemmas.Bool.{or_from}
 
 -- tests that fail
 or-false : (s t : Bool) → (s || t) ≡ false → (s ≡ false) × (t ≡ false)
 or-false true t e = absurd (cc)
 or-false false t e = (refl, e)
 
-both-false : (s t : Bool) → s ≡ false → t ≡ false → (s || t) ≡ false
-both-false true t e h = absurd (cc)
-both-false false t e h = h
-
 and-later : (b s t : Bool) → (s ≡ false → t ≡ false) → (b && s) ≡ false → (b && t) ≡ false
 and-later true s t f e = f e
 and-later false s t f e = refl
-
-and-second : (b s : Bool) → s ≡ false → (b && s) ≡ false
-and-second true s e = e
-and-second false s e = refl
 
 and-here : (b s : Bool) → b ≡ true → (b && s) ≡ false → s ≡ false
 and-here true s e f = f
@@ -50,9 +43,6 @@ parts-false : (f : Fate) (g : Gaps) → parts f g ≡ false → (f ≡ fate g) �
 parts-false f g e =
     let p = not-and (same_fate f (fate g)) (is_nothing (inserts g)) e in (fate-fact f (fate g) p.0, nothing-fact (inserts g) p.1)
 
-parts-itself : (f : Fate) → parts f (Gap [] f (End [])) ≡ false
-parts-itself f = ap (λ t. not (t && true)) (fate-itself f)
-
 parts-none : (f : Fate) (g : Gaps) → f ≡ fate g → inserts g ≡ [] → parts f g ≡ false
 parts-none f g same none =
     ap (λ h. not (same_fate f h && is_nothing (inserts g))) (sym same)
@@ -64,25 +54,10 @@ parted-from x [] g h from e = refl
 parted-from x (y ∷ d) g h from e = and-later (is_pair x y) (parts (fate g) (tail g)) (parts (fate h) (tail h)) from e
 
 -- what is inserted before the first unit cuts nothing
-cuts-front : (d xs : List Element) (g : Gaps) → cuts_units d (front xs g) ≡ cuts_units d g
-cuts-front [] xs g = refl
-cuts-front (x ∷ []) xs (End ys) = refl
-cuts-front (x ∷ []) xs (Gap ys f g) = refl
-cuts-front (x ∷ y ∷ d) xs (End ys) = refl
-cuts-front (x ∷ y ∷ d) xs (Gap ys f g) = refl
-
 cuts-inserts : (d xs ys : List Element) (f : Fate) (g : Gaps) → cuts_units d (Gap xs f g) ≡ cuts_units d (Gap ys f g)
 cuts-inserts [] xs ys f g = refl
 cuts-inserts (x ∷ []) xs ys f g = refl
 cuts-inserts (x ∷ y ∷ d) xs ys f g = refl
-
--- and nothing is cut where nothing is done
-pub cuts-nothing : (d : List Element) → cuts_units d (End []) ≡ false
-cuts-nothing [] = refl
-cuts-nothing (x ∷ []) = refl
-cuts-nothing (x ∷ y ∷ d) =
-    both-false (is_pair x y && parts (Keep empty) (End [])) (cuts_units (y ∷ d) (End []))
-    (and-second (is_pair x y) (parts (Keep empty) (End [])) (parts-none (Keep empty) (End []) refl refl)) (cuts-nothing (y ∷ d))
 
 -- the units behind some, and those before
 cuts-beyond : (xs d : List Element) (b : Gaps) → cuts_units (xs ++ d) b ≡ false → cuts_units d (beyond xs b) ≡ false
@@ -94,7 +69,7 @@ cuts-begin [] d b e = refl
 cuts-begin (x ∷ []) d b e = refl
 cuts-begin (x ∷ y ∷ xs) d b e =
     let p = or-false (is_pair x y && parts (fate b) (tail b)) (cuts_units (y ∷ (xs ++ d)) (tail b)) e in
-    both-false (is_pair x y && parts (fate b) (tail b)) (cuts_units (y ∷ xs) (tail b)) p.0 (cuts-begin (y ∷ xs) d (tail b) p.1)
+    or_from (is_pair x y && parts (fate b) (tail b)) (cuts_units (y ∷ xs) (tail b)) p.0 (cuts-begin (y ∷ xs) d (tail b) p.1)
 
 -- a unit that is kept with a change
 abbrev changed_unit : Changes → Element → Element
@@ -105,11 +80,11 @@ inserted-whole : (d : List Element) (a b : Gaps) → units_below a ≤ length d 
 inserted-whole d (End xs) b le e = cuts-begin xs d b e
 inserted-whole [] (Gap xs f g) b le e = absurd (omega (arith, le))
 inserted-whole (x ∷ d) (Gap xs Del g) b le e =
-    both-false (cuts_units xs b) (cuts g (beyond xs b)) (cuts-begin xs (apply d g) b e)
+    or_from (cuts_units xs b) (cuts g (beyond xs b)) (cuts-begin xs (apply d g) b e)
     (inserted-whole d g (beyond xs b) (omega (arith, le)) (cuts-beyond xs (apply d g) b e))
 inserted-whole (x ∷ d) (Gap xs (Keep c) g) b le e =
     let rest = cuts-beyond xs (changed_unit c x ∷ apply d g) b e in
-    both-false (cuts_units xs b) (cuts g (tail (beyond xs b))) (cuts-begin xs (changed_unit c x ∷ apply d g) b e)
+    or_from (cuts_units xs b) (cuts g (tail (beyond xs b))) (cuts-begin xs (changed_unit c x ∷ apply d g) b e)
     (inserted-whole d g (tail (beyond xs b)) (omega (arith, le))
     (or-false (is_parted (changed_unit c x) (apply d g) (beyond xs b)) (cuts_units (apply d g) (tail (beyond xs b))) rest).1)
 
@@ -186,12 +161,12 @@ kept-next c x (y ∷ d) xs ys g b before after =
 composed-whole : (d : List Element) (a b : Gaps) → units_below a ≤ length d → cuts_units d a ≡ false → cuts_units (apply d a) b ≡ false
     → cuts_units d (composed a b) ≡ false
 composed-whole [] a b le before after = refl
-composed-whole (x ∷ d) (End xs) b le before after = cuts-front (x ∷ d) (units_after xs b) (beyond xs b) ∙ cuts-beyond xs (x ∷ d) b after
+composed-whole (x ∷ d) (End xs) b le before after = cuts_units-front (x ∷ d) (units_after xs b) (beyond xs b) ∙ cuts-beyond xs (x ∷ d) b after
 composed-whole (x ∷ d) (Gap xs Del g) b le before after =
     let p = or-false (is_parted x d (Gap xs Del g)) (cuts_units d g) before in
     let more = composed g (beyond xs b) in
-    cuts-front (x ∷ d) (units_after xs b) (Gap [] Del more)
-    ∙ both-false (is_parted x d (Gap [] Del more)) (cuts_units d more)
+    cuts_units-front (x ∷ d) (units_after xs b) (Gap [] Del more)
+    ∙ or_from (is_parted x d (Gap [] Del more)) (cuts_units d more)
     (parted-from x d (Gap xs Del g) (Gap [] Del more) (deleted-pair g (beyond xs b)) p.0)
     (composed-whole d g (beyond xs b) (omega (arith, le)) p.1 (cuts-beyond xs (apply d g) b after))
 composed-whole (x ∷ d) (Gap xs (Keep c) g) b le before after =
@@ -200,8 +175,8 @@ composed-whole (x ∷ d) (Gap xs (Keep c) g) b le before after =
     let rest = cuts-beyond xs (changed_unit c x ∷ apply d g) b after in
     let q = or-false (is_parted (changed_unit c x) (apply d g) over) (cuts_units (apply d g) (tail over)) rest in
     let more = composed g (tail over) in
-    cuts-front (x ∷ d) (units_after xs b) (Gap (inserts over) (kept_then c (fate over)) more)
-    ∙ both-false (is_parted x d (Gap (inserts over) (kept_then c (fate over)) more)) (cuts_units d more)
+    cuts_units-front (x ∷ d) (units_after xs b) (Gap (inserts over) (kept_then c (fate over)) more)
+    ∙ or_from (is_parted x d (Gap (inserts over) (kept_then c (fate over)) more)) (cuts_units d more)
     (kept-next c x d xs (inserts over) g over p.0 q.0)
     (composed-whole d g (tail over) (omega (arith, le)) p.1 q.1)
 
@@ -224,10 +199,10 @@ deleted-settled (Gap xs (Keep c) g) e = absurd (cc)
 past-deleted : (x : Element) (d xs : List Element) (g s : Gaps) → (parts Del g ≡ false → Del ≡ fate s) → is_parted x d (Gap xs Del g) ≡ false
     → cuts_units d s ≡ false → cuts_units (x ∷ d) (past Del s) ≡ false
 past-deleted x d xs g (End ys) same here rest =
-    both-false (is_parted x d (Gap ys Del (End []))) (cuts_units d (End []))
-    (parted-from x d (Gap xs Del g) (Gap ys Del (End [])) (λ e. let apart = same e in absurd (cc)) here) (cuts-nothing d)
+    or_from (is_parted x d (Gap ys Del (End []))) (cuts_units d (End []))
+    (parted-from x d (Gap xs Del g) (Gap ys Del (End [])) (λ e. let apart = same e in absurd (cc)) here) (cuts_units-nothing d)
 past-deleted x d xs g (Gap ys f h) same here rest =
-    both-false (is_parted x d (Gap ys Del (Gap [] f h))) (cuts_units d (Gap [] f h))
+    or_from (is_parted x d (Gap ys Del (Gap [] f h))) (cuts_units d (Gap [] f h))
     (parted-from x d (Gap xs Del g) (Gap ys Del (Gap [] f h)) (λ e. parts-none Del (Gap [] f h) (same e) refl) here)
     (cuts-inserts d [] ys f h ∙ rest)
 
@@ -236,11 +211,11 @@ settled-whole [] g e = refl
 settled-whole (x ∷ d) (End xs) e = e
 settled-whole (x ∷ d) (Gap xs Del g) e =
     let p = or-false (is_parted x d (Gap xs Del g)) (cuts_units d g) e in
-    cuts-front (x ∷ d) xs (past Del (settled g)) ∙ past-deleted x d xs g (settled g) (deleted-settled g) p.0 (settled-whole d g p.1)
+    cuts_units-front (x ∷ d) xs (past Del (settled g)) ∙ past-deleted x d xs g (settled g) (deleted-settled g) p.0 (settled-whole d g p.1)
 settled-whole (x ∷ d) (Gap xs (Keep c) g) e =
     let p = or-false (is_parted x d (Gap xs (Keep c) g)) (cuts_units d g) e in
-    cuts-front (x ∷ d) xs (Gap [] (Keep c) (settled g))
-    ∙ both-false (is_parted x d (Gap [] (Keep c) (settled g))) (cuts_units d (settled g))
+    cuts_units-front (x ∷ d) xs (Gap [] (Keep c) (settled g))
+    ∙ or_from (is_parted x d (Gap [] (Keep c) (settled g))) (cuts_units d (settled g))
     (parted-from x d (Gap xs (Keep c) g) (Gap [] (Keep c) (settled g)) (kept-settled c g) p.0) (settled-whole d g p.1)
 
 fate-trim : (xs : List Element) (f : Fate) (g : Gaps) → fate (trim xs f g) ≡ f
@@ -305,7 +280,7 @@ pub test-whole : (d : List Element) (g : Gaps) → cuts_units d g ≡ false → 
 test-whole d g e cut = let told = units-cut d g cut in absurd (cc)
 
 pub whole-nothing : (d : List Element) → ¬ (Cuts d (counted []))
-whole-nothing d = test-whole d (End []) (cuts-nothing d)
+whole-nothing d = test-whole d (End []) (cuts_units-nothing d)
 
 pub whole-one : (d : List Element) (a b : List Operation) → IsDefined d (counted a) → ¬ (Cuts d (counted a)) → ¬ (Cuts (apply d (counted a)) (counted b))
     → ¬ (Cuts d (counted (one_for a b)))

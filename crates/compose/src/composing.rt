@@ -1,5 +1,5 @@
 //! One delta for several.
-ghost use Rattle.std.specs.Prelude.{◌≡◌, ◌+◌, ◌<◌, ◌≤◌, ◌^◌, List, [], ◌∷◌, IfOk, OnOk, IfErr};
+ghost use Rattle.std.specs.Prelude.{◌≡◌, ◌<◌, ◌≤◌, ◌^◌, List, [], ◌∷◌, IfOk, OnOk, IfErr};
 ghost use Rattle.delta.specs.Element.{Element};
 ghost use Rattle.compose.specs.Composes.{Composes};
 ghost use Rattle.compose.specs.Composed.{one_for};

@@ -26,7 +26,7 @@ pub fn invert(alloc: Global, delta: &Delta, document: &Document) -> Result<Delta
     ensures only { IfErr result (IsInvertRefused document.now (counted delta.now)) }
 {
     match document.fits(delta) {
-        Ok(_) => undo(alloc, document, delta),
+        Ok(_) => Ok(undo(alloc, document, delta)?),
         Err(refusal) => Err(refusal),
     }
 }

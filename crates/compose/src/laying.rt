@@ -1,5 +1,5 @@
 //! The second delta over what the first inserts and keeps.
-ghost use Rattle.std.specs.Prelude.{◌≡◌, ◌<◌, [], ◌∷◌, IfOk, IfErr, IsOkUnless};
+ghost use Rattle.std.specs.Prelude.{◌≡◌, ◌<◌, [], ◌∷◌, IfOk, IfErr};
 ghost use Rattle.std.specs.Option.{option_to_list};
 ghost use Rattle.delta.specs.Operation.{op_len};
 ghost use Rattle.delta.specs.Normal.{IsNormal, NoneIsEmpty};
@@ -10,7 +10,7 @@ ghost use Rattle.compose.specs.steps.Stepping.{made_in_turn};
 use crate::stepping::{add, next_step};
 use delta::{Builder, Cursor, Delta, Op, OpRef, Part};
 use refusal::Refusal;
-use std::alloc::Global;
+use std::alloc::{AllocError, Global};
 
 /// Lays the second list over the operations of the first, and gives what is left of it. What is made is made of copies.
 pub fn lay<'b>(
@@ -104,14 +104,13 @@ pub fn end(alloc: Global, mut rest: Cursor<'_>, mut out: Builder) -> Result<Delt
         rest = Cursor::new(behind);
     }
     let delta = out.finish();
-    let _ = delta.ops();
+    delta.facts();
     Ok(delta)
 }
 
 // what keeps or deletes all units of an operation, after it; the operation as it is where that changes nothing
-fn changed(alloc: Global, op: Op, next: Part<'_>) -> Result<Option<Op>, Refusal>
+fn changed(alloc: Global, op: Op, next: Part<'_>) -> Result<Option<Op>, AllocError>
     ensures made { IfOk result (λ made. option_to_list made ≡ made_in_turn op (operation_of_part next.entry)) }
-    ensures only { IsOkUnless result Refusal.NoMemory }
 {
     match next.get() {
         OpRef::Retain(_, change) => {

@@ -1,5 +1,5 @@
 //! One step along the operations of two deltas.
-ghost use Rattle.std.specs.Prelude.{◌≡◌, ◌⊎◌, ◌++◌, [], ◌∷◌, true, false, IfOk, OnOk, IfErr, IsOkUnless};
+ghost use Rattle.std.specs.Prelude.{◌≡◌, ◌⊎◌, ◌++◌, [], ◌∷◌, true, false, IfOk, OnOk, IfErr};
 ghost use Rattle.std.specs.Option.{option_to_list};
 ghost use Rattle.delta.specs.Operation.{is_insert, is_delete, IsBounded};
 ghost use Rattle.delta.specs.Gaps.{counted};
@@ -9,7 +9,7 @@ ghost use Rattle.compose.specs.steps.Stepping.{IsStepOf, CutsBefore, made_in_tur
 
 use delta::{Builder, Cursor, Op, OpRef, Part};
 use refusal::Refusal;
-use std::alloc::Global;
+use std::alloc::{AllocError, Global};
 
 /// What a step makes of the first operations of two lists, and what it leaves of both.
 #[derive(Drop)]
@@ -47,12 +47,12 @@ pub fn next_step<'a, 'b>(
     ensures only { IfErr result (λ e. (e ≡ Refusal.CutsPair) ⊎ (e ≡ Refusal.NoMemory)) }
 {
     match second.split_first() {
-        None => pass_first(alloc, op, tail, second),
+        None => Ok(pass_first(alloc, op, tail, second)?),
         Some((next, rest)) => {
             if op.is_delete() {
-                pass_first(alloc, op, tail, second)
+                Ok(pass_first(alloc, op, tail, second)?)
             } else if next.is_insert() {
-                pass_second(alloc, op, tail, next, rest)
+                Ok(pass_second(alloc, op, tail, next, rest)?)
             } else {
                 meet(alloc, op, tail, next, rest)
             }
@@ -66,12 +66,11 @@ fn pass_first<'a, 'b>(
     op: Part<'a>,
     tail: &'a [Op],
     second: Cursor<'b>,
-) -> Result<Step<'a, 'b>, Refusal>
+) -> Result<Step<'a, 'b>, AllocError>
     requires first { NoneIsEmpty (operation_of_part op ∷ tail.now) }
     requires second { IsNormal (operations_left second) }
     requires alone { (operations_left second ≡ []) ⊎ (is_delete (operation_of_part op) ≡ true) }
     ensures step { IfOk result (IsStepOf (operation_of_part op.entry ∷ tail.entry.now) (operations_left second.entry)) }
-    ensures only { IsOkUnless result Refusal.NoMemory }
 {
     Ok(Step {
         made: Some(op.to_op(alloc)?),
@@ -87,13 +86,12 @@ fn pass_second<'a, 'b>(
     tail: &'a [Op],
     next: Part<'b>,
     rest: &'b [Op],
-) -> Result<Step<'a, 'b>, Refusal>
+) -> Result<Step<'a, 'b>, AllocError>
     requires first { NoneIsEmpty (operation_of_part op ∷ tail.now) }
     requires second { IsNormal (operation_of_part next ∷ rest.now) }
     requires inserts { is_insert (operation_of_part next) ≡ true }
     ensures step { IfOk result
         (IsStepOf (operation_of_part op.entry ∷ tail.entry.now) (operation_of_part next.entry ∷ rest.entry.now)) }
-    ensures only { IsOkUnless result Refusal.NoMemory }
 {
     Ok(Step {
         made: Some(next.to_op(alloc)?),
@@ -130,10 +128,9 @@ fn meet<'a, 'b>(
 }
 
 // the second operation after the first, on the same units
-fn both(alloc: Global, op: Part<'_>, next: Part<'_>) -> Result<Option<Op>, Refusal>
+fn both(alloc: Global, op: Part<'_>, next: Part<'_>) -> Result<Option<Op>, AllocError>
     ensures made { IfOk result (λ made. option_to_list made
         ≡ made_in_turn (operation_of_part op.entry) (operation_of_part next.entry)) }
-    ensures only { IsOkUnless result Refusal.NoMemory }
 {
     match next.get() {
         OpRef::Retain(_, change) => Ok(Some(op.then(alloc, change)?)),

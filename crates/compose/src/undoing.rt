@@ -1,5 +1,5 @@
 //! The way back from a delta, over the units of the document before it.
-ghost use Rattle.std.specs.Prelude.{◌≡◌, ◌+◌, ◌≤◌, ◌<◌, ◌^◌, ◌++◌, [], ◌∷◌, true, false, length, IfOk, OnOk, IsOkUnless};
+ghost use Rattle.std.specs.Prelude.{◌≡◌, ◌+◌, ◌≤◌, ◌<◌, ◌^◌, ◌++◌, [], ◌∷◌, false, length, IfOk, OnOk};
 ghost use Rattle.attributes.specs.Map.{empty};
 ghost use Rattle.delta.specs.Operation.{base_of, out_of, op_base, op_out, is_insert, retain};
 ghost use Rattle.delta.specs.Gaps.{counted};
@@ -13,15 +13,13 @@ ghost use Rattle.compose.specs.steps.SteppingBack.{for_units, TakesBack, IsTaken
 use attributes::Change;
 use delta::{Builder, Delta, Op, OpRef};
 use document::{Cursor, Document, Piece};
-use refusal::Refusal;
-use std::alloc::Global;
+use std::alloc::{AllocError, Global};
 
 /// The way back from a delta that is defined on the document and cuts no pair of it. What the delta leaves as it is isn't looked at.
-pub fn undo(alloc: Global, document: &Document, delta: &Delta) -> Result<Delta, Refusal>
+pub fn undo(alloc: Global, document: &Document, delta: &Delta) -> Result<Delta, AllocError>
     requires there { base_of delta.now ≤ length document.now }
     requires whole { ¬ (StopsInPair document.now delta.now) }
     ensures one { IfOk result (λ back. back ≡ nf (inverse (counted delta.now) document.now)) }
-    ensures only { IsOkUnless result Refusal.NoMemory }
 {
     let mut left = document.cursor();
     let mut made = Builder::new(alloc);
@@ -38,13 +36,12 @@ fn take_back(
     left: &mut Cursor<'_>,
     op: &Op,
     made: &mut Builder,
-) -> Result<(), Refusal>
+) -> Result<(), AllocError>
     requires there { op_base op.now ≤ length left.old }
     requires whole { ¬ (IsWithinPair left.old (op_base op.now)) }
     requires base { base_of made.old + op_out op.now ≤ 2 ^ 48 }
     requires out { out_of made.old + op_base op.now ≤ 2 ^ 48 }
     ensures back { OnOk result (IsTakenBack left.old left.new op.now made.old made.new) }
-    ensures only { IsOkUnless result Refusal.NoMemory }
 {
     if op.is_insert() {
         put(made, Op::delete(op.len16()))?;
@@ -59,13 +56,17 @@ fn take_back(
 }
 
 // steps over units that stay as they are
-fn keep(alloc: Global, left: &mut Cursor<'_>, len: u64, made: &mut Builder) -> Result<(), Refusal>
+fn keep(
+    alloc: Global,
+    left: &mut Cursor<'_>,
+    len: u64,
+    made: &mut Builder,
+) -> Result<(), AllocError>
     requires there { len ≤ length left.old }
     requires whole { ¬ (IsWithinPair left.old len) }
     requires base { base_of made.old + len ≤ 2 ^ 48 }
     requires out { out_of made.old + len ≤ 2 ^ 48 }
     ensures back { OnOk result (IsTakenBack left.old left.new (retain len empty) made.old made.new) }
-    ensures only { IsOkUnless result Refusal.NoMemory }
 {
     match left.skip(len) {
         Ok(()) => {
@@ -82,14 +83,13 @@ fn bring_back(
     left: &mut Cursor<'_>,
     op: &Op,
     made: &mut Builder,
-) -> Result<(), Refusal>
+) -> Result<(), AllocError>
     requires stands { is_insert op.now ≡ false }
     requires there { op_base op.now ≤ length left.old }
     requires whole { ¬ (IsWithinPair left.old (op_base op.now)) }
     requires base { base_of made.old + op_out op.now ≤ 2 ^ 48 }
     requires out { out_of made.old + op_base op.now ≤ 2 ^ 48 }
     ensures back { OnOk result (IsTakenBack left.old left.new op.now made.old made.new) }
-    ensures only { IsOkUnless result Refusal.NoMemory }
 {
     let mut len = op.base_len();
     while len > 0 {
@@ -105,7 +105,7 @@ fn bring_next_back(
     most: u64,
     op: &Op,
     made: &mut Builder,
-) -> Result<u64, Refusal>
+) -> Result<u64, AllocError>
     requires stands { is_insert op.now ≡ false }
     requires some { 0 < most }
     requires there { most ≤ length left.old }
@@ -115,7 +115,6 @@ fn bring_next_back(
     ensures back { IfOk result (λ len. IsTakenBack left.old left.new (for_units len op.now) made.old made.new) }
     ensures some { IfOk result (λ len. 0 < len) }
     ensures most { IfOk result (λ len. len ≤ most) }
-    ensures only { IsOkUnless result Refusal.NoMemory }
 {
     let piece = match left.next(most) {
         Ok(piece) => piece,
@@ -127,11 +126,10 @@ fn bring_next_back(
 }
 
 // the change back, or the units again
-fn back_of(alloc: Global, piece: Piece<'_>, op: &Op) -> Result<Op, Refusal>
+fn back_of(alloc: Global, piece: Piece<'_>, op: &Op) -> Result<Op, AllocError>
     requires stands { is_insert op.now ≡ false }
     requires counted { IsCounted piece }
     ensures back { IfOk result (λ back. TakesBack (for_units (length (piece_units piece.entry)) op.now) (piece_units piece.entry) back) }
-    ensures only { IsOkUnless result Refusal.NoMemory }
 {
     match op.get() {
         OpRef::Retain(_, change) => {
@@ -148,16 +146,15 @@ fn back_of(alloc: Global, piece: Piece<'_>, op: &Op) -> Result<Op, Refusal>
 }
 
 // adds an operation that stays within the bounds
-fn put(made: &mut Builder, op: Op) -> Result<(), Refusal>
+fn put(made: &mut Builder, op: Op) -> Result<(), AllocError>
     requires base { base_of made.old + op_base op ≤ 2 ^ 48 }
     requires out { out_of made.old + op_out op ≤ 2 ^ 48 }
     ensures added { OnOk result (settled (counted made.new) ≡ settled (counted (made.old ++ op ∷ []))) }
     ensures base { OnOk result (base_of made.new ≡ base_of made.old + op_base op) }
     ensures out { OnOk result (out_of made.new ≡ out_of made.old + op_out op) }
-    ensures only { IsOkUnless result Refusal.NoMemory }
 {
     match made.push(op) {
         Ok(()) => Ok(()),
-        Err(refusal) => Err(refusal),
+        Err(refusal) => Err(refusal.as_alloc_error()),
     }
 }

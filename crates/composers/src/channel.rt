@@ -1,20 +1,19 @@
 //! The channels between the thread that writes and the composers.
-ghost use Rattle.std.specs.Prelude.{◌≡◌, IfErr, IsOkUnless};
+ghost use Rattle.std.specs.Prelude.{◌≡◌, IfErr};
 ghost use Rattle.crossbeam_channel.specs.Claims.{IsSeatAt};
 ghost use Rattle.crossbeam_channel.specs.Ends.{sends_on, receives_on, ruled_capacity};
 
 use crossbeam_channel::protocol::{Free, Split};
 use crossbeam_channel::{Pass, RuledReceiver, RuledSender, bounded_with};
-use milestone::{Composed, Job, Uncomposed};
-use refusal::Refusal;
-use std::alloc::Global;
+use milestone::{ComposeError, Composed, Job};
+use std::alloc::{AllocError, Global};
 use std::sync::Wait;
 
 /// So many jobs wait for a composer at most, and so many answers for the thread that writes.
 const PLACES: usize = 64;
 
 /// What came of a job, or the job where there was no memory for it.
-pub type Done = Result<Composed, Uncomposed>;
+pub type Done = Result<Composed, ComposeError>;
 
 /// A further pass knows nothing, as the first one does.
 struct Further;
@@ -120,9 +119,7 @@ impl Worker {
 }
 
 // A channel with one end where messages are sent, and two where they come.
-fn spread<T: Drop>(alloc: Global) -> Result<(Outlet<T>, Inlet<T>, Inlet<T>), Refusal>
-    ensures { IsOkUnless result Refusal.NoMemory }
-{
+fn spread<T: Drop>(alloc: Global) -> Result<(Outlet<T>, Inlet<T>, Inlet<T>), AllocError> {
     let (sender, receiver, first) = bounded_with::<T, (), Free, Global>(alloc, PLACES)?;
     let mut pass = first;
     let one = sender.another::<Further>(&mut pass);
@@ -142,9 +139,7 @@ fn spread<T: Drop>(alloc: Global) -> Result<(Outlet<T>, Inlet<T>, Inlet<T>), Ref
 }
 
 // A channel with two ends where messages are sent, and one where they come.
-fn gathered<T: Drop>(alloc: Global) -> Result<(Outlet<T>, Outlet<T>, Inlet<T>), Refusal>
-    ensures { IsOkUnless result Refusal.NoMemory }
-{
+fn gathered<T: Drop>(alloc: Global) -> Result<(Outlet<T>, Outlet<T>, Inlet<T>), AllocError> {
     let (sender, receiver, first) = bounded_with::<T, (), Free, Global>(alloc, PLACES)?;
     let mut pass = first;
     let one = sender.another::<Further>(&mut pass);
@@ -164,9 +159,7 @@ fn gathered<T: Drop>(alloc: Global) -> Result<(Outlet<T>, Outlet<T>, Inlet<T>), 
 }
 
 /// The two channels, by the ends of the thread that writes and those of two composers. Refused as out of memory alone.
-pub fn channels(alloc: Global) -> Result<(Composers, Worker, Worker), Refusal>
-    ensures { IsOkUnless result Refusal.NoMemory }
-{
+pub fn channels(alloc: Global) -> Result<(Composers, Worker, Worker), AllocError> {
     let (out, first_jobs, second_jobs) = spread::<Job>(alloc)?;
     let (first_done, second_done, back) = gathered::<Done>(alloc)?;
     Ok((

@@ -2,9 +2,9 @@
 ghost use Rattle.std.specs.Prelude.{◌≡◌, IfOk, IfErr};
 
 use crate::channel::Worker;
-use milestone::{Composed, Job, Part, PartBack, PartDone, Uncomposed, compose_part, join_parts};
+use milestone::{ComposeError, Composed, Job, Part, PartDone, PartError, compose_part, join_parts};
 use refusal::Refusal;
-use std::alloc::Global;
+use std::alloc::{AllocError, Global};
 use std::sync::Wait;
 use std::thread::{Threads, join};
 
@@ -28,18 +28,26 @@ pub fn compose_by_halves<R: Threads, G: HalfGate + Sync>(
     alloc: Global,
     job: Job,
     gate: &G,
-) -> Result<Composed, Uncomposed>
+) -> Result<Composed, ComposeError>
     ensures done { IfOk result (λ composed. composed ≡ job) }
     ensures back { IfErr result (λ back. back.job ≡ job) }
     ensures only { IfErr result (λ back. back.refusal ≡ Refusal.NoMemory) }
 {
     let (first, second) = match job.halves(alloc) {
         Ok(halves) => halves,
-        Err(refusal) => return Err(Uncomposed { job, refusal }),
+        Err(no_memory) => {
+            return Err(ComposeError {
+                job,
+                refusal: no_memory.into(),
+            });
+        }
     };
     match both_done(rt, alloc, first, second, gate) {
         Ok((first, second)) => join_parts(alloc, job, first, second),
-        Err(refusal) => Err(Uncomposed { job, refusal }),
+        Err(no_memory) => Err(ComposeError {
+            job,
+            refusal: no_memory.into(),
+        }),
     }
 }
 
@@ -50,23 +58,20 @@ fn both_done<R: Threads, G: HalfGate + Sync>(
     first: Part,
     second: Part,
     gate: &G,
-) -> Result<(PartDone, PartDone), Refusal>
+) -> Result<(PartDone, PartDone), AllocError>
     ensures first { IfOk result (λ done. done.0 ≡ first) }
     ensures second { IfOk result (λ done. done.1 ≡ second) }
-    ensures only { IfErr result (λ e. e ≡ Refusal.NoMemory) }
 {
     let (one, other) = join(
         rt,
-        move || -> Result<PartDone, PartBack>
+        move || -> Result<PartDone, PartError>
             ensures done { IfOk result (λ done. done ≡ first) }
-            ensures only { IfErr result (λ back. back.refusal ≡ Refusal.NoMemory) }
         {
             gate.pass(0);
             compose_part(alloc, first)
         },
-        move || -> Result<PartDone, PartBack>
+        move || -> Result<PartDone, PartError>
             ensures done { IfOk result (λ done. done ≡ second) }
-            ensures only { IfErr result (λ back. back.refusal ≡ Refusal.NoMemory) }
         {
             gate.pass(1);
             compose_part(alloc, second)
@@ -75,9 +80,9 @@ fn both_done<R: Threads, G: HalfGate + Sync>(
     match one {
         Ok(one) => match other {
             Ok(other) => Ok((one, other)),
-            Err(back) => Err(back.refusal),
+            Err(_) => Err(AllocError),
         },
-        Err(back) => Err(back.refusal),
+        Err(_) => Err(AllocError),
     }
 }
 

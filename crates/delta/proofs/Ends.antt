@@ -28,25 +28,25 @@ trimmed-kept zero = refl
 trimmed-kept (suc n) = ap (trim [] (Keep empty)) (trimmed-kept n)
 
 -- trimming leaves what stands before, and what moves before a delete
-trim-front : (xs ys : List Element) (f : Fate) (g : Gaps) → trim (xs ++ ys) f g ≡ front xs (trim ys f g)
+pub trim-front : (xs ys : List Element) (f : Fate) (g : Gaps) → trim (xs ++ ys) f g ≡ front xs (trim ys f g)
 trim-front xs ys Del g = refl
 trim-front xs ys (Keep c) (End []) =
     elim (same_changes c empty) as (λ t. cond t (End (xs ++ ys)) (Gap (xs ++ ys) (Keep c) (End [])) ≡ front xs (cond t (End ys) (Gap ys (Keep c) (End [])))) [ true ↦ refl | false ↦ refl ]
 trim-front xs ys (Keep c) (End (z ∷ zs)) = refl
 trim-front xs ys (Keep c) (Gap zs f g) = refl
 
-trimmed-front : (xs : List Element) (g : Gaps) → trimmed (front xs g) ≡ front xs (trimmed g)
+pub trimmed-front : (xs : List Element) (g : Gaps) → trimmed (front xs g) ≡ front xs (trimmed g)
 trimmed-front xs (End ys) = refl
 trimmed-front xs (Gap ys f g) = trim-front xs ys f (trimmed g)
 
-past-trim : (ys : List Element) (f : Fate) (g : Gaps) → Gap ys Del (trim [] f g) ≡ past Del (trim ys f g)
+pub past-trim : (ys : List Element) (f : Fate) (g : Gaps) → Gap ys Del (trim [] f g) ≡ past Del (trim ys f g)
 past-trim ys Del g = refl
 past-trim ys (Keep c) (End []) =
     elim (same_changes c empty) as (λ t. Gap ys Del (cond t (End []) (Gap [] (Keep c) (End []))) ≡ past Del (cond t (End ys) (Gap ys (Keep c) (End [])))) [ true ↦ refl | false ↦ refl ]
 past-trim ys (Keep c) (End (z ∷ zs)) = refl
 past-trim ys (Keep c) (Gap zs f g) = refl
 
-trimmed-past : (g : Gaps) → trimmed (past Del g) ≡ past Del (trimmed g)
+pub trimmed-past : (g : Gaps) → trimmed (past Del g) ≡ past Del (trimmed g)
 trimmed-past (End ys) = refl
 trimmed-past (Gap ys f g) = past-trim ys f (trimmed g)
 

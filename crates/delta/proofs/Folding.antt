@@ -24,7 +24,7 @@ pub same_changes-refl : (c : Changes) → same_changes c c ≡ true
 same_changes-refl c = (same_changes-Decides c c).1 refl
 
 -- texts
-spell_unit-text : (u : ℕ) (us : List ℕ) (a : Attributes) (r : List Operation) → spell_unit u a (insert_text us a ∷ r) ≡ insert_text (u ∷ us) a ∷ r
+pub spell_unit-text : (u : ℕ) (us : List ℕ) (a : Attributes) (r : List Operation) → spell_unit u a (insert_text us a ∷ r) ≡ insert_text (u ∷ us) a ∷ r
 spell_unit-text u us a r = rw (same_attributes-refl a)
 
 spell_unit-consed : (u v : ℕ) (us : List ℕ) (a : Attributes) (r : List Operation) → spell_unit u a (consed (insert_text (v ∷ us) a) r) ≡ consed (insert_text (u ∷ v ∷ us) a) r
@@ -65,7 +65,7 @@ spell_embed key value a (retain n c ∷ r) = refl
 spell_embed key value a (delete n ∷ r) = refl
 
 -- retains
-spell_keep-retain : (n : ℕ) (c : Changes) (r : List Operation) → spell_fate (Keep c) (retain n c ∷ r) ≡ retain (suc n) c ∷ r
+pub spell_keep-retain : (n : ℕ) (c : Changes) (r : List Operation) → spell_fate (Keep c) (retain n c ∷ r) ≡ retain (suc n) c ∷ r
 spell_keep-retain n c r = rw (same_changes-refl c)
 
 spell_keep-one : (c : Changes) (r : List Operation) → spell_fate (Keep c) r ≡ consed (retain 1 c) r

@@ -10,11 +10,11 @@ use Rattle.delta.specs.steps.Building.{IsDelta}
 use Rattle.delta.proofs.LeftOver.{normal-parts}
 use Rattle.delta.proofs.Neighbours.{may_lead-retain, built-parts, built-from}
 
-ends-retain : (m n : ℕ) (c : Changes) (ops : List Operation) → ends_plain (retain m c ∷ ops) ≡ ends_plain (retain n c ∷ ops)
+pub ends-retain : (m n : ℕ) (c : Changes) (ops : List Operation) → ends_plain (retain m c ∷ ops) ≡ ends_plain (retain n c ∷ ops)
 ends-retain m n c [] = refl
 ends-retain m n c (next ∷ ops) = refl
 
-normal-retain : (m n : ℕ) (c : Changes) (ops : List Operation) → 0 < n → IsNormal (retain m c ∷ ops) → IsNormal (retain n c ∷ ops)
+pub normal-retain : (m n : ℕ) (c : Changes) (ops : List Operation) → 0 < n → IsNormal (retain m c ∷ ops) → IsNormal (retain n c ∷ ops)
 normal-retain m n c ops some normal =
     let parts = normal-parts (retain m c) ops normal in
     let built = built-parts (retain m c) ops parts.0 in

@@ -19,15 +19,15 @@ pub out_of-append : (a b : List Operation) → out_of (a ++ b) ≡ out_of a + ou
 out_of-append [] b = omega arith
 out_of-append (op ∷ a) b = omega (arith, out_of-append a b)
 
-units_made-front : (xs : List Element) (g : Gaps) → units_made (front xs g) ≡ length xs + units_made g
+pub units_made-front : (xs : List Element) (g : Gaps) → units_made (front xs g) ≡ length xs + units_made g
 units_made-front xs (End ys) = length-append xs ys
 units_made-front xs (Gap ys f g) = omega (arith, length-append xs ys)
 
-units_made-keeps : (n : ℕ) (c : Changes) (g : Gaps) → units_made (run n (Keep c) g) ≡ n + units_made g
+pub units_made-keeps : (n : ℕ) (c : Changes) (g : Gaps) → units_made (run n (Keep c) g) ≡ n + units_made g
 units_made-keeps zero c g = omega arith
 units_made-keeps (suc n) c g = omega (arith, units_made-keeps n c g)
 
-units_made-deletes : (n : ℕ) (g : Gaps) → units_made (run n Del g) ≡ units_made g
+pub units_made-deletes : (n : ℕ) (g : Gaps) → units_made (run n Del g) ≡ units_made g
 units_made-deletes zero g = refl
 units_made-deletes (suc n) g = omega (arith, units_made-deletes n g)
 
@@ -119,7 +119,7 @@ IsBounded-nf ops h =
     record { base = omega (arith, less.0, h.base); out = omega (arith, less.0, less.1, h.out) }
 
 -- the length of a document after a delta
-length-fated : (f : Fate) (x : Element) → length (fated f x) ≡ units_kept f
+pub length-fated : (f : Fate) (x : Element) → length (fated f x) ≡ units_kept f
 length-fated Del x = refl
 length-fated (Keep c) x = refl
 

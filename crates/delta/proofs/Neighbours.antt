@@ -2,12 +2,13 @@
 use Rattle.std.proofs.Common.{◌≡◌, ℕ, zero, suc, ◌+◌, ◌<◌, Bool, true, false, cond, List, [], ◌∷◌, ◌++◌, refl, ap, ◌∙◌}
 use Rattle.std.specs.Prelude.{IsTrue, not, ◌&&◌, is_none, Some, None, nat_lt}
 use Rattle.std.proofs.lemmas.Bool.{and_parts, and_from, ltb-true, lt-ltb, false≢true}
-use Rattle.attributes.specs.Attributes.{Attributes, Changes, same_attributes, same_changes, same_attributes-Decides, same_changes-Decides}
+use Rattle.attributes.specs.Attributes.{Attributes, Changes, same_attributes, same_changes}
 use Rattle.delta.specs.Element.{letters}
 use Rattle.delta.specs.Operation.{Operation, insert_text, insert_embed, retain, delete, op_len}
 use Rattle.delta.specs.Gaps.{Gaps, Del, Keep, run}
 pub use Rattle.delta.specs.Normal.{may_lead, is_apart_text, is_apart_retain, is_apart_delete}
 use Rattle.delta.specs.Normal.{may_precede, is_built, spell_unit, spell_inserts, spell_fate, spelled}
+pub use Rattle.delta.proofs.Folding.{spell_keep-retain as spell_keep-same, spell_unit-text as spell_unit-same}
 
 chosen_none : {X : Type 0} (t : Bool) (x : X) → (is_none (cond t (Some x) None) && true) ≡ not t
 chosen_none true x = refl
@@ -67,10 +68,6 @@ spell_unit-apart u a (insert_embed key value b ∷ ops) h = refl
 spell_unit-apart u a (retain n c ∷ ops) h = refl
 spell_unit-apart u a (delete n ∷ ops) h = refl
 
-pub spell_unit-same : (u : ℕ) (us : List ℕ) (a : Attributes) (ops : List Operation) → spell_unit u a (insert_text us a ∷ ops) ≡ insert_text (u ∷ us) a ∷ ops
-spell_unit-same u us a ops =
-    ap (λ t. cond t (insert_text (u ∷ us) a ∷ ops) (insert_text (u ∷ []) a ∷ insert_text us a ∷ ops)) ((same_attributes-Decides a a).1 refl)
-
 -- a text is spelled in one where nothing after it fits
 pub spell-letters : (u : ℕ) (us : List ℕ) (a : Attributes) (ops : List Operation) → IsTrue (is_apart_text a ops) → spell_inserts (letters (u ∷ us) a) ops ≡ insert_text (u ∷ us) a ∷ ops
 spell-letters u [] a ops h = spell_unit-apart u a ops h
@@ -87,10 +84,6 @@ spell_keep-apart c (retain n d ∷ ops) h =
       | false ↦ λ e. refl
     ] h
 spell_keep-apart c (delete n ∷ ops) h = refl
-
-pub spell_keep-same : (n : ℕ) (c : Changes) (ops : List Operation) → spell_fate (Keep c) (retain n c ∷ ops) ≡ retain (suc n) c ∷ ops
-spell_keep-same n c ops =
-    ap (λ t. cond t (retain (suc n) c ∷ ops) (retain 1 c ∷ retain n c ∷ ops)) ((same_changes-Decides c c).1 refl)
 
 pub spell_delete-apart : (ops : List Operation) → IsTrue (is_apart_delete ops) → spell_fate Del ops ≡ delete 1 ∷ ops
 spell_delete-apart [] h = refl

@@ -42,7 +42,7 @@ past-bare (End (x ∷ xs)) h = absurd h
 past-bare (Gap [] f g) h = refl
 past-bare (Gap (x ∷ xs) f g) h = absurd h
 
-front-Gap : (xs : List Element) (f : Fate) (g : Gaps) → front xs (Gap [] f g) ≡ Gap xs f g
+pub front-Gap : (xs : List Element) (f : Fate) (g : Gaps) → front xs (Gap [] f g) ≡ Gap xs f g
 front-Gap xs f g = ap (λ l. Gap l f g) (append-nil xs)
 
 -- settling leaves what is settled

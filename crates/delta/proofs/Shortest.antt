@@ -1,6 +1,6 @@
 -- Trimming and settling in either order, and how much is left of what stands before.
-use Rattle.std.proofs.Common.{◌≡◌, ℕ, zero, suc, ◌+◌, ◌<◌, ◌≤◌, true, false, cond, List, [], ◌∷◌, ◌++◌, length, refl, sym, ap, subst, ◌∙◌, arith}
-use Rattle.std.proofs.lemmas.List.{append-nil, length-append}
+use Rattle.std.proofs.Common.{◌≡◌, ℕ, zero, suc, ◌+◌, ◌<◌, ◌≤◌, true, false, cond, List, [], ◌∷◌, ◌++◌, refl, sym, ap, subst, ◌∙◌, arith}
+use Rattle.std.proofs.lemmas.List.{append-nil}
 use Rattle.attributes.specs.Map.{empty}
 use Rattle.attributes.specs.Attributes.{Changes, same_changes}
 use Rattle.delta.specs.Element.{Element}
@@ -9,30 +9,8 @@ use Rattle.delta.specs.Gaps.{Gaps, End, Gap, Fate, Del, Keep, front, run, counte
 use Rattle.delta.specs.Normal.{past, settled, trim, trimmed, nf}
 use Rattle.delta.proofs.Joins.{counted-append, units_below-counted}
 use Rattle.delta.proofs.Settling.{ends_kept, ends_kept-rest}
-use Rattle.delta.proofs.Lengths.{units_made, units_made-counted, base_of-spelled, out_of-spelled, units_below-settled, units_made-settled}
-
--- trimming leaves what stands before, and what moves before a delete
-trim-front : (xs ys : List Element) (f : Fate) (g : Gaps) → trim (xs ++ ys) f g ≡ front xs (trim ys f g)
-trim-front xs ys Del g = refl
-trim-front xs ys (Keep c) (End []) =
-    elim (same_changes c empty) as (λ t. cond t (End (xs ++ ys)) (Gap (xs ++ ys) (Keep c) (End [])) ≡ front xs (cond t (End ys) (Gap ys (Keep c) (End [])))) [ true ↦ refl | false ↦ refl ]
-trim-front xs ys (Keep c) (End (z ∷ zs)) = refl
-trim-front xs ys (Keep c) (Gap zs f g) = refl
-
-trimmed-front : (xs : List Element) (g : Gaps) → trimmed (front xs g) ≡ front xs (trimmed g)
-trimmed-front xs (End ys) = refl
-trimmed-front xs (Gap ys f g) = trim-front xs ys f (trimmed g)
-
-past-trim : (ys : List Element) (f : Fate) (g : Gaps) → Gap ys Del (trim [] f g) ≡ past Del (trim ys f g)
-past-trim ys Del g = refl
-past-trim ys (Keep c) (End []) =
-    elim (same_changes c empty) as (λ t. Gap ys Del (cond t (End []) (Gap [] (Keep c) (End []))) ≡ past Del (cond t (End ys) (Gap ys (Keep c) (End [])))) [ true ↦ refl | false ↦ refl ]
-past-trim ys (Keep c) (End (z ∷ zs)) = refl
-past-trim ys (Keep c) (Gap zs f g) = refl
-
-trimmed-past : (g : Gaps) → trimmed (past Del g) ≡ past Del (trimmed g)
-trimmed-past (End ys) = refl
-trimmed-past (Gap ys f g) = past-trim ys f (trimmed g)
+use Rattle.delta.proofs.Lengths.{units_made, units_made-counted, base_of-spelled, out_of-spelled, units_below-settled, units_made-settled, units_made-front}
+use Rattle.delta.proofs.Ends.{trimmed-past, trimmed-front}
 
 -- what settles is kept where something comes after
 trim-past : (c : Changes) (zs : List Element) (f : Fate) (g : Gaps) → trim [] (Keep c) (front zs (past f g)) ≡ Gap [] (Keep c) (front zs (past f g))
@@ -126,10 +104,6 @@ ends_kept-op (delete n) other = ends_kept-run n Del refl
 record Leaves (g k : Gaps) : Type 0 where
   below : units_below g ≤ units_below k
   made : units_made g ≤ units_made k
-
-units_made-front : (xs : List Element) (g : Gaps) → units_made (front xs g) ≡ length xs + units_made g
-units_made-front xs (End ys) = length-append xs ys
-units_made-front xs (Gap ys f g) = omega (arith, length-append xs ys)
 
 leaves-trim : (xs : List Element) (f : Fate) (g k : Gaps) → ends_kept (Gap xs f g) ≡ false → (IsMore g → IsMore k) → Leaves g k → Leaves (Gap xs f g) (trim xs f k)
 leaves-trim xs Del g k ends more rest = record { below = omega (arith, rest.below); made = omega (arith, rest.made) }

@@ -1,5 +1,5 @@
 //! The builder of deltas.
-ghost use Rattle.std.specs.Prelude.{◌≡◌, ◌+◌, ◌≤◌, ◌<◌, ◌^◌, ◌↔◌, ◌⊎◌, ◌++◌, [], ◌∷◌, IfErr, IfOk, OnOk, OnErr, IsOkUnless, MatchBool, vec_len};
+ghost use Rattle.std.specs.Prelude.{◌≡◌, ◌+◌, ◌≤◌, ◌<◌, ◌^◌, ◌↔◌, ◌⊎◌, ◌++◌, [], ◌∷◌, IfErr, IfOk, OnOk, OnErr, MatchBool, vec_len};
 ghost use Rattle.delta.specs.Operation.{base_of, out_of, op_base, op_out, IsBounded};
 ghost use Rattle.delta.specs.Gaps.{counted};
 ghost use Rattle.delta.specs.Normal.{built, nf};
@@ -8,7 +8,7 @@ ghost use Rattle.delta.specs.steps.Building.{added_at, place_of, without_plain, 
 use crate::delta::Delta;
 use crate::op::Op;
 use refusal::Refusal;
-use std::alloc::Global;
+use std::alloc::{AllocError, Global};
 use std::marker::Model;
 
 /// 2^48: the greatest base length and the greatest output length, in UTF-16 code units.
@@ -85,12 +85,11 @@ impl Builder {
 }
 
 // adds an operation at its place
-fn put(ops: &mut Vec<Op>, op: Op) -> Result<(), Refusal>
+fn put(ops: &mut Vec<Op>, op: Op) -> Result<(), AllocError>
     requires base { base_of ops.old.items + op_base op ≤ 2 ^ 48 }
     requires out { out_of ops.old.items + op_out op ≤ 2 ^ 48 }
     ensures ok { OnOk result (ops.new.items ≡ added_at ops.old.items (place_of ops.old.items op) op) }
     ensures err { OnErr result (ops.new.items ≡ ops.old.items) }
-    ensures only { IsOkUnless result Refusal.NoMemory }
 {
     let at = place(ops.as_slice(), &op);
     if merge_before(ops, at, &op)? {
@@ -101,7 +100,7 @@ fn put(ops: &mut Vec<Op>, op: Op) -> Result<(), Refusal>
 }
 
 // takes an operation into the one before its place, where they merge, and says whether they do
-fn merge_before(ops: &mut Vec<Op>, at: usize, op: &Op) -> Result<bool, Refusal>
+fn merge_before(ops: &mut Vec<Op>, at: usize, op: &Op) -> Result<bool, AllocError>
     requires place { at ≤ vec_len ops.old }
     requires base { base_of ops.old.items + op_base op.now ≤ 2 ^ 48 }
     requires out { out_of ops.old.items + op_out op.now ≤ 2 ^ 48 }
@@ -109,7 +108,6 @@ fn merge_before(ops: &mut Vec<Op>, at: usize, op: &Op) -> Result<bool, Refusal>
         MatchBool yes (ops.new.items ≡ added_at ops.old.items at op.now)
         (IsAddedApart ops.old.items ops.new.items at op.now)) }
     ensures err { OnErr result (ops.new.items ≡ ops.old.items) }
-    ensures only { IsOkUnless result Refusal.NoMemory }
     ensures len { vec_len ops.new ≡ vec_len ops.old }
 {
     if at == 0 {

@@ -1,5 +1,5 @@
 //! Deltas.
-ghost use Rattle.std.specs.Prelude.{◌≡◌, ◌<◌, ◌↔◌, IfOk, IfErr, IfSome, IfNone, OnOk, OnErr, IsOkUnless};
+ghost use Rattle.std.specs.Prelude.{◌≡◌, ◌<◌, ◌↔◌, IfOk, IfErr, IfSome, IfNone, OnOk, OnErr};
 ghost use Rattle.delta.specs.Lead.{lead_of, lead_units, with_lead};
 ghost use Rattle.delta.specs.Operation.{base_of, out_of, IsBounded};
 ghost use Rattle.delta.specs.Normal.{IsNormal};
@@ -9,7 +9,7 @@ use crate::builder::MAX_LEN;
 use crate::op::Op;
 use crate::ops::Ops;
 use refusal::Refusal;
-use std::alloc::Global;
+use std::alloc::{AllocError, Global};
 use std::marker::Model;
 
 /// A delta: operations in normal form. Its base length and its output length are each at most 2^48 UTF-16 code units.
@@ -78,13 +78,20 @@ impl Delta {
         self.ops.as_slice()
     }
 
+    /// What each delta keeps, for the prover. It does nothing.
+    pub fn facts(&self)
+        ensures normal { IsNormal self.now }
+        ensures bounded { IsBounded self.now }
+    {
+        let _ = &self.ops;
+    }
+
     /// The operations, by value. Nothing is copied where the delta has them alone; shared ones (`share`) are copied, and only
     /// that can be refused.
-    pub fn into_ops(self, alloc: Global) -> Result<Vec<Op>, Refusal>
+    pub fn into_ops(self, alloc: Global) -> Result<Vec<Op>, AllocError>
         ensures ok { IfOk result (λ ops. ops.items ≡ self) }
         ensures normal { IsNormal self }
         ensures bounded { IsBounded self }
-        ensures only { IsOkUnless result Refusal.NoMemory }
     {
         let Delta {
             ops,
@@ -126,13 +133,12 @@ impl Delta {
     /// Gives the retain that is first another length in code units; without one the delta stays. Constant time, in place, where
     /// the delta has its operations alone; shared ones (`share`) are copied before, and only that can be refused. The delta
     /// is then unchanged.
-    pub fn set_lead(&mut self, alloc: Global, len: u64) -> Result<(), Refusal>
+    pub fn set_lead(&mut self, alloc: Global, len: u64) -> Result<(), AllocError>
         requires some { 0 < len }
         requires bounded { IsBounded (with_lead len self.old) }
         ensures lead { OnOk result (self.new ≡ with_lead len self.old) }
         ensures normal { IsNormal self.new }
         ensures err { OnErr result (self.new ≡ self.old) }
-        ensures only { IsOkUnless result Refusal.NoMemory }
     {
         if let Some(old) = self.ops.lengthen_first(alloc, len)? {
             if self.lead != 0 {
@@ -145,9 +151,8 @@ impl Delta {
     }
 
     /// An equal delta, whose copies share its operations.
-    pub fn share(self, alloc: Global) -> Result<Self, Refusal>
+    pub fn share(self, alloc: Global) -> Result<Self, AllocError>
         ensures same { IfOk result (λ delta. delta ≡ self) }
-        ensures only { IsOkUnless result Refusal.NoMemory }
     {
         let Delta {
             ops,
@@ -165,9 +170,8 @@ impl Delta {
 
     /// An equal delta. One of a shared delta (`share`) takes no memory: it is refused only where the operations can have no more
     /// owners.
-    pub fn copy(&self, alloc: Global) -> Result<Self, Refusal>
+    pub fn copy(&self, alloc: Global) -> Result<Self, AllocError>
         ensures same { IfOk result (λ delta. delta ≡ self.now) }
-        ensures only { IsOkUnless result Refusal.NoMemory }
     {
         let ops = self.ops.copy(alloc)?;
         Ok(Delta {

@@ -1,5 +1,5 @@
 //! Operations of a delta.
-ghost use Rattle.std.specs.Prelude.{◌≡◌, ◌+◌, ◌<◌, ◌^◌, ◌↔◌, ◌⊎◌, ◌++◌, length, IfOk, OnOk, OnErr, IfErr, IsOkUnless, MatchOption, MatchBool, false};
+ghost use Rattle.std.specs.Prelude.{◌≡◌, ◌+◌, ◌<◌, ◌^◌, ◌↔◌, ◌⊎◌, ◌++◌, length, IfOk, OnOk, OnErr, IfErr, MatchOption, MatchBool, false};
 ghost use Rattle.std.specs.String.{string_bytes};
 ghost use Rattle.std.specs.Str.{bytes_eq};
 ghost use Rattle.utf16.specs.Units.{units_of};
@@ -11,7 +11,7 @@ ghost use Rattle.delta.specs.Operation.{insert_text, insert_embed, retain, delet
 use crate::part::Part;
 use attributes::{Attrs, Change, Key, Value};
 use refusal::Refusal;
-use std::alloc::Global;
+use std::alloc::{AllocError, Global};
 use std::marker::Model;
 use utf16::{append, len16};
 
@@ -140,9 +140,8 @@ impl Op {
     }
 
     /// The operation, and then a change of the units that it inserts or keeps; a delete stays as it is. Its text is moved.
-    pub fn then(self, alloc: Global, change: &Change) -> Result<Self, Refusal>
+    pub fn then(self, alloc: Global, change: &Change) -> Result<Self, AllocError>
         ensures changed { IfOk result (λ op. op ≡ then_changed self change.now) }
-        ensures only { IsOkUnless result Refusal.NoMemory }
     {
         let Op { kind, len } = self;
         let kind = match kind {
@@ -208,12 +207,11 @@ impl Op {
     }
 
     // takes the next operation in, where they merge, and says whether they do
-    pub(crate) fn merge(&mut self, next: &Op) -> Result<bool, Refusal>
+    pub(crate) fn merge(&mut self, next: &Op) -> Result<bool, AllocError>
         requires { op_len self.old + op_len next.now < 2 ^ 64 }
         ensures ok { IfOk result (λ yes. MatchBool yes (merged self.old next.now ≡ Some self.new)
             ((merged self.old next.now ≡ None) × (self.new ≡ self.old))) }
         ensures err { OnErr result (self.new ≡ self.old) }
-        ensures only { IsOkUnless result Refusal.NoMemory }
     {
         let merged = match (&mut self.kind, &next.kind) {
             (Kind::Text(text, attrs), Kind::Text(more, others)) => {
@@ -234,18 +232,16 @@ impl Op {
     }
 
     /// An equal operation.
-    pub fn copy(&self, alloc: Global) -> Result<Self, Refusal>
+    pub fn copy(&self, alloc: Global) -> Result<Self, AllocError>
         ensures same { IfOk result (λ op. op ≡ self.now) }
-        ensures only { IsOkUnless result Refusal.NoMemory }
     {
         Op::of(alloc, self.get(), self.len)
     }
 
     // an operation of its own, whose length is known
-    pub(crate) fn of(alloc: Global, op: OpRef<'_>, len: u64) -> Result<Self, Refusal>
+    pub(crate) fn of(alloc: Global, op: OpRef<'_>, len: u64) -> Result<Self, AllocError>
         requires { len ≡ op_len (operation_of op) }
         ensures same { IfOk result (λ copy. copy ≡ operation_of op.entry) }
-        ensures only { IsOkUnless result Refusal.NoMemory }
     {
         let kind = match op {
             OpRef::Text(text, attrs) => Kind::Text(copy_text(alloc, text)?, attrs.copy(alloc)?),
@@ -259,9 +255,8 @@ impl Op {
     }
 }
 
-fn copy_text(alloc: Global, text: &str) -> Result<String, Refusal>
+fn copy_text(alloc: Global, text: &str) -> Result<String, AllocError>
     ensures same { IfOk result (λ copy. string_bytes copy ≡ text.now) }
-    ensures only { IsOkUnless result Refusal.NoMemory }
 {
     Ok(String::from_str(alloc, text)?)
 }

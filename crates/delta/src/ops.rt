@@ -1,10 +1,9 @@
 //! Operations that one delta has alone, or that several have together.
-ghost use Rattle.std.specs.Prelude.{◌≡◌, IfOk, OnOk, OnErr, IsOkUnless, MatchOption};
+ghost use Rattle.std.specs.Prelude.{◌≡◌, IfOk, OnOk, OnErr, MatchOption};
 ghost use Rattle.delta.specs.Lead.{with_lead, RetainsFirst};
 
 use crate::op::Op;
-use refusal::Refusal;
-use std::alloc::Global;
+use std::alloc::{AllocError, Global};
 use std::marker::Model;
 use std::sync::Arc;
 
@@ -53,9 +52,8 @@ impl Ops {
     }
 
     // the operations, whose copies take no memory
-    pub(crate) fn share(self, alloc: Global) -> Result<Self, Refusal>
+    pub(crate) fn share(self, alloc: Global) -> Result<Self, AllocError>
         ensures same { IfOk result (λ shared. shared ≡ self) }
-        ensures only { IsOkUnless result Refusal.NoMemory }
     {
         let Ops { held } = self;
         match held {
@@ -63,7 +61,7 @@ impl Ops {
                 Ok(ops) => Ok(Ops {
                     held: Held::Shared(ops),
                 }),
-                Err(_) => Err(Refusal::NoMemory),
+                Err(_) => Err(AllocError),
             },
             Held::Shared(ops) => Ok(Ops {
                 held: Held::Shared(ops),
@@ -73,9 +71,8 @@ impl Ops {
 
     // one more owner where they are shared, which takes no memory and is refused only where they can have no more; else a
     // copy of each
-    pub(crate) fn copy(&self, alloc: Global) -> Result<Self, Refusal>
+    pub(crate) fn copy(&self, alloc: Global) -> Result<Self, AllocError>
         ensures same { IfOk result (λ copy. copy ≡ self.now) }
-        ensures only { IsOkUnless result Refusal.NoMemory }
     {
         let held = match &self.held {
             Held::Own(ops) => Held::Own(copy_ops(alloc, ops.as_slice())?),
@@ -85,9 +82,8 @@ impl Ops {
     }
 
     // the operations by value, copied only where they are shared
-    pub(crate) fn into_vec(self, alloc: Global) -> Result<Vec<Op>, Refusal>
+    pub(crate) fn into_vec(self, alloc: Global) -> Result<Vec<Op>, AllocError>
         ensures same { IfOk result (λ ops. ops.items ≡ self) }
-        ensures only { IsOkUnless result Refusal.NoMemory }
     {
         let Ops { held } = self;
         match held {
@@ -97,11 +93,14 @@ impl Ops {
     }
 
     // gives the retain that is first another length, and says which it had; shared ones are copied before that
-    pub(crate) fn lengthen_first(&mut self, alloc: Global, len: u64) -> Result<Option<u64>, Refusal>
+    pub(crate) fn lengthen_first(
+        &mut self,
+        alloc: Global,
+        len: u64,
+    ) -> Result<Option<u64>, AllocError>
         ensures lead { OnOk result (self.new ≡ with_lead len self.old) }
         ensures old { IfOk result (λ old. MatchOption old (self.new ≡ self.old) (RetainsFirst self.old)) }
         ensures err { OnErr result (self.new ≡ self.old) }
-        ensures only { IsOkUnless result Refusal.NoMemory }
     {
         match &mut self.held {
             Held::Own(ops) => Ok(lengthen_first(ops, len)),
@@ -125,9 +124,8 @@ fn lengthen_first(ops: &mut Vec<Op>, len: u64) -> Option<u64>
     ops[0].lengthen(len)
 }
 
-fn copy_ops(alloc: Global, ops: &[Op]) -> Result<Vec<Op>, Refusal>
+fn copy_ops(alloc: Global, ops: &[Op]) -> Result<Vec<Op>, AllocError>
     ensures same { IfOk result (λ copy. copy.items ≡ ops.now) }
-    ensures only { IsOkUnless result Refusal.NoMemory }
 {
     let mut copy = Vec::with_capacity(alloc, ops.len())?;
     for op in ops {

@@ -6,7 +6,7 @@ ghost use Rattle.delta.specs.Kind.{operation_of};
 use crate::op::{Op, OpRef};
 use attributes::Change;
 use refusal::Refusal;
-use std::alloc::Global;
+use std::alloc::{AllocError, Global};
 use utf16::split_at16;
 
 /// An operation, or the part of one that is left at some place, borrowed. Its length is kept beside it, so that a text is
@@ -101,17 +101,15 @@ impl<'a> Part<'a> {
     }
 
     /// An equal operation of its own.
-    pub fn to_op(self, alloc: Global) -> Result<Op, Refusal>
+    pub fn to_op(self, alloc: Global) -> Result<Op, AllocError>
         ensures same { IfOk result (λ op. op ≡ operation_of_part self.entry) }
-        ensures only { IsOkUnless result Refusal.NoMemory }
     {
         Op::of(alloc, self.op, self.len)
     }
 
     /// An operation of its own: the same, and then a change of the units that it inserts or keeps; a delete stays as it is.
-    pub fn then(self, alloc: Global, change: &Change) -> Result<Op, Refusal>
+    pub fn then(self, alloc: Global, change: &Change) -> Result<Op, AllocError>
         ensures changed { IfOk result (λ op. op ≡ then_changed (operation_of_part self.entry) change.now) }
-        ensures only { IsOkUnless result Refusal.NoMemory }
     {
         let op = self.to_op(alloc)?;
         op.then(alloc, change)

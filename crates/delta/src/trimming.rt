@@ -76,7 +76,7 @@ impl TrimmingBuilder {
         let TrimmingBuilder { builder, plain: _ } = self;
         let delta = builder.finish();
         // its operations keep the bound
-        let _ = delta.ops();
+        delta.facts();
         delta
     }
 }

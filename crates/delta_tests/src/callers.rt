@@ -25,11 +25,11 @@ use optext::{read_ops, write_ops};
 use refusal::Refusal;
 use serde_json::Value as Json;
 use std::alloc::Global;
-use utf16::{Cut, split_at16};
+use utf16::{SplitError, split_at16};
 use xform::transform;
 
 /// The first code units of a text; refused where the text is shorter, or where a pair would be parted.
-pub fn first_units(text: &str, count: u64) -> Result<&str, Cut>
+pub fn first_units(text: &str, count: u64) -> Result<&str, SplitError>
     ensures { IfOk result (λ front. units_of front.now ≡ take count (units_of text.now)) }
 {
     let (front, _) = split_at16(text, count)?;
@@ -112,7 +112,7 @@ pub fn print_normal(alloc: Global, operations: &[Json]) -> Result<Json, Refusal>
         (delta : List Operation) × (delta_of (items_view operations.now) ≡ Ok delta) × (view value ≡ array (printed delta))) }
 {
     let delta = read_ops(alloc, operations)?;
-    write_ops(alloc, &delta)
+    Ok(write_ops(alloc, &delta)?)
 }
 
 /// The text of the one delta for the two that these texts describe.

@@ -1,10 +1,10 @@
 -- What a crash leaves of writes that lie apart from one another.
-use Rattle.std.proofs.Common.{◌≡◌, ◌⊎◌, inl, inr, ⊎_elim, ℕ, ◌+◌, ◌-◌, ◌≤◌, ◌<◌, List, [], ◌∷◌, length, get_or, take, drop, refl, sym, ◌∙◌, ap, subst, arith}
+use Rattle.std.proofs.Common.{◌≡◌, inl, inr, ℕ, ◌+◌, ◌-◌, ◌≤◌, ◌<◌, List, [], ◌∷◌, length, get_or, take, drop, sym, ◌∙◌, ap, subst, arith}
 use Rattle.std.specs.Prelude.{◌↔◌}
 use Rattle.std.proofs.lemmas.List.{ext_get_or, get_or-take, get_or-drop, length-take, length-take-le, length-drop}
 use Rattle.disk.specs.Apart.{IsWithin, AreApart, IsApart, CoversMoreWithin, AreWrites}
-use Rattle.disk.specs.Device.{State, IsCovered, MayLeave, overwritten, SameOutside, IsWrite}
-use Rattle.disk.proofs.Contents.{sides, same_at, byte_overwritten, length_overwritten, overwritten_same_outside, not_covered, covered_here, covered_there, covered_by}
+use Rattle.disk.specs.Device.{State, IsCovered, MayLeave, overwritten, SameOutside}
+use Rattle.disk.proofs.Contents.{sides, same_at, byte_overwritten, overwritten_same_outside, not_covered, covered_here, covered_there}
 
 -- contents of one length that agree at each place of a range agree in it
 pub same_range : (at count : ℕ) (a b : List ℕ) → length a ≡ length b → ((place : ℕ) → IsWithin at count place → get_or a place 0 ≡ get_or b place 0)

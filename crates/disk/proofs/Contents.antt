@@ -2,7 +2,7 @@
 use Rattle.std.proofs.Common.{◌≡◌, ◌⊎◌, inl, inr, ⊎_elim, ℕ, suc, zero, ◌+◌, ◌-◌, ◌≤◌, ◌<◌, List, [], ◌∷◌, ◌++◌, length, get_or, take, drop, refl, sym, ◌∙◌, ap, subst, arith, length-append, length-drop}
 use Rattle.std.specs.Prelude.{slice_range}
 use Rattle.std.proofs.lemmas.Bool.{cases_lt}
-use Rattle.std.proofs.lemmas.List.{take_at, drop_at, ext_get_or, get_or-take, get_or-drop, get_or_append_left, get_or-append_right, length-take, length-take-le, drop-drop, take-take}
+use Rattle.std.proofs.lemmas.List.{take_at, drop_at, ext_get_or, get_or-take, get_or-drop, get_or_append_left, get_or-append_right, length-take, length-take-le, drop-drop, drop-take, take-take}
 use Rattle.disk.specs.Device.{State, IsCovered, MayLeave, overwritten, SameOutside, IsWrite}
 use Rattle.disk.specs.Laws.{IsWithin}
 
@@ -171,3 +171,10 @@ opened_leaves at count old new content before opens left same = record {
       let not_within : ¬ IsWithin at count place = λ within. apart (covered_here at count place old.unsynced within) in
       same_at at count before content same place not_within ∙ left.outside place (λ covered. apart (covered_there (at, count) place old.unsynced covered)) ∙ sym (same_at at count old.seen new.seen opens.seen place not_within);
 }
+
+-- a range before a place is what it was, where all before the place is
+pub range_before : (p n q : ℕ) (old new : List ℕ) → p + n ≤ q → take q new ≡ take q old → take n (drop p new) ≡ take n (drop p old)
+range_before p n q old new ends same =
+    let part : (l : List ℕ) → take n (drop p l) ≡ drop p (take (p + n) (take q l)) =
+    λ l. sym (drop-take p n l) ∙ ap (λ (m : List ℕ). drop p m) (sym (take-take (p + n) q l ends)) in
+    part new ∙ ap (λ (l : List ℕ). drop p (take (p + n) l)) same ∙ sym (part old)

@@ -1,9 +1,9 @@
 -- How many calls and syncs a write and a sync cost, as far as a device tells.
-use Rattle.std.proofs.Common.{◌≡◌, ℕ, ◌+◌, ◌≤◌, List, ◌∷◌, length, ap, arith}
+use Rattle.std.proofs.Common.{◌≡◌, ℕ, ◌+◌, ◌≤◌, List, length, ap, arith}
 use Rattle.disk.specs.Counted.{is_synced, synced_states, synced_moments}
 use Rattle.disk.specs.Device.{State, History, IsWrite, IsSync, IsAtMostOneStep, NoStep, OneStep}
 
-one_told : {Step : State → State → Type 0} {old new : History} → IsAtMostOneStep Step old new → length new.past ≤ length old.past + 1
+pub one_told : {Step : State → State → Type 0} {old new : History} → IsAtMostOneStep Step old new → length new.past ≤ length old.past + 1
 one_told (NoStep same) = let past = ap (λ (h : History). length h.past) same in omega (arith, past)
 one_told (OneStep more step) = let past = ap (λ (l : List State). length l) more in omega (arith, past)
 

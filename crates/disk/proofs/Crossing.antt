@@ -1,7 +1,7 @@
 -- A device over a file may go to another thread: for a caller that gives it to one. The search for it is too long in one piece.
 use denote.Param.Send.{IsSend, sendable}
 use Rattle.std.proofs.Crossing.{crosses}
-use Rattle.disk.specs.contracts.tried.FileFault as fault
+use Rattle.disk.specs.contracts.tried.FileError as fault
 use Rattle.disk.specs.contracts.raw.HostFile as host
 use Rattle.disk.specs.contracts.raw.HostFileRawFile.TheImpl as raw
 use Rattle.disk.specs.contracts.file.FileDisk as device

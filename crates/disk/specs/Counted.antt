@@ -34,3 +34,10 @@ module _ {D : Type 0} (disk : Ghosts D) where
     pub calls : length (disk.past new) ≤ length (disk.past old) + most_calls
     pub syncs : synced_moments (history_of disk new) ≤ synced_moments (history_of disk old) + most_syncs
     pub faults : disk.faults new ≤ disk.faults old + 1
+
+  -- What calls cost where one that fails is counted like any other: so many at most, whether the device tells of them or they failed, and so
+  -- many syncs among them.
+  pub record CostsInAll (most_calls most_syncs : ℕ) (old new : D) : Type 0 where
+    pub calls : length (disk.past new) ≤ length (disk.past old) + most_calls
+    pub every_call : calls_of new ≤ calls_of old + most_calls
+    pub syncs : syncs_of new ≤ syncs_of old + most_syncs

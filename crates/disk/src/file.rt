@@ -8,7 +8,7 @@ ghost use Rattle.disk.specs.Event.{content, ranges, states, IsHonest};
 
 use crate::device::count_failure;
 use crate::raw::{HostFile, RawFile};
-use crate::tried::{FileFault, Tried};
+use crate::tried::{FileError, Tried};
 use crate::{Disk, Fault};
 use std::fs::{self, File, OpenFile, OpenOptions, TryLockError};
 use std::io::{self, ErrorKind};
@@ -61,7 +61,7 @@ impl FileDisk {
         rt: &R,
         path: &str,
         len: u64,
-    ) -> Result<FileDisk, FileFault>
+    ) -> Result<FileDisk, FileError>
         ensures length { IfOk result (λ disk. length (⟦<FileDisk as Disk>⟧.seen disk) ≡ len) }
         ensures synced { IfOk result (λ disk. ⟦<FileDisk as Disk>⟧.unsynced disk ≡ []) }
         ensures honest { IfOk result ⟦<FileDisk as Disk>⟧.honest }
@@ -79,7 +79,7 @@ impl FileDisk {
 
     /// Opens a file as a device of the file's length, and locks it: while another device of this file is there, in this program
     /// or another one, that is refused. Nothing of it is read. Until a sync succeeds, nothing of it is known to be synced.
-    pub fn open<R: Files<File = File>>(rt: &R, path: &str) -> Result<FileDisk, FileFault>
+    pub fn open<R: Files<File = File>>(rt: &R, path: &str) -> Result<FileDisk, FileError>
         ensures past { IfOk result (λ disk. ⟦<FileDisk as Disk>⟧.past disk ≡ []) }
         ensures honest { IfOk result ⟦<FileDisk as Disk>⟧.honest }
         ensures faults { IfOk result (λ disk. ⟦<FileDisk as Disk>⟧.faults disk ≡ 0) }
@@ -95,7 +95,7 @@ impl FileDisk {
     }
 
     /// The first call on the file that failed since it was opened, and why; `None` where none has.
-    pub fn fault(&self) -> Option<FileFault> {
+    pub fn fault(&self) -> Option<FileError> {
         self.file.fault()
     }
 
@@ -105,7 +105,7 @@ impl FileDisk {
         file: File,
         path: &str,
         len: u64,
-    ) -> Result<FileDisk, FileFault>
+    ) -> Result<FileDisk, FileError>
         ensures length { IfOk result (λ disk. length (⟦<FileDisk as Disk>⟧.seen disk) ≡ len) }
         ensures synced { IfOk result (λ disk. ⟦<FileDisk as Disk>⟧.unsynced disk ≡ []) }
         ensures honest { IfOk result ⟦<FileDisk as Disk>⟧.honest }
@@ -126,8 +126,8 @@ impl FileDisk {
     }
 }
 
-fn failed(tried: Tried, reason: io::Error) -> FileFault {
-    FileFault { tried, reason }
+fn failed(tried: Tried, reason: io::Error) -> FileError {
+    FileError { tried, reason }
 }
 
 // Opens a file so, and locks it.
@@ -136,7 +136,7 @@ fn opened<R: Files<File = File>>(
     options: &OpenOptions,
     path: &str,
     tried: Tried,
-) -> Result<File, FileFault> {
+) -> Result<File, FileError> {
     match options.open(rt, path) {
         Ok(file) => {
             lock(&file)?;
@@ -147,7 +147,7 @@ fn opened<R: Files<File = File>>(
 }
 
 // Takes the lock of a file for this device alone, without waiting. It is held until the file is closed, however the program ends.
-fn lock(file: &File) -> Result<(), FileFault> {
+fn lock(file: &File) -> Result<(), FileError> {
     match file.try_lock() {
         Ok(()) => Ok(()),
         Err(TryLockError::WouldBlock) => Err(failed(

@@ -38,4 +38,4 @@ pub use device::{Disk, Fault};
 pub use faults::{FaultDisk, FaultPlan, Left};
 pub use file::FileDisk;
 pub use memory::{Call, MemDisk};
-pub use tried::{FileFault, Tried};
+pub use tried::{FileError, Tried};

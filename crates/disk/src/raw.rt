@@ -10,7 +10,7 @@ ghost use Rattle.disk.specs.Event.{Event, Opened, Read, FailedRead, Write, Faile
 
 use crate::Fault;
 use crate::record::Record;
-use crate::tried::{FileFault, Tried};
+use crate::tried::{FileError, Tried};
 use std::fs::{File, OpenFile};
 use std::io;
 use std::os::unix::fs::FileExt;
@@ -42,7 +42,7 @@ pub trait RawFile: Drop {
 pub struct HostFile {
     file: File,
     record: Record,
-    fault: Option<FileFault>,
+    fault: Option<FileError>,
 }
 
 impl HostFile {
@@ -60,7 +60,7 @@ impl HostFile {
     }
 
     /// The first call that failed, and why, where one did.
-    pub(crate) fn fault(&self) -> Option<FileFault> {
+    pub(crate) fn fault(&self) -> Option<FileError> {
         self.fault
     }
 
@@ -69,7 +69,7 @@ impl HostFile {
         ensures { events_of self.new ≡ events_of self.old }
     {
         if self.fault.is_none() {
-            self.fault = Some(FileFault { tried, reason });
+            self.fault = Some(FileError { tried, reason });
         }
         Fault
     }

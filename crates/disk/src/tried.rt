@@ -29,13 +29,13 @@ impl Tried {
 
 /// A call on a file that failed: what was tried, and the system's reason.
 #[derive(Clone, Copy, Debug)]
-pub struct FileFault {
+pub struct FileError {
     pub tried: Tried,
     pub reason: io::Error,
 }
 
-impl From<FileFault> for Fault {
-    fn from(_: FileFault) -> Fault {
+impl From<FileError> for Fault {
+    fn from(_: FileError) -> Fault {
         Fault
     }
 }

@@ -1,6 +1,6 @@
 -- The weight of attributes after a change: what stays of them, and what the change sets.
-use Rattle.std.proofs.Common.{◌≡◌, ℕ, ◌+◌, Bool, true, false, cond, List, [], ◌∷◌, Option, Some, None, refl, sym, ap, ◌∙◌, arith, Ordering, Less, Equal, Greater, sum_by}
-use Rattle.std.specs.Prelude.{not, is_some, ◌&&◌, T}
+use Rattle.std.proofs.Common.{◌≡◌, ℕ, ◌+◌, Bool, true, false, cond, List, [], ◌∷◌, Option, Some, None, refl, sym, ap, ◌∙◌, arith, Less, Equal, Greater, sum_by}
+use Rattle.std.specs.Prelude.{not, is_some, T}
 use Rattle.std.specs.Cmp.Lexicographic.{nat_list_cmp_total}
 use Rattle.std.specs.Cmp.{eq_by_cmp_equiv}
 use Rattle.std.specs.FinMap.{slice_cmp-IsAntisymmetric, nat_cmp-IsAntisymmetric}
@@ -11,7 +11,7 @@ use Rattle.attributes.specs.Map.{by_bytes, get, insert, retain}
 use Rattle.attributes.specs.Attributes.{Attributes, Changes, changed, changed_by, put_or_remove}
 use Rattle.attributes.specs.Laws.{value_after}
 use Rattle.attributes.specs.Scalar.{Scalar}
-use Rattle.attributes.proofs.CallerLemmas.{get-changed}
+use Rattle.attributes.proofs.CallerLemmas.{get-changed, T_parts, equal_from}
 use Rattle.document.specs.Weight.{entries_weight, named_weight, attributes_weight}
 use Rattle.document.specs.steps.Weighing.{kept_weight, value_weight, set_weight}
 
@@ -21,20 +21,11 @@ is_name = eq_by_cmp by_bytes
 abbrev other_than : List ℕ → List ℕ → Bool
 other_than k name = not (is_name k name)
 
-equal_from : (r : Ordering) → is_eq r ≡ true → r ≡ Equal
-equal_from Less e = absurd (cc)
-equal_from Equal e = refl
-equal_from Greater e = absurd (cc)
-
 same_name_from : (x y : List ℕ) → is_name x y ≡ true → x ≡ y
 same_name_from x y tie = slice_cmp-IsAntisymmetric nat_cmp-IsAntisymmetric x y (equal_from (by_bytes x y) tie)
 
 name_itself : (k : List ℕ) → is_name k k ≡ true
 name_itself k = (eq_by_cmp_equiv nat_list_cmp_total).refl k
-
-T_parts : (a b : Bool) → T (a && b) → T a × T b
-T_parts true b h = (tt, h)
-T_parts false b h = absurd h
 
 module _ {X : Type 0} where
   -- a name below all others is not among them

@@ -44,9 +44,6 @@ AreSized-parts (c ∷ a) b sized = let parts = AreSized-parts a b sized.1 in ((s
 pub AreSized-take : (i : ℕ) (cs : List (List (List Element))) → AreSized cs → AreSized (take i cs)
 AreSized-take i cs sized = (AreSized-parts (take i cs) (drop i cs) (subst AreSized (sym (take-append-drop i cs)) sized)).0
 
-pub AreSized-drop : (i : ℕ) (cs : List (List (List Element))) → AreSized cs → AreSized (drop i cs)
-AreSized-drop i cs sized = (AreSized-parts (take i cs) (drop i cs) (subst AreSized (sym (take-append-drop i cs)) sized)).1
-
 -- both parts of runs, and what stands apart where they meet
 pub AreRuns-parts : (a b : List (List Element)) → AreRuns (a ++ b) → AreRuns a × AreRuns b
 AreRuns-parts [] b runs = (tt, runs)
@@ -132,15 +129,6 @@ last_chunk_read cs n c at is sized = last_of_chunks cs c (ends_in cs n c (omega 
 pub first_read : {X : Type 0} (xs : List X) (x : X) → 0 < length xs → x ≡ get_or xs 0 x → xs ≡ x ∷ take (length xs - 1) (drop 1 xs)
 first_read [] x some is = absurd (omega (arith, some))
 first_read (y ∷ xs) x some is = ap (λ z. z ∷ xs) (sym is) ∙ ap (λ l. x ∷ l) (sym (take_rest (y ∷ xs) 1))
-
--- elements that are put behind a list one by one
-pub put_next : {X : Type 0} (old items new xs : List X) (i : ℕ) (x y : X) → items ≡ old ++ take i xs → i < length xs → x ≡ get_or xs i x → y ≡ x
-    → new ≡ items ++ y ∷ [] → new ≡ old ++ take (i + 1) xs
-put_next old items new xs i x y so within is same push =
-    push
-    ∙ (ap (λ l. l ++ y ∷ []) so
-    ∙ (append_assoc old (take i xs) (y ∷ [])
-    ∙ ap (λ l. old ++ l) (ap (λ z. take i xs ++ z ∷ []) (same ∙ is) ∙ sym (take_more xs i x within))))
 
 -- the first of chunks, and those after it
 pub entered_first : (rs r c : List (List Element)) (cs : List (List (List Element))) → length rs ≡ 0 → 0 < length cs → c ≡ get_or cs 0 c → r ≡ c → AreChunks cs

@@ -64,10 +64,7 @@ exchanged_made old mid new op n goes comes bound base passed made =
       comes_to = made.weighs;
     }
 
--- no operation, one more, and all with what stands behind them
-pub exchanged_none : (d : List Element) → IsExchanged d d [] 0 0
-exchanged_none d = record { taken = []; parts = refl; count = refl; stays = 0; more = 0; before = refl; after = refl; comes_to = refl }
-
+-- one operation more, and all with what stands behind them
 pub exchanged_more : (old mid new : List Element) (ops all : List Operation) (op : Operation) (goes comes less more total : ℕ)
     → IsExchanged old mid ops goes comes → IsExchanged mid new (op ∷ []) less more → all ≡ ops ++ op ∷ [] → total ≡ min (comes + more) (2 ^ 64 - 1)
     → IsExchanged old new all (goes + less) total

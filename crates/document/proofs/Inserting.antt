@@ -1,6 +1,5 @@
 -- The inserts that make a document, run by run.
-use Rattle.std.proofs.Common.{◌≡◌, ℕ, ◌+◌, ◌<◌, ◌≤◌, ◌^◌, ◌⊎◌, inl, inr, List, [], ◌∷◌, ◌++◌, length, take, get_or, sym, ap, ◌∙◌, arith, append-nil, Err, Result, ◌↔◌}
-use Rattle.std.proofs.lemmas.List.{take_more}
+use Rattle.std.proofs.Common.{◌≡◌, ◌+◌, ◌≤◌, ◌^◌, ◌⊎◌, inl, inr, List, [], ◌∷◌, ◌++◌, length, sym, ap, ◌∙◌, arith, append-nil, Err, Result, ◌↔◌}
 use Rattle.refusal.specs.declared.Refusal.{Refusal}
 use Rattle.refusal.specs.declared.Refusal.TheVariants.{BadOps, NoMemory}
 use Rattle.delta.specs.Element.{Element}
@@ -8,8 +7,6 @@ use Rattle.delta.specs.Operation.{Operation, op_base, op_out, base_of, out_of, I
 use Rattle.delta.specs.Gaps.{End, front, joined, counted, units_below, apply}
 use Rattle.delta.specs.Normal.{spelled, settled, built, nf}
 use Rattle.delta.proofs.CallerLemmas.{apply-nf, counted-append, units_below-counted, base_of-append, out_of-append, base_of-nf, length-apply_counted, counted-spelled}
-use Rattle.document.specs.Runs.{units_of_runs}
-use Rattle.document.proofs.Joined.{units_of_runs-last}
 
 counted_of : (us : List Element) (ops : List Operation) → ops ≡ spelled (End us) → counted ops ≡ End us
 counted_of us ops e = ap counted e ∙ counted-spelled (End us)
@@ -21,12 +18,6 @@ spelled_more us more all op before new e one push whole =
     push
     ∙ (ap (λ g. spelled (settled g)) (counted-append before (op ∷ []) ∙ (ap (λ g. joined g (counted (op ∷ []))) (counted_of us before e) ∙ ap (front us) one))
     ∙ ap (λ l. spelled (End l)) (sym whole))
-
-pub runs_before_next : (rs : List (List Element)) (i : ℕ) (r piece : List Element) → i < length rs → r ≡ get_or rs i r → piece ≡ r
-    → units_of_runs (take (i + 1) rs) ≡ units_of_runs (take i rs) ++ piece
-runs_before_next rs i r piece within is same =
-    ap units_of_runs (take_more rs i r within)
-    ∙ (units_of_runs-last (take i rs) (get_or rs i r) ∙ ap (λ l. units_of_runs (take i rs) ++ l) (sym is ∙ sym same))
 
 -- inserts have no base length, and the length of what they insert
 base_of_inserts : (us : List Element) (ops : List Operation) → ops ≡ spelled (End us) → base_of ops ≡ 0

@@ -19,3 +19,4 @@ pub mod Behind
 pub mod Changing
 pub mod Measured
 pub mod Exchanged
+pub mod CallerLemmas

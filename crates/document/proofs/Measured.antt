@@ -4,10 +4,9 @@ use Rattle.std.proofs.lemmas.List.{map-append}
 use Rattle.utf16.specs.Units.{units_of}
 use Rattle.attributes.specs.Attributes.{Attributes, Changes, changed}
 use Rattle.attributes.specs.Map.{empty}
-use Rattle.attributes.specs.Scalar.{Scalar}
-use Rattle.delta.specs.Element.{Element, letters, embedded}
+use Rattle.delta.specs.Element.{Element}
 use Rattle.delta.specs.Gaps.{counted, apply}
-use Rattle.delta.specs.Operation.{Operation, insert_text, insert_embed, retain, delete, base_of}
+use Rattle.delta.specs.Operation.{Operation, retain, delete, base_of}
 use Rattle.delta.proofs.CallerLemmas.{base_of-append, effect_of_parts, effect_past_end, effect_of_retain, effect_of_delete}
 use Rattle.document.specs.Pairs.{IsWellFormed}
 use Rattle.document.specs.Weight.{weight_of, attributes_weight}
@@ -86,21 +85,6 @@ kept_on old mid new c m k n before weight more first second e sum =
     }
 
 -- what one operation makes
-pub made_by_text : (d : List Element) (us : List ℕ) (a : Attributes) (op : Operation) (weight : ℕ) → insert_text us a ≡ op
-    → weight ≡ min (weight_of (letters us a)) (2 ^ 64 - 1) → IsWeighed d d (op ∷ []) weight
-made_by_text d us a op weight is weighs =
-    subst (λ o. IsWeighed d d (o ∷ []) weight) is (record {
-      taken = [];
-      parts = refl;
-      count = refl;
-      weighs = weighs ∙ ap (λ l. min (weight_of l) (2 ^ 64 - 1)) (sym (append-nil (letters us a)) ∙ sym (append-nil (letters us a ++ [])));
-    })
-
-pub made_by_embed : (d : List Element) (key : List ℕ) (value : Scalar) (a : Attributes) (op : Operation) (weight : ℕ) → insert_embed key value a ≡ op
-    → weight ≡ min (weight_of (embedded key value a ∷ [])) (2 ^ 64 - 1) → IsWeighed d d (op ∷ []) weight
-made_by_embed d key value a op weight is weighs =
-    subst (λ o. IsWeighed d d (o ∷ []) weight) is (record { taken = []; parts = refl; count = refl; weighs = weighs })
-
 pub made_by_retain : (old new : List Element) (n : ℕ) (c : Changes) (op : Operation) (weight : ℕ) → retain n c ≡ op → IsRetainedWeighed old new n c weight → IsWeighed old new (op ∷ []) weight
 made_by_retain old new n c op weight is kept =
     let taken = kept.passed.taken in
@@ -126,10 +110,7 @@ made_by_delete old new n op is passed =
       weighs = omega (arith, ap weight_of none);
     })
 
--- what operations make: none, one more, and all with what stands behind them
-pub weighed_none : (d : List Element) → IsWeighed d d [] 0
-weighed_none d = record { taken = []; parts = refl; count = refl; weighs = refl }
-
+-- what operations make: one more, and all with what stands behind them
 pub weighed_more : (old mid new : List Element) (ops more : List Operation) (op : Operation) (before weight total : ℕ)
     → IsWeighed old mid ops before → IsWeighed mid new (op ∷ []) weight → more ≡ ops ++ op ∷ [] → total ≡ min (before + weight) (2 ^ 64 - 1) → IsWeighed old new more total
 weighed_more old mid new ops more op before weight total weighed made e sum =

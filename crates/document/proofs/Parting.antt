@@ -1,5 +1,5 @@
 -- Where a delta in normal form cuts a pair: at the ends of its operations.
-use Rattle.std.proofs.Common.{◌≡◌, ◌≢◌, ℕ, zero, suc, ◌+◌, ◌<◌, Bool, true, false, not, ◌&&◌, IsTrue, cond, List, [], ◌∷◌, ◌++◌, length, drop, refl, sym, ap, subst, ◌∙◌, ◌⊎◌, inl, inr, arith, Some, None}
+use Rattle.std.proofs.Common.{◌≡◌, ◌≢◌, ℕ, zero, suc, ◌+◌, ◌<◌, Bool, true, false, not, IsTrue, cond, List, [], ◌∷◌, ◌++◌, length, drop, refl, sym, ap, subst, ◌∙◌, ◌⊎◌, inl, inr, arith, Some, None}
 use Rattle.std.specs.Option.{is_none}
 use Rattle.std.proofs.lemmas.Bool.{false≢true, and_parts, ltb-true}
 use Rattle.attributes.specs.Attributes.{Attributes, Changes, same_changes, same_changes-Decides}
@@ -7,13 +7,14 @@ use Rattle.attributes.specs.Map.{empty}
 use Rattle.delta.specs.Element.{Element, letters, embedded}
 use Rattle.delta.specs.Operation.{Operation, insert_text, insert_embed, retain, delete, op_len, merged}
 use Rattle.delta.specs.Gaps.{Gaps, End, Gap, Fate, Del, Keep, front, run, counted}
-use Rattle.delta.specs.Normal.{is_built, ends_plain, IsNormal}
+use Rattle.delta.specs.Normal.{IsNormal}
 use Rattle.document.specs.Pairs.{IsPairAt}
 use Rattle.document.specs.steps.Passes.{StopsInPair}
 use Rattle.delta.specs.Places.{fate_at, inserted_at}
 use Rattle.document.specs.Places.{Cuts}
 use Rattle.document.proofs.Formed.{IsPairAt-later, IsPairAt-earlier}
 use Rattle.document.proofs.Kept.{cuts_later}
+use Rattle.delta.proofs.CallerLemmas.{normal-rest}
 
 -- two fates meet before a place, or something is inserted there
 abbrev Turned : Gaps → ℕ → Type 0
@@ -24,15 +25,6 @@ abbrev Turns : Fate → Gaps → Type 0
 Turns f g = (f ≢ fate_at g 0) ⊎ (inserted_at g 0 ≢ [])
 
 -- insertions at the front cut nothing
-fate_at-front : (xs : List Element) (g : Gaps) (i : ℕ) → fate_at (front xs g) i ≡ fate_at g i
-fate_at-front xs (End ys) i = refl
-fate_at-front xs (Gap ys f g) zero = refl
-fate_at-front xs (Gap ys f g) (suc i) = refl
-
-inserted_at-front : (xs : List Element) (g : Gaps) (i : ℕ) → inserted_at (front xs g) (suc i) ≡ inserted_at g (suc i)
-inserted_at-front xs (End ys) i = refl
-inserted_at-front xs (Gap ys f g) i = refl
-
 turned-front : (xs : List Element) (g : Gaps) (i : ℕ) → Turned (front xs g) i ≡ Turned g i
 turned-front xs (End ys) i = refl
 turned-front xs (Gap ys f g) zero = refl
@@ -73,17 +65,7 @@ behind_run n f g [] cut = absurd (nothing_behind n cut.0 cut.1) where
 behind_run zero f g (x ∷ d) cut = cuts_later x d [] f g cut
 behind_run (suc n) f g (x ∷ d) cut = cuts_later x d [] f (run (suc n) f g) (behind_run n f g d cut)
 
-both : (a b : Bool) → a ≡ true → b ≡ true → (a && b) ≡ true
-both a b p q = ap (λ x. x && b) p ∙ q
-
--- a list in normal form, its first operation and the rest
-normal_rest : (op : Operation) (ops : List Operation) → IsNormal (op ∷ ops) → IsNormal ops
-normal_rest op [] normal = refl
-normal_rest op (next ∷ ops) normal =
-    let parts = and_parts _ _ normal in
-    both (is_built (next ∷ ops)) (not (ends_plain (next ∷ ops))) (and_parts _ _ (and_parts _ _ parts.0).1).1 parts.1
-
-normal_some : (op : Operation) (ops : List Operation) → IsNormal (op ∷ ops) → 0 < op_len op
+pub normal_some : (op : Operation) (ops : List Operation) → IsNormal (op ∷ ops) → 0 < op_len op
 normal_some op [] normal = ltb-true 0 (op_len op) (and_parts _ _ normal).0
 normal_some op (next ∷ ops) normal = ltb-true 0 (op_len op) (and_parts _ _ (and_parts _ _ normal).0).0
 
@@ -113,25 +95,25 @@ some_inserted (u ∷ us) a g some = λ none. absurd (let e = sym (first-front (l
 turns_keep : (n : ℕ) (c : Changes) (ops : List Operation) → IsNormal (retain n c ∷ ops) → Turns (Keep c) (counted ops)
 turns_keep n c [] normal = inl (differing c empty (not_true (same_changes c empty) (and_parts _ _ normal).1))
 turns_keep n c (insert_text us a ∷ ops) normal =
-    inr (some_inserted us a (counted ops) (normal_some (insert_text us a) ops (normal_rest (retain n c) (insert_text us a ∷ ops) normal)))
+    inr (some_inserted us a (counted ops) (normal_some (insert_text us a) ops (normal-rest (retain n c) (insert_text us a ∷ ops) normal)))
 turns_keep n c (insert_embed key value a ∷ ops) normal =
     inr (λ none. absurd (let e = sym (first-front (embedded key value a ∷ []) (counted ops)) ∙ none in cc))
 turns_keep n c (retain zero e ∷ ops) normal =
-    absurd (omega (arith, normal_some (retain zero e) ops (normal_rest (retain n c) (retain zero e ∷ ops) normal)))
+    absurd (omega (arith, normal_some (retain zero e) ops (normal-rest (retain n c) (retain zero e ∷ ops) normal)))
 turns_keep n c (retain (suc m) e ∷ ops) normal =
     inl (differing c e (apart_of_none (same_changes c e) (retain (n + suc m) c) (normal_apart (retain n c) (retain (suc m) e) ops normal)))
 turns_keep n c (delete zero ∷ ops) normal =
-    absurd (omega (arith, normal_some (delete zero) ops (normal_rest (retain n c) (delete zero ∷ ops) normal)))
+    absurd (omega (arith, normal_some (delete zero) ops (normal-rest (retain n c) (delete zero ∷ ops) normal)))
 turns_keep n c (delete (suc m) ∷ ops) normal = inl (λ e. absurd (cc))
 
 turns_delete : (n : ℕ) (ops : List Operation) → IsNormal (delete n ∷ ops) → Turns Del (counted ops)
 turns_delete n [] normal = inl (λ e. absurd (cc))
 turns_delete n (insert_text us a ∷ ops) normal =
-    inr (some_inserted us a (counted ops) (normal_some (insert_text us a) ops (normal_rest (delete n) (insert_text us a ∷ ops) normal)))
+    inr (some_inserted us a (counted ops) (normal_some (insert_text us a) ops (normal-rest (delete n) (insert_text us a ∷ ops) normal)))
 turns_delete n (insert_embed key value a ∷ ops) normal =
     inr (λ none. absurd (let e = sym (first-front (embedded key value a ∷ []) (counted ops)) ∙ none in cc))
 turns_delete n (retain zero e ∷ ops) normal =
-    absurd (omega (arith, normal_some (retain zero e) ops (normal_rest (delete n) (retain zero e ∷ ops) normal)))
+    absurd (omega (arith, normal_some (retain zero e) ops (normal-rest (delete n) (retain zero e ∷ ops) normal)))
 turns_delete n (retain (suc m) e ∷ ops) normal = inl (λ k. absurd (cc))
 turns_delete n (delete m ∷ ops) normal =
     absurd (false≢true (normal_apart (delete n) (delete m) ops normal))
@@ -148,27 +130,27 @@ run_cut n f g d Rest turns later (inr rest) = behind_run n f g d (later rest)
 pub parts_of_cut : (d : List Element) (ops : List Operation) → IsNormal ops → Cuts d (counted ops) → StopsInPair d ops
 parts_of_cut d [] normal cut = elim cut.2 [ inl differ ↦ differ refl | inr some ↦ some refl ]
 parts_of_cut d (insert_text us a ∷ ops) normal cut =
-    inr (parts_of_cut d ops (normal_rest (insert_text us a) ops normal) (of_front d (letters us a) (counted ops) cut))
+    inr (parts_of_cut d ops (normal-rest (insert_text us a) ops normal) (of_front d (letters us a) (counted ops) cut))
 parts_of_cut d (insert_embed key value a ∷ ops) normal cut =
-    inr (parts_of_cut d ops (normal_rest (insert_embed key value a) ops normal) (of_front d (embedded key value a ∷ []) (counted ops) cut))
+    inr (parts_of_cut d ops (normal-rest (insert_embed key value a) ops normal) (of_front d (embedded key value a ∷ []) (counted ops) cut))
 parts_of_cut d (retain zero c ∷ ops) normal cut = absurd (omega (arith, normal_some (retain zero c) ops normal))
 parts_of_cut d (retain (suc n) c ∷ ops) normal cut =
-    run_parts n (Keep c) (counted ops) d _ (λ rest. parts_of_cut (drop (suc n) d) ops (normal_rest (retain (suc n) c) ops normal) rest) cut
+    run_parts n (Keep c) (counted ops) d _ (λ rest. parts_of_cut (drop (suc n) d) ops (normal-rest (retain (suc n) c) ops normal) rest) cut
 parts_of_cut d (delete zero ∷ ops) normal cut = absurd (omega (arith, normal_some (delete zero) ops normal))
 parts_of_cut d (delete (suc n) ∷ ops) normal cut =
-    run_parts n Del (counted ops) d _ (λ rest. parts_of_cut (drop (suc n) d) ops (normal_rest (delete (suc n)) ops normal) rest) cut
+    run_parts n Del (counted ops) d _ (λ rest. parts_of_cut (drop (suc n) d) ops (normal-rest (delete (suc n)) ops normal) rest) cut
 
 pub cut_of_parts : (d : List Element) (ops : List Operation) → IsNormal ops → StopsInPair d ops → Cuts d (counted ops)
 cut_of_parts d [] normal parts = absurd parts
 cut_of_parts d (insert_text us a ∷ ops) normal (inl within) = absurd within
 cut_of_parts d (insert_text us a ∷ ops) normal (inr later) =
-    to_front d (letters us a) (counted ops) (cut_of_parts d ops (normal_rest (insert_text us a) ops normal) later)
+    to_front d (letters us a) (counted ops) (cut_of_parts d ops (normal-rest (insert_text us a) ops normal) later)
 cut_of_parts d (insert_embed key value a ∷ ops) normal (inl within) = absurd within
 cut_of_parts d (insert_embed key value a ∷ ops) normal (inr later) =
-    to_front d (embedded key value a ∷ []) (counted ops) (cut_of_parts d ops (normal_rest (insert_embed key value a) ops normal) later)
+    to_front d (embedded key value a ∷ []) (counted ops) (cut_of_parts d ops (normal-rest (insert_embed key value a) ops normal) later)
 cut_of_parts d (retain zero c ∷ ops) normal parts = absurd (omega (arith, normal_some (retain zero c) ops normal))
 cut_of_parts d (retain (suc n) c ∷ ops) normal parts =
-    run_cut n (Keep c) (counted ops) d _ (turns_keep (suc n) c ops normal) (λ rest. cut_of_parts (drop (suc n) d) ops (normal_rest (retain (suc n) c) ops normal) rest) parts
+    run_cut n (Keep c) (counted ops) d _ (turns_keep (suc n) c ops normal) (λ rest. cut_of_parts (drop (suc n) d) ops (normal-rest (retain (suc n) c) ops normal) rest) parts
 cut_of_parts d (delete zero ∷ ops) normal parts = absurd (omega (arith, normal_some (delete zero) ops normal))
 cut_of_parts d (delete (suc n) ∷ ops) normal parts =
-    run_cut n Del (counted ops) d _ (turns_delete (suc n) ops normal) (λ rest. cut_of_parts (drop (suc n) d) ops (normal_rest (delete (suc n)) ops normal) rest) parts
+    run_cut n Del (counted ops) d _ (turns_delete (suc n) ops normal) (λ rest. cut_of_parts (drop (suc n) d) ops (normal-rest (delete (suc n)) ops normal) rest) parts

@@ -11,7 +11,7 @@ use Rattle.document.specs.Pieces.{piece_units, piece_attributes, piece_dressed}
 use Rattle.document.proofs.Formed.{IsPairAt-later, IsWellFormed-append, well_formed-of_formed}
 
 -- a pair of a document is one with more before it
-IsPairAt-after : (a b : List Element) (i k : ℕ) → IsPairAt b i → k ≡ length a + i → IsPairAt (a ++ b) k
+pub IsPairAt-after : (a b : List Element) (i k : ℕ) → IsPairAt b i → k ≡ length a + i → IsPairAt (a ++ b) k
 IsPairAt-after [] b i k at e = subst (IsPairAt b) (let same : i ≡ k = omega arith in same) at
 IsPairAt-after (x ∷ a) b i zero at e = absurd (omega (arith, e))
 IsPairAt-after (x ∷ a) b i (suc k) at e = IsPairAt-later x (a ++ b) k (IsPairAt-after a b i k at (omega (arith, e)))

@@ -1,9 +1,9 @@
 -- Operations applied to a document, one after another.
-use Rattle.std.proofs.Common.{◌≡◌, ℕ, zero, suc, ◌+◌, ◌<◌, ◌≤◌, List, [], ◌∷◌, ◌++◌, length, take, drop, get_or, refl, sym, ap, subst, ◌∙◌, inl, inr, arith, length-append, append_assoc, append-nil, Result, Ok, Err, OnOk, false, add-one}
+use Rattle.std.proofs.Common.{◌≡◌, ℕ, zero, suc, ◌+◌, ◌<◌, List, [], ◌∷◌, ◌++◌, length, take, drop, get_or, refl, sym, ap, subst, ◌∙◌, inl, inr, arith, length-append, append_assoc, append-nil, Result, Ok, Err, OnOk, false}
 use Rattle.std.specs.Result.{is_err}
 use Rattle.std.proofs.lemmas.Bool.{false≢true}
 use Rattle.std.proofs.lemmas.List.{take_more, take-append-drop}
-use Rattle.std.proofs.Math.Seq.{drop-cons, drop-append_seam}
+use Rattle.std.proofs.Math.Seq.{drop-append_seam}
 use Rattle.attributes.specs.Attributes.{Changes, changed_by}
 use Rattle.attributes.specs.Map.{empty}
 use Rattle.delta.specs.Element.{Element}
@@ -14,23 +14,15 @@ use Rattle.document.specs.Pairs.{IsPairAt, IsWithinPair, IsWellFormed}
 use Rattle.document.specs.steps.Passes.{StopsInPair, IsOneApplied, IsSteppedOver, IsRetained, with_change}
 use Rattle.document.proofs.Formed.{IsWellFormed-seam}
 use Rattle.document.proofs.Passing.{length-parts, kept_run}
+pub use Rattle.attributes.proofs.CallerLemmas.{drop-here}
 
 -- an outcome that is no refusal
 pub when_ok : {T E : Type 0} (r : Result T E) (P : Type 0) → is_err r ≡ false → OnOk r P → P
 when_ok (Ok x) P e p = p
 when_ok (Err y) P e p = absurd (false≢true (sym e))
 
--- the operation at a place and those after it
-pub drop-here : (ops : List Operation) (i : ℕ) (op : Operation) → i < length ops → op ≡ get_or ops i op → drop i ops ≡ op ∷ drop (i + 1) ops
-drop-here ops i op within is =
-    drop-cons ops i op within ∙ (ap (λ x. x ∷ drop (suc i) ops) (sym is) ∙ ap (λ j. op ∷ drop j ops) (sym (add-one i)))
-
 pub take-here : (ops : List Operation) (i : ℕ) (op : Operation) → i < length ops → op ≡ get_or ops i op → take (i + 1) ops ≡ take i ops ++ op ∷ []
 take-here ops i op within is = take_more ops i op within ∙ ap (λ x. take i ops ++ x ∷ []) (sym is)
-
--- what an operation stands on, and what stands behind it
-pub base-here : (op : Operation) (ops rest : List Operation) (d : List Element) → rest ≡ op ∷ ops → base_of rest ≤ length d → op_base op ≤ length d
-base-here op ops rest d e there = omega (arith, ap base_of e)
 
 -- no pair is parted where the units taken are well formed
 passed_whole : (old new : List Element) (n : ℕ) → IsSteppedOver old new n → ¬ (IsWithinPair old n)
@@ -38,7 +30,7 @@ passed_whole old new n passed within =
     IsWellFormed-seam passed.taken new passed.formed
     (subst (λ m. IsWithinPair (passed.taken ++ new) m) (sym passed.count) (subst (λ d. IsWithinPair d n) passed.parts within))
 
-drop-taken : (old new taken : List Element) (n : ℕ) → old ≡ taken ++ new → length taken ≡ n → drop n old ≡ new
+pub drop-taken : (old new taken : List Element) (n : ℕ) → old ≡ taken ++ new → length taken ≡ n → drop n old ≡ new
 drop-taken old new taken n parts count =
     ap (drop n) parts ∙ (ap (λ m. drop m (taken ++ new)) (sym count) ∙ drop-append_seam taken new)
 
@@ -88,9 +80,6 @@ pub record IsApplied (old new : List Element) (ops : List Operation) (made : Lis
   pub parts : old ≡ taken ++ new
   pub count : length taken ≡ base_of ops
   pub made_of : made ≡ apply taken (counted ops)
-
-pub applied_none : (d : List Element) → IsApplied d d [] []
-applied_none d = record { taken = []; parts = refl; count = refl; made_of = refl }
 
 pub applied_more : (old mid new : List Element) (ops more : List Operation) (op : Operation) (made next : List Element)
     → IsApplied old mid ops made → IsOneApplied mid new op made next → more ≡ ops ++ op ∷ [] → IsApplied old new more next

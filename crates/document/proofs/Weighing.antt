@@ -42,9 +42,6 @@ runs_more rs i r within is =
 pub saturated_sum : (a b m : ℕ) → min (min a m + b) m ≡ min (a + b) m
 saturated_sum a b m = omega arith
 
-pub saturated_both : (a b m : ℕ) → min (min a m + min b m) m ≡ min (a + b) m
-saturated_both a b m = omega arith
-
 pub saturated_product : (a n m : ℕ) → 0 < n → min (min a m * n) m ≡ min (a * n) m
 saturated_product a n m some =
     ⊎_elim

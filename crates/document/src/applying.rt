@@ -1,5 +1,5 @@
 //! The two passes of a delta over chunks: whether it parts a pair, and the chunks after it.
-ghost use Rattle.std.specs.Prelude.{◌≡◌, ◌+◌, ◌≤◌, ◌<◌, ◌^◌, ◌↔◌, length, IfOk, OnOk, IsOkUnless, IsTrue};
+ghost use Rattle.std.specs.Prelude.{◌≡◌, ◌+◌, ◌≤◌, ◌<◌, ◌^◌, ◌↔◌, length, IfOk, OnOk, IsTrue};
 ghost use Rattle.delta.specs.Operation.{op_base, op_out, base_of, out_of};
 ghost use Rattle.delta.specs.Gaps.{counted, apply};
 ghost use Rattle.document.specs.Chunks.{units_of_chunks, AreChunks};
@@ -14,8 +14,7 @@ use crate::runs::{put_embed, put_text};
 use crate::walk::{keep, skip};
 use attributes::Change;
 use delta::{Op, OpRef};
-use refusal::Refusal;
-use std::alloc::Global;
+use std::alloc::{AllocError, Global};
 
 /// Whether an operation ends between the two units of a pair.
 pub fn parts_pair(chunks: &[Chunk], ops: &[Op]) -> bool
@@ -38,7 +37,7 @@ pub fn built(
     chunks: &[Chunk],
     ops: &[Op],
     behind: u64,
-) -> Result<ChunkBuilder, Refusal>
+) -> Result<ChunkBuilder, AllocError>
     requires chunks { AreChunks chunks.now }
     requires there { length (units_of_chunks chunks.now) ≡ base_of ops.now + behind }
     requires whole { ¬ (StopsInPair (units_of_chunks chunks.now) ops.now) }
@@ -47,7 +46,6 @@ pub fn built(
     ensures units { IfOk result (λ made. units_of_runs made ≡ apply (units_of_chunks chunks.now) (counted ops.now)) }
     ensures runs { IfOk result (λ made. AreRuns made) }
     ensures bound { IfOk result (λ made. length (units_of_runs made) < 2 ^ 64) }
-    ensures only { IsOkUnless result Refusal.NoMemory }
 {
     let mut made = ChunkBuilder::new(alloc);
     let mut cursor = Cursor::new(chunks);
@@ -66,7 +64,7 @@ fn step(
     op: &Op,
     ops: &[Op],
     made: &mut ChunkBuilder,
-) -> Result<(), Refusal>
+) -> Result<(), AllocError>
     requires there { op_base op.now ≤ length cursor.old }
     requires whole { ¬ (IsWithinPair cursor.old (op_base op.now)) }
     requires bound { length (units_of_runs made.old) + op_out op.now < 2 ^ 64 }
@@ -74,7 +72,6 @@ fn step(
     ensures done { OnOk result
         (IsOneApplied cursor.old cursor.new op.now (units_of_runs made.old) (units_of_runs made.new)) }
     ensures runs { OnOk result (AreRuns made.new) }
-    ensures only { IsOkUnless result Refusal.NoMemory }
 {
     match op.get() {
         OpRef::Text(text, attrs) => {

@@ -1,16 +1,15 @@
 //! Chunks in the making.
-ghost use Rattle.std.specs.Prelude.{◌≡◌, ◌≢◌, ◌+◌, ◌-◌, ◌<◌, ◌≤◌, ◌^◌, ◌↔◌, ◌++◌, [], ◌∷◌, length, Some, IsSome, IfOk, IfSome, IfNone, OnOk, OnErr, IsOkUnless, IsTrue, MatchBool, MatchResult};
+ghost use Rattle.std.specs.Prelude.{◌≡◌, ◌≢◌, ◌+◌, ◌-◌, ◌<◌, ◌≤◌, ◌^◌, ◌↔◌, ◌++◌, [], ◌∷◌, length, Some, IfOk, IfSome, IfNone, OnOk, IsTrue, MatchBool, MatchResult};
 ghost use Rattle.utf16.specs.Units.{units_of};
 ghost use Rattle.delta.specs.Element.{letters};
-ghost use Rattle.document.specs.Chunks.{runs_of_chunks, units_of_chunks, IsChunk, AreSized, AreChunks};
-ghost use Rattle.document.specs.Runs.{units_of_runs, AreRuns, IsApart, TakesText, last_attributes, first_attributes, text_attributes};
+ghost use Rattle.document.specs.Chunks.{runs_of_chunks, IsChunk, AreSized};
+ghost use Rattle.document.specs.Runs.{units_of_runs, IsApart, TakesText, last_attributes, first_attributes, text_attributes};
 
 use crate::chunk::Chunk;
 use crate::runs::{extend, merge_into, share_all};
 use crate::shared::SharedRun;
 use attributes::Attrs;
-use refusal::Refusal;
-use std::alloc::Global;
+use std::alloc::{AllocError, Global};
 use std::marker::Model;
 use std::mem;
 
@@ -62,13 +61,12 @@ impl ChunkBuilder {
         text: &str,
         units: u64,
         attrs: &Attrs,
-    ) -> Result<bool, Refusal>
+    ) -> Result<bool, AllocError>
         requires counted { units ≡ length (units_of text.now) }
         requires bound { length (units_of_runs self.old) + units < 2 ^ 64 }
         ensures ok { IfOk result (λ yes. MatchBool yes
             (TakesText self.old self.new (letters (units_of text.now) attrs.now) attrs.now)
             ((last_attributes self.old ≢ Some attrs.now) × (self.new ≡ self.old))) }
-        ensures only { IsOkUnless result Refusal.NoMemory }
     {
         if self.loose.is_empty() && !self.takes(attrs) {
             return Ok(false);
@@ -79,10 +77,9 @@ impl ChunkBuilder {
     }
 
     /// Puts a run at the end, whatever the last one is.
-    pub fn push(&mut self, alloc: Global, run: SharedRun) -> Result<(), Refusal>
+    pub fn push(&mut self, alloc: Global, run: SharedRun) -> Result<(), AllocError>
         requires bound { length (units_of_runs self.old) < 2 ^ 64 }
         ensures ok { OnOk result (self.new ≡ self.old ++ run ∷ []) }
-        ensures only { IsOkUnless result Refusal.NoMemory }
     {
         make_room(alloc, &mut self.made, &mut self.loose, 1)?;
         self.loose.push(run)?;
@@ -90,11 +87,10 @@ impl ChunkBuilder {
     }
 
     /// Puts one more owner of each of these runs at the end, whatever the last one is.
-    pub fn extend(&mut self, alloc: Global, runs: &[SharedRun]) -> Result<(), Refusal>
+    pub fn extend(&mut self, alloc: Global, runs: &[SharedRun]) -> Result<(), AllocError>
         requires bound { length (units_of_runs self.old) < 2 ^ 64 }
         requires few { length runs.now ≤ 128 }
         ensures ok { OnOk result (self.new ≡ self.old ++ runs.now) }
-        ensures only { IsOkUnless result Refusal.NoMemory }
     {
         make_room(alloc, &mut self.made, &mut self.loose, runs.len())?;
         self.loose.reserve(runs.len())?;
@@ -148,11 +144,10 @@ impl ChunkBuilder {
     }
 
     /// Puts one more owner of each of these chunks at the end, whatever the last run is.
-    pub fn extend_chunks(&mut self, alloc: Global, chunks: &[Chunk]) -> Result<(), Refusal>
+    pub fn extend_chunks(&mut self, alloc: Global, chunks: &[Chunk]) -> Result<(), AllocError>
         requires sized { AreSized chunks.now }
         requires bound { length (units_of_runs self.old) < 2 ^ 64 }
         ensures ok { OnOk result (self.new ≡ self.old ++ runs_of_chunks chunks.now) }
-        ensures only { IsOkUnless result Refusal.NoMemory }
     {
         if chunks.is_empty() {
             return Ok(());
@@ -175,11 +170,10 @@ impl ChunkBuilder {
     }
 
     /// The chunks.
-    pub fn finish(mut self, alloc: Global) -> Result<Vec<Chunk>, Refusal>
+    pub fn finish(mut self, alloc: Global) -> Result<Vec<Chunk>, AllocError>
         requires bound { length (units_of_runs self) < 2 ^ 64 }
         ensures runs { IfOk result (λ chunks. runs_of_chunks chunks.items ≡ self) }
         ensures sized { IfOk result (λ chunks. AreSized chunks.items) }
-        ensures only { IsOkUnless result Refusal.NoMemory }
     {
         gather(alloc, &mut self.made, &mut self.loose)?;
         close(alloc, &mut self.made, &mut self.loose)?;
@@ -189,7 +183,11 @@ impl ChunkBuilder {
 }
 
 // takes the runs of the last chunk out, where there is no loose run
-fn refill(alloc: Global, made: &mut Vec<Chunk>, loose: &mut Vec<SharedRun>) -> Result<(), Refusal>
+fn refill(
+    alloc: Global,
+    made: &mut Vec<Chunk>,
+    loose: &mut Vec<SharedRun>,
+) -> Result<(), AllocError>
     requires sized { AreSized made.old.items }
     requires few { length loose.old.items ≤ 256 }
     ensures runs { OnOk result (runs_of_chunks made.new.items ++ loose.new.items
@@ -198,7 +196,6 @@ fn refill(alloc: Global, made: &mut Vec<Chunk>, loose: &mut Vec<SharedRun>) -> R
     ensures some { OnOk result (0 < length (runs_of_chunks made.old.items ++ loose.old.items)
         → 0 < length loose.new.items) }
     ensures few { length loose.new.items ≤ 256 }
-    ensures only { IsOkUnless result Refusal.NoMemory }
 {
     if loose.is_empty() && !made.is_empty() {
         take_back(alloc, made, loose)?;
@@ -207,14 +204,17 @@ fn refill(alloc: Global, made: &mut Vec<Chunk>, loose: &mut Vec<SharedRun>) -> R
 }
 
 // takes the runs of the last chunk out, where the loose ones are few
-fn gather(alloc: Global, made: &mut Vec<Chunk>, loose: &mut Vec<SharedRun>) -> Result<(), Refusal>
+fn gather(
+    alloc: Global,
+    made: &mut Vec<Chunk>,
+    loose: &mut Vec<SharedRun>,
+) -> Result<(), AllocError>
     requires sized { AreSized made.old.items }
     requires few { length loose.old.items ≤ 256 }
     ensures runs { OnOk result (runs_of_chunks made.new.items ++ loose.new.items
         ≡ runs_of_chunks made.old.items ++ loose.old.items) }
     ensures sized { AreSized made.new.items }
     ensures few { length loose.new.items ≤ 256 }
-    ensures only { IsOkUnless result Refusal.NoMemory }
 {
     if !loose.is_empty() && loose.len() < FEW && !made.is_empty() {
         take_back(alloc, made, loose)?;
@@ -227,7 +227,7 @@ fn take_back(
     alloc: Global,
     made: &mut Vec<Chunk>,
     loose: &mut Vec<SharedRun>,
-) -> Result<(), Refusal>
+) -> Result<(), AllocError>
     requires some { 0 < length made.old.items }
     requires sized { AreSized made.old.items }
     requires few { length loose.old.items < 32 }
@@ -236,7 +236,6 @@ fn take_back(
     ensures sized { AreSized made.new.items }
     ensures some { OnOk result (0 < length loose.new.items) }
     ensures few { length loose.new.items ≤ 256 }
-    ensures only { IsOkUnless result Refusal.NoMemory }
 {
     let last = match made.pop() {
         Some(last) => last,
@@ -254,7 +253,7 @@ fn make_room(
     made: &mut Vec<Chunk>,
     loose: &mut Vec<SharedRun>,
     more: usize,
-) -> Result<(), Refusal>
+) -> Result<(), AllocError>
     requires bound { length (units_of_runs (runs_of_chunks made.old.items ++ loose.old.items)) < 2 ^ 64 }
     requires sized { AreSized made.old.items }
     requires few { length loose.old.items ≤ 256 }
@@ -264,7 +263,6 @@ fn make_room(
     ensures sized { AreSized made.new.items }
     ensures room { OnOk result (length loose.new.items + more ≤ 256) }
     ensures few { length loose.new.items ≤ 256 }
-    ensures only { IsOkUnless result Refusal.NoMemory }
 {
     if loose.len() + more > 2 * MOST {
         close_front(alloc, made, loose)?;
@@ -273,7 +271,7 @@ fn make_room(
 }
 
 // makes chunks of the loose runs
-fn close(alloc: Global, made: &mut Vec<Chunk>, loose: &mut Vec<SharedRun>) -> Result<(), Refusal>
+fn close(alloc: Global, made: &mut Vec<Chunk>, loose: &mut Vec<SharedRun>) -> Result<(), AllocError>
     requires bound { length (units_of_runs (runs_of_chunks made.old.items ++ loose.old.items)) < 2 ^ 64 }
     requires sized { AreSized made.old.items }
     requires few { length loose.old.items ≤ 256 }
@@ -281,7 +279,6 @@ fn close(alloc: Global, made: &mut Vec<Chunk>, loose: &mut Vec<SharedRun>) -> Re
     ensures sized { AreSized made.new.items }
     ensures none { OnOk result (loose.new.items ≡ []) }
     ensures few { length loose.new.items ≤ 256 }
-    ensures only { IsOkUnless result Refusal.NoMemory }
 {
     make_room(alloc, made, loose, MOST)?;
     if !loose.is_empty() {
@@ -296,7 +293,7 @@ fn close_front(
     alloc: Global,
     made: &mut Vec<Chunk>,
     loose: &mut Vec<SharedRun>,
-) -> Result<(), Refusal>
+) -> Result<(), AllocError>
     requires bound { length (units_of_runs (runs_of_chunks made.old.items ++ loose.old.items)) < 2 ^ 64 }
     requires sized { AreSized made.old.items }
     requires many { 128 < length loose.old.items }
@@ -307,7 +304,6 @@ fn close_front(
     ensures some { OnOk result (0 < length loose.new.items) }
     ensures few { length loose.new.items ≤ 256 }
     ensures half { OnOk result (length loose.new.items ≤ 128) }
-    ensures only { IsOkUnless result Refusal.NoMemory }
 {
     let back = split_half(alloc, loose)?;
     let front = mem::replace(loose, back);
@@ -316,14 +312,13 @@ fn close_front(
 }
 
 // takes the back half of runs out
-fn split_half(alloc: Global, runs: &mut Vec<SharedRun>) -> Result<Vec<SharedRun>, Refusal>
+fn split_half(alloc: Global, runs: &mut Vec<SharedRun>) -> Result<Vec<SharedRun>, AllocError>
     requires many { 128 < length runs.old.items }
     requires few { length runs.old.items ≤ 256 }
     ensures parts { IfOk result (λ back. runs.new.items ++ back.items ≡ runs.old.items) }
     ensures front { OnOk result (IsChunk runs.new.items) }
     ensures back { IfOk result (λ back. IsChunk back.items) }
     ensures few { length runs.new.items ≤ 256 }
-    ensures only { IsOkUnless result Refusal.NoMemory }
 {
     let half = runs.len() / 2;
     let mut back = Vec::with_capacity(alloc, runs.len() - half)?;
@@ -338,10 +333,9 @@ fn split_half(alloc: Global, runs: &mut Vec<SharedRun>) -> Result<Vec<SharedRun>
 }
 
 /// Puts one more owner of each of these chunks at the end.
-pub fn extend_made(made: &mut Vec<Chunk>, chunks: &[Chunk]) -> Result<(), Refusal>
+pub fn extend_made(made: &mut Vec<Chunk>, chunks: &[Chunk]) -> Result<(), AllocError>
     ensures items { OnOk result (made.new.items ≡ made.old.items ++ chunks.now) }
     ensures sized { AreSized made.old.items → AreSized chunks.now → AreSized made.new.items }
-    ensures only { IsOkUnless result Refusal.NoMemory }
 {
     for chunk in chunks {
         made.push(chunk.share()?)?;

@@ -1,5 +1,5 @@
 //! Chunks of runs, which documents have together.
-ghost use Rattle.std.specs.Prelude.{◌≡◌, ◌≢◌, ◌+◌, ◌-◌, min, ◌<◌, ◌≤◌, ◌^◌, ◌++◌, length, IfOk, OnOk, OnErr, IsOkUnless, MatchBool, Some};
+ghost use Rattle.std.specs.Prelude.{◌≡◌, ◌≢◌, ◌+◌, ◌-◌, min, ◌<◌, ◌^◌, length, IfOk, OnOk, OnErr, MatchBool, Some};
 ghost use Rattle.utf16.specs.Units.{units_of};
 ghost use Rattle.delta.specs.Element.{letters};
 ghost use Rattle.document.specs.Chunks.{IsChunk};
@@ -10,8 +10,7 @@ use crate::runs::{merge_into, share_all};
 use crate::shared::SharedRun;
 use crate::weights::{runs_units, runs_weight, text_weight};
 use attributes::Attrs;
-use refusal::Refusal;
-use std::alloc::Global;
+use std::alloc::{AllocError, Global};
 use std::marker::Model;
 use std::sync::Arc;
 
@@ -47,11 +46,10 @@ impl Model for Chunk {
 
 impl Chunk {
     /// A chunk of these runs, with one owner.
-    pub(crate) fn new(alloc: Global, runs: Vec<SharedRun>) -> Result<Self, Refusal>
+    pub(crate) fn new(alloc: Global, runs: Vec<SharedRun>) -> Result<Self, AllocError>
         requires sized { IsChunk runs.items }
         requires bound { length (units_of_runs runs.items) < 2 ^ 64 }
         ensures runs { IfOk result (λ chunk. chunk ≡ runs.items) }
-        ensures only { IsOkUnless result Refusal.NoMemory }
     {
         let units = runs_units(runs.as_slice());
         let weight = runs_weight(runs.as_slice());
@@ -61,17 +59,16 @@ impl Chunk {
                 units,
                 weight,
             }),
-            Err(_) => Err(Refusal::NoMemory),
+            Err(_) => Err(AllocError),
         }
     }
 
     /// Has these runs in place of its own. Where the chunk has one owner that takes no memory.
-    pub(crate) fn replace(&mut self, alloc: Global, runs: Vec<SharedRun>) -> Result<(), Refusal>
+    pub(crate) fn replace(&mut self, alloc: Global, runs: Vec<SharedRun>) -> Result<(), AllocError>
         requires sized { IsChunk runs.items }
         requires bound { length (units_of_runs runs.items) < 2 ^ 64 }
         ensures ok { OnOk result (self.new ≡ runs.items) }
         ensures err { OnErr result (self.new ≡ self.old) }
-        ensures only { IsOkUnless result Refusal.NoMemory }
     {
         let units = runs_units(runs.as_slice());
         let weight = runs_weight(runs.as_slice());
@@ -86,9 +83,8 @@ impl Chunk {
     }
 
     /// One more owner of the chunk. It takes no memory: refused only where the chunk can have no more owners.
-    pub(crate) fn share(&self) -> Result<Self, Refusal>
+    pub(crate) fn share(&self) -> Result<Self, AllocError>
         ensures same { IfOk result (λ chunk. chunk ≡ self.now) }
-        ensures only { IsOkUnless result Refusal.NoMemory }
     {
         let runs = Arc::try_clone(&self.runs)?;
         Ok(Chunk {
@@ -143,14 +139,13 @@ impl Chunk {
         text: &str,
         units: u64,
         attrs: &Attrs,
-    ) -> Result<bool, Refusal>
+    ) -> Result<bool, AllocError>
         requires counted { units ≡ length (units_of text.now) }
         requires bound { length (units_of_runs self.old) + units < 2 ^ 64 }
         ensures ok { IfOk result (λ yes. MatchBool yes
             (TakesText self.old self.new (letters (units_of text.now) attrs.now) attrs.now)
             ((last_attributes self.old ≢ Some attrs.now) × (self.new ≡ self.old))) }
         ensures err { OnErr result (self.new ≡ self.old) }
-        ensures only { IsOkUnless result Refusal.NoMemory }
     {
         if !self.last().takes(attrs) {
             return Ok(false);

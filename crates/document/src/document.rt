@@ -1,16 +1,15 @@
 //! Documents.
-ghost use Rattle.std.specs.Prelude.{◌≡◌, ◌⊎◌, ◌+◌, ◌≤◌, ◌<◌, ◌^◌, ◌↔◌, ◌-◌, min, [], ◌∷◌, ◌++◌, length, IfOk, IfErr, OnOk, OnErr, IsOkUnless, MatchBool};
+ghost use Rattle.std.specs.Prelude.{◌≡◌, ◌⊎◌, ◌+◌, ◌≤◌, ◌<◌, ◌^◌, ◌↔◌, ◌-◌, min, [], ◌++◌, length, IfOk, IfErr, OnOk, OnErr, MatchBool};
 ghost use Rattle.document.specs.Pairs.{IsWellFormed};
 ghost use Rattle.delta.specs.Gaps.{counted, apply, End};
 ghost use Rattle.delta.specs.Normal.{nf};
 ghost use Rattle.document.specs.Weight.{weight_of};
 ghost use Rattle.document.specs.steps.Passes.{StopsInPair};
-ghost use Rattle.document.specs.Pieces.{piece_units};
 ghost use Rattle.document.specs.Chunks.{units_of_chunks, AreChunks};
 ghost use Rattle.document.specs.Runs.{units_of_runs, AreRuns};
 ghost use Rattle.utf16.specs.Units.{units_of};
 ghost use Rattle.delta.specs.Element.{letters};
-ghost use Rattle.delta.specs.Operation.{base_of, out_of, op_base, op_out};
+ghost use Rattle.delta.specs.Operation.{base_of, out_of};
 ghost use Rattle.delta.specs.Places.{IsDefined};
 ghost use Rattle.document.specs.Places.{Cuts};
 ghost use Rattle.document.specs.Making.{document_from};
@@ -26,7 +25,7 @@ use crate::weights::{chunks_units, chunks_weight};
 use attributes::Attrs;
 use delta::{Builder, Delta, MAX_LEN};
 use refusal::Refusal;
-use std::alloc::Global;
+use std::alloc::{AllocError, Global};
 use std::marker::Model;
 
 /// A document of rich text, seen as its list of units: UTF-16 code units and embeds, each with attributes. It has at
@@ -70,7 +69,7 @@ impl Document {
         ensures only { IfErr result (λ e. (e ≡ Refusal.PastEnd) ⊎ (e ≡ Refusal.NoMemory)) }
     {
         // its operations keep the bound
-        let _ = delta.ops();
+        delta.facts();
         let mut document = Document::empty(alloc);
         match document.apply(alloc, delta) {
             Ok(()) => Ok(document),
@@ -128,21 +127,19 @@ impl Document {
     }
 
     /// An equal document, which shares its chunks with this one: no text or attribute is copied. Linear in the chunks. Refused as
-    /// NoMemory, which also comes where a chunk can have no more owners.
-    pub fn copy(&self, alloc: Global) -> Result<Self, Refusal>
+    /// out of memory alone, which also comes where a chunk can have no more owners.
+    pub fn copy(&self, alloc: Global) -> Result<Self, AllocError>
         ensures same { IfOk result (λ document. document ≡ self.now) }
-        ensures only { IsOkUnless result Refusal.NoMemory }
     {
         let chunks = share_chunks(alloc, self.chunks.as_slice())?;
         Ok(Document { chunks })
     }
 
-    /// The delta that makes it of the empty document, by inserts alone.
-    pub fn as_delta(&self, alloc: Global) -> Result<Delta, Refusal>
+    /// The delta that makes it of the empty document, by inserts alone. Refused as out of memory alone.
+    pub fn as_delta(&self, alloc: Global) -> Result<Delta, AllocError>
         ensures delta { IfOk result (λ delta. delta ≡ nf (End self.now)) }
         ensures inserts { IfOk result (λ delta. base_of delta ≡ 0) }
         ensures back { IfOk result (λ delta. apply [] (counted delta) ≡ self.now) }
-        ensures only { IsOkUnless result Refusal.NoMemory }
     {
         let mut builder = Builder::new(alloc);
         let mut cursor = Cursor::new(self.chunks.as_slice());
@@ -155,7 +152,7 @@ impl Document {
             let op = piece.inserted(alloc)?;
             left -= piece.units();
             if let Err(refusal) = builder.push(op) {
-                return Err(refusal);
+                return Err(refusal.as_alloc_error());
             }
         }
         Ok(builder.finish())
@@ -207,17 +204,16 @@ impl Document {
         };
         match self.remade(alloc, delta, behind) {
             Ok(after) => Ok(after),
-            Err(no_memory) => Err(no_memory),
+            Err(no_memory) => Err(no_memory.into()),
         }
     }
 
     // the document after a delta that is accepted and leaves so many code units behind it as they are
-    fn remade(&self, alloc: Global, delta: &Delta, behind: u64) -> Result<Self, Refusal>
+    fn remade(&self, alloc: Global, delta: &Delta, behind: u64) -> Result<Self, AllocError>
         requires accepted { IsAccepted self.now (counted delta.now) }
         requires behind { length self.now ≡ base_of delta.now + behind }
         ensures ok { IfOk result (λ after. after ≡ apply self.now (counted delta.now)) }
         ensures well_formed { IfOk result (λ after. IsWellFormed after) }
-        ensures only { IsOkUnless result Refusal.NoMemory }
     {
         let made = self.built(alloc, delta, behind)?;
         let chunks = made.finish(alloc)?;
@@ -225,13 +221,12 @@ impl Document {
     }
 
     // the runs of it
-    fn built(&self, alloc: Global, delta: &Delta, behind: u64) -> Result<ChunkBuilder, Refusal>
+    fn built(&self, alloc: Global, delta: &Delta, behind: u64) -> Result<ChunkBuilder, AllocError>
         requires accepted { IsAccepted self.now (counted delta.now) }
         requires behind { length self.now ≡ base_of delta.now + behind }
         ensures units { IfOk result (λ made. units_of_runs made ≡ apply self.now (counted delta.now)) }
         ensures runs { IfOk result (λ made. AreRuns made) }
         ensures bound { IfOk result (λ made. length (units_of_runs made) ≤ 2 ^ 48) }
-        ensures only { IsOkUnless result Refusal.NoMemory }
     {
         let made = built(alloc, self.chunks.as_slice(), delta.ops(), behind)?;
         Ok(made)
@@ -239,13 +234,12 @@ impl Document {
 
     // applies a delta that is accepted and leaves so many code units behind it as they are. Where the document is one chunk before
     // and after it, the chunk is changed in place
-    fn remake(&mut self, alloc: Global, delta: &Delta, behind: u64) -> Result<(), Refusal>
+    fn remake(&mut self, alloc: Global, delta: &Delta, behind: u64) -> Result<(), AllocError>
         requires accepted { IsAccepted self.old (counted delta.now) }
         requires behind { length self.old ≡ base_of delta.now + behind }
         ensures ok { OnOk result (self.new ≡ apply self.old (counted delta.now)) }
         ensures well_formed { OnOk result (IsWellFormed self.new) }
         ensures err { OnErr result (self.new ≡ self.old) }
-        ensures only { IsOkUnless result Refusal.NoMemory }
     {
         if self.chunks.len() != 1 {
             *self = self.remade(alloc, delta, behind)?;
@@ -283,7 +277,7 @@ impl Document {
         text: &str,
         units: u64,
         attrs: &Attrs,
-    ) -> Result<(), Refusal>
+    ) -> Result<(), AllocError>
         requires counted { units ≡ length (units_of text.now) }
         requires accepted { IsAccepted self.old (counted delta.now) }
         requires behind { length self.old ≡ base_of delta.now }
@@ -291,7 +285,6 @@ impl Document {
         ensures ok { OnOk result (self.new ≡ apply self.old (counted delta.now)) }
         ensures well_formed { OnOk result (IsWellFormed self.new) }
         ensures err { OnErr result (self.new ≡ self.old) }
-        ensures only { IsOkUnless result Refusal.NoMemory }
     {
         if self.merge_last(alloc, text, units, attrs)? {
             return Ok(());
@@ -307,14 +300,13 @@ impl Document {
         text: &str,
         units: u64,
         attrs: &Attrs,
-    ) -> Result<bool, Refusal>
+    ) -> Result<bool, AllocError>
         requires counted { units ≡ length (units_of text.now) }
         requires bound { length self.old + units ≤ 2 ^ 48 }
         ensures ok { IfOk result (λ yes. MatchBool yes (self.new ≡ self.old ++ letters (units_of text.now) attrs.now)
             (self.new ≡ self.old)) }
         ensures well_formed { OnOk result (IsWellFormed self.new) }
         ensures err { OnErr result (self.new ≡ self.old) }
-        ensures only { IsOkUnless result Refusal.NoMemory }
     {
         let len = self.chunks.len();
         if len == 0 {
@@ -367,9 +359,8 @@ impl Document {
 }
 
 // one more owner of each chunk
-fn share_chunks(alloc: Global, chunks: &[Chunk]) -> Result<Vec<Chunk>, Refusal>
+fn share_chunks(alloc: Global, chunks: &[Chunk]) -> Result<Vec<Chunk>, AllocError>
     ensures same { IfOk result (λ shared. shared.items ≡ chunks.now) }
-    ensures only { IsOkUnless result Refusal.NoMemory }
 {
     let mut shared = Vec::with_capacity(alloc, chunks.len())?;
     extend_made(&mut shared, chunks)?;

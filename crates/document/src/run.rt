@@ -1,5 +1,5 @@
 //! Runs of a document.
-ghost use Rattle.std.specs.Prelude.{◌≡◌, ◌≢◌, ◌+◌, ◌-◌, ◌*◌, min, ◌<◌, ◌↔◌, ◌^◌, ◌++◌, [], ◌∷◌, length, IfOk, IfSome, OnOk, OnErr, IsOkUnless, IsTrue, Some, None, string_bytes};
+ghost use Rattle.std.specs.Prelude.{◌≡◌, ◌≢◌, ◌+◌, ◌-◌, ◌*◌, min, ◌<◌, ◌↔◌, ◌^◌, ◌++◌, [], ◌∷◌, length, IfOk, IfSome, OnOk, OnErr, IsTrue, Some, None, string_bytes};
 ghost use Rattle.utf16.specs.Units.{units_of};
 ghost use Rattle.delta.specs.Element.{letters, embedded};
 ghost use Rattle.delta.specs.Gaps.{counted, End};
@@ -9,8 +9,7 @@ ghost use Rattle.document.specs.Weight.{weight_of, attributes_weight, named_weig
 
 use attributes::{Attrs, Key, Value, ValueRef};
 use delta::Op;
-use refusal::Refusal;
-use std::alloc::Global;
+use std::alloc::{AllocError, Global};
 use std::marker::Model;
 use utf16::append;
 
@@ -42,9 +41,8 @@ impl Content {
     ghost use Rattle.document.specs.Pieces.{content_weight, IsSameContent};
 
     // an equal content, whose text has room for so many bytes more
-    fn copy(&self, alloc: Global, more: usize) -> Result<Self, Refusal>
+    fn copy(&self, alloc: Global, more: usize) -> Result<Self, AllocError>
         ensures same { IfOk result (λ content. IsSameContent content self.now) }
-        ensures only { IsOkUnless result Refusal.NoMemory }
     {
         match self {
             Content::Text(text) => Ok(Content::Text(with_room(alloc, text.as_str(), more)?)),
@@ -94,12 +92,11 @@ impl<'a> Piece<'a> {
     }
 
     /// The operation that inserts it, whose text is copied and not counted. Refused as out of memory alone.
-    pub fn inserted(&self, alloc: Global) -> Result<Op, Refusal>
+    pub fn inserted(&self, alloc: Global) -> Result<Op, AllocError>
         requires { IsCounted self.now }
         ensures units { IfOk result (λ op. counted (op ∷ []) ≡ End (piece_units self.now)) }
         ensures out { IfOk result (λ op. op_out op ≡ length (piece_units self.now)) }
         ensures base { IfOk result (λ op. op_base op ≡ 0) }
-        ensures only { IsOkUnless result Refusal.NoMemory }
     {
         match self {
             Piece::Text(text, units, attrs) => {
@@ -109,7 +106,7 @@ impl<'a> Piece<'a> {
             Piece::Embed(key, value, attrs) => {
                 match Op::embed(alloc, key.as_str(), value.copy(alloc)?, attrs.copy(alloc)?) {
                     Ok(op) => Ok(op),
-                    Err(refusal) => Err(refusal),
+                    Err(refusal) => Err(refusal.as_alloc_error()),
                 }
             }
         }
@@ -173,11 +170,10 @@ impl Run {
         units: u64,
         attrs: Attrs,
         more: usize,
-    ) -> Result<Self, Refusal>
+    ) -> Result<Self, AllocError>
         requires counted { units ≡ length (units_of text.now) }
         requires some { 0 < units }
         ensures run { IfOk result (λ run. run ≡ letters (units_of text.now) attrs) }
-        ensures only { IsOkUnless result Refusal.NoMemory }
     {
         Ok(Run {
             content: Content::Text(with_room(alloc, text, more)?),
@@ -225,9 +221,8 @@ impl Run {
     }
 
     /// An equal run, whose text has room for so many bytes more.
-    pub fn copy(&self, alloc: Global, more: usize) -> Result<Self, Refusal>
+    pub fn copy(&self, alloc: Global, more: usize) -> Result<Self, AllocError>
         ensures same { IfOk result (λ run. run ≡ self.now) }
-        ensures only { IsOkUnless result Refusal.NoMemory }
     {
         let content = self.content.copy(alloc, more)?;
         let attrs = self.attrs.copy(alloc)?;
@@ -249,14 +244,13 @@ impl Run {
     }
 
     /// Takes a text in at the end of a text, with its attributes.
-    pub fn append(&mut self, text: &str, units: u64) -> Result<(), Refusal>
+    pub fn append(&mut self, text: &str, units: u64) -> Result<(), AllocError>
         requires counted { units ≡ length (units_of text.now) }
         requires text { text_attributes self.old ≢ None }
         requires bound { length self.old + units < 2 ^ 64 }
         ensures ok { OnOk result (IfSome (text_attributes self.old) (λ a. self.new ≡ self.old
             ++ letters (units_of text.now) a)) }
         ensures err { OnErr result (self.new ≡ self.old) }
-        ensures only { IsOkUnless result Refusal.NoMemory }
     {
         match &mut self.content {
             Content::Text(mine) => {
@@ -271,9 +265,8 @@ impl Run {
 
 // a text with room for so many bytes more, and a few besides, since what is put behind a run is mostly short: so its text
 // isn't moved for it
-fn with_room(alloc: Global, text: &str, more: usize) -> Result<String, Refusal>
+fn with_room(alloc: Global, text: &str, more: usize) -> Result<String, AllocError>
     ensures same { IfOk result (λ made. string_bytes made ≡ text.now) }
-    ensures only { IsOkUnless result Refusal.NoMemory }
 {
     let room = text.len().saturating_add(more).saturating_add(SPARE);
     let mut made = String::with_capacity(alloc, room)?;

@@ -1,5 +1,5 @@
 //! Lists of runs that grow at their end.
-ghost use Rattle.std.specs.Prelude.{◌≡◌, ◌≢◌, Some, ◌+◌, ◌<◌, ◌≤◌, ◌^◌, ◌++◌, [], ◌∷◌, length, OnOk, OnErr, IsOkUnless, IfOk, MatchBool};
+ghost use Rattle.std.specs.Prelude.{◌≡◌, ◌≢◌, Some, ◌+◌, ◌<◌, ◌≤◌, ◌^◌, ◌++◌, [], ◌∷◌, length, OnOk, OnErr, IfOk, MatchBool};
 ghost use Rattle.utf16.specs.Units.{units_of};
 ghost use Rattle.delta.specs.Element.{letters, embedded};
 ghost use Rattle.document.specs.Chunks.{units_of_chunks, AreChunks};
@@ -10,8 +10,7 @@ use crate::chunk::Chunk;
 use crate::run::{Piece, Run};
 use crate::shared::SharedRun;
 use attributes::{Attrs, Key, Value};
-use refusal::Refusal;
-use std::alloc::Global;
+use std::alloc::{AllocError, Global};
 
 /// Puts a text with so many code units at the end: into the last run where that is a text of equal attributes, and else into a run
 /// that has room for so many bytes more.
@@ -22,14 +21,13 @@ pub fn put_text(
     units: u64,
     attrs: Attrs,
     more: usize,
-) -> Result<(), Refusal>
+) -> Result<(), AllocError>
     requires counted { units ≡ length (units_of text.now) }
     requires bound { length (units_of_runs runs.old) + units < 2 ^ 64 }
     requires kept { AreRuns runs.old }
     ensures ok { OnOk result (units_of_runs runs.new ≡ units_of_runs runs.old
         ++ letters (units_of text.now) attrs) }
     ensures kept { OnOk result (AreRuns runs.new) }
-    ensures only { IsOkUnless result Refusal.NoMemory }
 {
     if units == 0 {
         return Ok(());
@@ -49,13 +47,12 @@ pub fn put_embed(
     key: Key,
     value: Value,
     attrs: Attrs,
-) -> Result<(), Refusal>
+) -> Result<(), AllocError>
     requires bound { length (units_of_runs runs.old) < 2 ^ 64 }
     requires kept { AreRuns runs.old }
     ensures ok { OnOk result (units_of_runs runs.new ≡ units_of_runs runs.old
         ++ embedded key value attrs ∷ []) }
     ensures kept { OnOk result (AreRuns runs.new) }
-    ensures only { IsOkUnless result Refusal.NoMemory }
 {
     let run = Run::embed(key, value, attrs);
     runs.push(alloc, SharedRun::new(alloc, run)?)?;
@@ -64,14 +61,13 @@ pub fn put_embed(
 
 /// Puts a run at the end: its text into the last run where that is a text of equal attributes, and else the run itself, which
 /// takes no memory but its place.
-pub fn put_run(alloc: Global, runs: &mut ChunkBuilder, run: &SharedRun) -> Result<(), Refusal>
+pub fn put_run(alloc: Global, runs: &mut ChunkBuilder, run: &SharedRun) -> Result<(), AllocError>
     requires run { IsRun run.now }
     requires bound { length (units_of_runs runs.old) + length run.now < 2 ^ 64 }
     requires kept { AreRuns runs.old }
     ensures ok { OnOk result (units_of_runs runs.new ≡ units_of_runs runs.old ++ run.now) }
     ensures kept { OnOk result (AreRuns runs.new) }
     ensures last { OnOk result (last_attributes runs.new ≡ text_attributes run.now) }
-    ensures only { IsOkUnless result Refusal.NoMemory }
 {
     if merge_run(alloc, runs, run)? {
         return Ok(());
@@ -81,7 +77,11 @@ pub fn put_run(alloc: Global, runs: &mut ChunkBuilder, run: &SharedRun) -> Resul
 }
 
 /// Puts runs at the end; only the first of them may merge with the last one there.
-pub fn put_runs(alloc: Global, runs: &mut ChunkBuilder, more: &[SharedRun]) -> Result<(), Refusal>
+pub fn put_runs(
+    alloc: Global,
+    runs: &mut ChunkBuilder,
+    more: &[SharedRun],
+) -> Result<(), AllocError>
     requires some { 0 < length more.now }
     requires few { length more.now ≤ 128 }
     requires more { AreRuns more.now }
@@ -90,7 +90,6 @@ pub fn put_runs(alloc: Global, runs: &mut ChunkBuilder, more: &[SharedRun]) -> R
     ensures ok { OnOk result (units_of_runs runs.new ≡ units_of_runs runs.old ++ units_of_runs more.now) }
     ensures kept { OnOk result (AreRuns runs.new) }
     ensures last { OnOk result (last_attributes runs.new ≡ last_attributes more.now) }
-    ensures only { IsOkUnless result Refusal.NoMemory }
 {
     let first = &more[0];
     if runs.is_apart(first) {
@@ -104,14 +103,17 @@ pub fn put_runs(alloc: Global, runs: &mut ChunkBuilder, more: &[SharedRun]) -> R
 
 /// Puts chunks at the end: as they are, but for the first where that merges with the last run or joins runs that are too few for a
 /// chunk.
-pub fn put_chunks(alloc: Global, runs: &mut ChunkBuilder, chunks: &[Chunk]) -> Result<(), Refusal>
+pub fn put_chunks(
+    alloc: Global,
+    runs: &mut ChunkBuilder,
+    chunks: &[Chunk],
+) -> Result<(), AllocError>
     requires some { 0 < length chunks.now }
     requires chunks { AreChunks chunks.now }
     requires bound { length (units_of_runs runs.old) + length (units_of_chunks chunks.now) < 2 ^ 64 }
     requires kept { AreRuns runs.old }
     ensures ok { OnOk result (units_of_runs runs.new ≡ units_of_runs runs.old ++ units_of_chunks chunks.now) }
     ensures kept { OnOk result (AreRuns runs.new) }
-    ensures only { IsOkUnless result Refusal.NoMemory }
 {
     let first = &chunks[0];
     if runs.goes_before(first) {
@@ -124,7 +126,7 @@ pub fn put_chunks(alloc: Global, runs: &mut ChunkBuilder, chunks: &[Chunk]) -> R
 }
 
 // takes a run's text into the last run, where both are texts of equal attributes, and says whether they are
-fn merge_run(alloc: Global, runs: &mut ChunkBuilder, run: &SharedRun) -> Result<bool, Refusal>
+fn merge_run(alloc: Global, runs: &mut ChunkBuilder, run: &SharedRun) -> Result<bool, AllocError>
     requires run { IsRun run.now }
     requires bound { length (units_of_runs runs.old) + length run.now < 2 ^ 64 }
     requires kept { AreRuns runs.old }
@@ -132,7 +134,6 @@ fn merge_run(alloc: Global, runs: &mut ChunkBuilder, run: &SharedRun) -> Result<
         ((units_of_runs runs.new ≡ units_of_runs runs.old ++ run.now) × AreRuns runs.new
         × (last_attributes runs.new ≡ text_attributes run.now))
         (IsApart (last_attributes runs.old) (text_attributes run.now) × (runs.new ≡ runs.old))) }
-    ensures only { IsOkUnless result Refusal.NoMemory }
 {
     match run.piece() {
         Piece::Text(text, units, attrs) => {
@@ -150,14 +151,13 @@ pub fn merge_into(
     text: &str,
     units: u64,
     attrs: &Attrs,
-) -> Result<bool, Refusal>
+) -> Result<bool, AllocError>
     requires counted { units ≡ length (units_of text.now) }
     requires bound { length (units_of_runs runs.old.items) + units < 2 ^ 64 }
     ensures ok { IfOk result (λ yes. MatchBool yes
         (TakesText runs.old.items runs.new.items (letters (units_of text.now) attrs.now) attrs.now)
         ((last_attributes runs.old.items ≢ Some attrs.now) × (runs.new.items ≡ runs.old.items))) }
     ensures err { OnErr result (runs.new.items ≡ runs.old.items) }
-    ensures only { IsOkUnless result Refusal.NoMemory }
 {
     let len = runs.len();
     if len == 0 {
@@ -168,9 +168,8 @@ pub fn merge_into(
 }
 
 /// One more owner of each run.
-pub fn share_all(alloc: Global, runs: &[SharedRun]) -> Result<Vec<SharedRun>, Refusal>
+pub fn share_all(alloc: Global, runs: &[SharedRun]) -> Result<Vec<SharedRun>, AllocError>
     ensures same { IfOk result (λ shared. shared.items ≡ runs.now) }
-    ensures only { IsOkUnless result Refusal.NoMemory }
 {
     let mut shared = Vec::with_capacity(alloc, runs.len())?;
     extend(&mut shared, runs)?;
@@ -178,10 +177,9 @@ pub fn share_all(alloc: Global, runs: &[SharedRun]) -> Result<Vec<SharedRun>, Re
 }
 
 /// Puts one more owner of each of these runs at the end.
-pub fn extend(shared: &mut Vec<SharedRun>, runs: &[SharedRun]) -> Result<(), Refusal>
+pub fn extend(shared: &mut Vec<SharedRun>, runs: &[SharedRun]) -> Result<(), AllocError>
     ensures items { OnOk result (shared.new.items ≡ shared.old.items ++ runs.now) }
     ensures most { length shared.new.items ≤ length shared.old.items + length runs.now }
-    ensures only { IsOkUnless result Refusal.NoMemory }
 {
     for run in runs {
         shared.push(run.share()?)?;

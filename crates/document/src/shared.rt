@@ -1,5 +1,5 @@
 //! Runs that documents have together.
-ghost use Rattle.std.specs.Prelude.{◌≡◌, ◌≢◌, ◌+◌, ◌-◌, min, ◌<◌, ◌^◌, ◌++◌, length, IfOk, OnErr, IsOkUnless, IsTrue, MatchBool, Some, ◌↔◌, false};
+ghost use Rattle.std.specs.Prelude.{◌≡◌, ◌≢◌, ◌+◌, ◌-◌, min, ◌<◌, ◌^◌, ◌++◌, length, IfOk, OnErr, IsTrue, MatchBool, Some, ◌↔◌, false};
 ghost use Rattle.utf16.specs.Units.{units_of};
 ghost use Rattle.delta.specs.Element.{letters};
 ghost use Rattle.document.specs.Runs.{text_attributes, IsApart};
@@ -7,8 +7,7 @@ ghost use Rattle.document.specs.Weight.{weight_of};
 
 use crate::run::{Piece, Run};
 use attributes::Attrs;
-use refusal::Refusal;
-use std::alloc::Global;
+use std::alloc::{AllocError, Global};
 use std::marker::Model;
 use std::sync::Arc;
 
@@ -44,22 +43,20 @@ impl SharedRun {
     ghost use Rattle.document.specs.Pieces.{piece_units, IsCounted};
 
     /// A run with one owner.
-    pub(crate) fn new(alloc: Global, run: Run) -> Result<Self, Refusal>
+    pub(crate) fn new(alloc: Global, run: Run) -> Result<Self, AllocError>
         ensures run { IfOk result (λ shared. shared ≡ run) }
-        ensures only { IsOkUnless result Refusal.NoMemory }
     {
         let units = run.units();
         let weight = run.weight();
         match Arc::new(alloc, run) {
             Ok(run) => Ok(SharedRun { run, units, weight }),
-            Err(_) => Err(Refusal::NoMemory),
+            Err(_) => Err(AllocError),
         }
     }
 
     /// One more owner of the run. It takes no memory: refused only where the run can have no more owners.
-    pub(crate) fn share(&self) -> Result<Self, Refusal>
+    pub(crate) fn share(&self) -> Result<Self, AllocError>
         ensures same { IfOk result (λ shared. shared ≡ self.now) }
-        ensures only { IsOkUnless result Refusal.NoMemory }
     {
         let run = Arc::try_clone(&self.run)?;
         Ok(SharedRun {
@@ -117,7 +114,7 @@ impl SharedRun {
         text: &str,
         units: u64,
         attrs: &Attrs,
-    ) -> Result<bool, Refusal>
+    ) -> Result<bool, AllocError>
         requires counted { units ≡ length (units_of text.now) }
         requires bound { length self.old + units < 2 ^ 64 }
         ensures ok { IfOk result (λ yes. MatchBool yes
@@ -125,7 +122,6 @@ impl SharedRun {
             × (text_attributes self.old ≡ Some attrs.now))
             ((self.new ≡ self.old) × (text_attributes self.old ≢ Some attrs.now))) }
         ensures err { OnErr result (self.new ≡ self.old) }
-        ensures only { IsOkUnless result Refusal.NoMemory }
     {
         if !self.run.takes(attrs) {
             return Ok(false);

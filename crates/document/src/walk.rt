@@ -14,16 +14,15 @@ use crate::runs::{put_chunks, put_embed, put_run, put_runs, put_text};
 use crate::shared::SharedRun;
 use attributes::{Attrs, Change, apply};
 use delta::Op;
-use refusal::Refusal;
-use std::alloc::Global;
-use utf16::Cut;
+use std::alloc::{AllocError, Global};
+use utf16::SplitError;
 
 /// Steps over so many code units; refused where that would part a pair.
-pub fn skip(cursor: &mut Cursor<'_>, len: u64) -> Result<(), Cut>
+pub fn skip(cursor: &mut Cursor<'_>, len: u64) -> Result<(), SplitError>
     requires { len ≤ length cursor.old }
     ensures passed { OnOk result (IsSteppedOver cursor.old cursor.new len) }
     ensures parted { OnErr result (IsWithinPair cursor.old len) }
-    ensures only { IsOkUnless result Cut.InPair }
+    ensures only { IsOkUnless result SplitError.InPair }
 {
     let mut left = len;
     while left > 0 {
@@ -34,14 +33,14 @@ pub fn skip(cursor: &mut Cursor<'_>, len: u64) -> Result<(), Cut>
 
 // steps over the next chunks or runs, or a piece of a run, of at most so many code units, and says how many they have; refused
 // where that would part a pair
-fn skip_next(cursor: &mut Cursor<'_>, most: u64) -> Result<u64, Cut>
+fn skip_next(cursor: &mut Cursor<'_>, most: u64) -> Result<u64, SplitError>
     requires some { 0 < most }
     requires there { most ≤ length cursor.old }
     ensures passed { IfOk result (λ len. IsSteppedOver cursor.old cursor.new len) }
     ensures some { IfOk result (λ len. 0 < len) }
     ensures most { IfOk result (λ len. len ≤ most) }
     ensures parted { OnErr result (IsWithinPair cursor.old most) }
-    ensures only { IsOkUnless result Cut.InPair }
+    ensures only { IsOkUnless result SplitError.InPair }
 {
     let (_, units) = cursor.next_chunks(most);
     if units > 0 {
@@ -64,7 +63,7 @@ pub fn keep(
     change: &Change,
     ops: &[Op],
     out: &mut ChunkBuilder,
-) -> Result<(), Refusal>
+) -> Result<(), AllocError>
     requires there { len ≤ length cursor.old }
     requires whole { ¬ (IsWithinPair cursor.old len) }
     requires bound { length (units_of_runs out.old) + len < 2 ^ 64 }
@@ -72,7 +71,6 @@ pub fn keep(
     ensures kept { OnOk result
         (IsRetained cursor.old cursor.new len change.now (units_of_runs out.old) (units_of_runs out.new)) }
     ensures runs { OnOk result (AreRuns out.new) }
-    ensures only { IsOkUnless result Refusal.NoMemory }
 {
     let mut left = len;
     while left > 0 {
@@ -90,7 +88,7 @@ fn keep_next(
     change: &Change,
     ops: &[Op],
     out: &mut ChunkBuilder,
-) -> Result<u64, Refusal>
+) -> Result<u64, AllocError>
     requires some { 0 < most }
     requires there { most ≤ length cursor.old }
     requires whole { ¬ (IsWithinPair cursor.old most) }
@@ -101,7 +99,6 @@ fn keep_next(
     ensures some { IfOk result (λ len. 0 < len) }
     ensures most { IfOk result (λ len. len ≤ most) }
     ensures runs { OnOk result (AreRuns out.new) }
-    ensures only { IsOkUnless result Refusal.NoMemory }
 {
     if change.is_empty() {
         let len = keep_plain_next(alloc, cursor, most, change, ops, out)?;
@@ -119,7 +116,7 @@ fn keep_plain_next(
     change: &Change,
     ops: &[Op],
     out: &mut ChunkBuilder,
-) -> Result<u64, Refusal>
+) -> Result<u64, AllocError>
     requires plain { change.now ≡ empty }
     requires some { 0 < most }
     requires there { most ≤ length cursor.old }
@@ -131,7 +128,6 @@ fn keep_plain_next(
     ensures some { IfOk result (λ len. 0 < len) }
     ensures most { IfOk result (λ len. len ≤ most) }
     ensures runs { OnOk result (AreRuns out.new) }
-    ensures only { IsOkUnless result Refusal.NoMemory }
 {
     let (chunks, units) = cursor.next_chunks(most);
     if units > 0 {
@@ -155,7 +151,7 @@ fn keep_changed_next(
     change: &Change,
     ops: &[Op],
     out: &mut ChunkBuilder,
-) -> Result<u64, Refusal>
+) -> Result<u64, AllocError>
     requires some { 0 < most }
     requires there { most ≤ length cursor.old }
     requires whole { ¬ (IsWithinPair cursor.old most) }
@@ -166,7 +162,6 @@ fn keep_changed_next(
     ensures some { IfOk result (λ len. 0 < len) }
     ensures most { IfOk result (λ len. len ≤ most) }
     ensures runs { OnOk result (AreRuns out.new) }
-    ensures only { IsOkUnless result Refusal.NoMemory }
 {
     if let Some(run) = cursor.next_run(most) {
         keep_run(alloc, run, change, out)?;
@@ -182,14 +177,13 @@ fn keep_run(
     run: &SharedRun,
     change: &Change,
     out: &mut ChunkBuilder,
-) -> Result<(), Refusal>
+) -> Result<(), AllocError>
     requires run { IsRun run.now }
     requires bound { length (units_of_runs out.old) + length run.now < 2 ^ 64 }
     requires runs { AreRuns out.old }
     ensures units { OnOk result
         (units_of_runs out.new ≡ units_of_runs out.old ++ with_change change.now run.now) }
     ensures runs { OnOk result (AreRuns out.new) }
-    ensures only { IsOkUnless result Refusal.NoMemory }
 {
     let piece = run.piece();
     let attrs = apply(alloc, piece.attrs(), change)?;
@@ -210,7 +204,7 @@ fn keep_part(
     change: &Change,
     ops: &[Op],
     out: &mut ChunkBuilder,
-) -> Result<u64, Refusal>
+) -> Result<u64, AllocError>
     requires some { 0 < most }
     requires there { most ≤ length cursor.old }
     requires whole { ¬ (IsWithinPair cursor.old most) }
@@ -221,7 +215,6 @@ fn keep_part(
     ensures some { IfOk result (λ len. 0 < len) }
     ensures most { IfOk result (λ len. len ≤ most) }
     ensures runs { OnOk result (AreRuns out.new) }
-    ensures only { IsOkUnless result Refusal.NoMemory }
 {
     let piece = match cursor.next(most) {
         Ok(piece) => piece,
@@ -245,14 +238,13 @@ fn put(
     piece: Piece<'_>,
     attrs: Attrs,
     more: usize,
-) -> Result<(), Refusal>
+) -> Result<(), AllocError>
     requires piece { IsPiece piece }
     requires bound { length (units_of_runs out.old) + length (piece_dressed piece attrs) < 2 ^ 64 }
     requires runs { AreRuns out.old }
     ensures units { OnOk result (units_of_runs out.new ≡ units_of_runs out.old
         ++ piece_dressed piece.entry attrs) }
     ensures runs { OnOk result (AreRuns out.new) }
-    ensures only { IsOkUnless result Refusal.NoMemory }
 {
     match piece {
         Piece::Text(text, units, _) => put_text(alloc, out, text, units, attrs, more),

@@ -5,13 +5,11 @@ ghost use Rattle.attributes.specs.Attributes.{changed};
 ghost use Rattle.attributes.specs.Map.{empty};
 ghost use Rattle.utf16.specs.Units.{units_of};
 ghost use Rattle.delta.specs.Element.{letters};
-ghost use Rattle.delta.specs.Gaps.{counted, apply};
-ghost use Rattle.delta.specs.Operation.{base_of, op_base};
+ghost use Rattle.delta.specs.Operation.{op_base};
 ghost use Rattle.document.specs.Pairs.{IsWithinPair};
 ghost use Rattle.document.specs.Chunks.{units_of_chunks};
 ghost use Rattle.document.specs.Weight.{weight_of, attributes_weight};
-ghost use Rattle.document.specs.steps.Passes.{StopsInPair};
-ghost use Rattle.document.specs.Runs.{units_of_runs, AreRuns};
+ghost use Rattle.document.specs.Runs.{units_of_runs};
 ghost use Rattle.document.specs.steps.Weighing.{kept_weight, set_weight, IsRetainedWeighed, IsWeighed};
 
 use crate::chunk::Chunk;

@@ -1,18 +1,12 @@
 -- A prefix of a list of batches, when more batches come.
-use Rattle.std.proofs.Common.{◌≡◌, ◌≤◌, inl, inr, ℕ, List, [], ◌∷◌, ◌++◌, length, refl, sym, ◌∙◌, ap, subst, arith, append_assoc, append-nil, length-append}
-use Rattle.std.proofs.lemmas.Grind.{flat_map-append}
+use Rattle.std.proofs.Common.{◌≡◌, ◌≤◌, inl, inr, ℕ, List, [], ◌++◌, length, sym, ◌∙◌, ap, subst, arith, append_assoc, append-nil, length-append}
 use Rattle.revision.specs.Command.{Taken}
-use Rattle.revision.specs.State.{State, grown, fold}
+use Rattle.revision.specs.State.{State, fold}
 use Rattle.recovery.specs.Found.{commands_of, FoundAs}
 use Rattle.recovery.specs.Open.{IsWithOrWithout}
 use Rattle.flusher.specs.Batches.{IsBeginning}
-
-pub commands-append : (first more : List (List Taken)) → commands_of (first ++ more) ≡ commands_of first ++ commands_of more
-commands-append first more = flat_map-append (λ (b : List Taken). b) first more
-
-pub fold-append : (state : State) (first more : List Taken) → fold state (first ++ more) ≡ fold (fold state first) more
-fold-append state [] more = refl
-fold-append state (taken ∷ others) more = fold-append (grown state taken) others more
+pub use Rattle.revision.proofs.CallerLemmas.{fold-append}
+pub use Rattle.recovery.proofs.CallerLemmas.{commands-append}
 
 pub fewer : (least less : ℕ) (start : State) (batches : List (List Taken)) (content : List ℕ) → less ≤ least → IsBeginning least start batches content → IsBeginning less start batches content
 fewer least less start batches content le is = record { first = is.first; more = is.more; whole = is.whole; enough = omega (arith, is.enough); found = is.found }

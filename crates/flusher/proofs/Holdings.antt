@@ -5,6 +5,7 @@ use Rattle.std.proofs.lemmas.Bool.{and_parts, false≢true}
 use mathlib.Core.List.{IsPrefix}
 use Rattle.std.specs.Option.{option_map}
 use Rattle.disk.specs.Crash.{LeavesOnly}
+use Rattle.refusal.specs.Refusal.{IsOneOf}
 use Rattle.refusal.specs.declared.Refusal.{Refusal}
 use Rattle.refusal.specs.declared.Refusal.TheVariants.{JournalFull, Stranger, StillNeeded, NoMemory, Fault}
 use Rattle.disk.specs.declared.device.Disk.{Ghosts}
@@ -16,19 +17,20 @@ use Rattle.recovery.specs.declared.store.Store.{Store}
 use Rattle.recovery.specs.Faults.{FailsAtFaults}
 use Rattle.recovery.specs.Found.{commands_of, FoundAs}
 use Rattle.milestone.specs.Job.{Job}
-use Rattle.recovery.specs.Open.{IsOpen, IsUnchanged, IsFreedNow, IsHalfFreed, IsCommittedNow, IsCommittedBehind, has_room, IsPutNow, IsRetiredNow, IsWithOrWithout, device_of, state_of, has_failed}
-use Rattle.recovery.specs.declared.run.StoreStep.TheVariants.{Retire as Retires}
-use Rattle.recovery.specs.Marked.{MayRetire}
-use Rattle.recovery.specs.Run.{IsTaken, IsWhy}
+use Rattle.recovery.specs.Open.{IsOpen, IsUnchanged, IsFreedNow, IsHalfFreed, IsCommittedNow, IsCommittedBehind, has_room, IsPutNow, IsWithOrWithout, device_of, state_of, has_failed}
+use Rattle.recovery.specs.Moment.{Moment, Receipt, IsMomentOf, moment_of}
 use Rattle.recovery.specs.Goes.{Goes}
-use Rattle.recovery.proofs.CallerLemmas.{goes_none, goes_call, open_unchanged, found_as, found_open}
+use Rattle.recovery.proofs.CallerLemmas.{goes_none, goes_call, found_as, found_open}
 use Rattle.world.specs.World.{Entry, takens}
 use Rattle.published.specs.Order.{IsLegal}
-use Rattle.published.proofs.CallerLemmas.{begun_grows}
+use Rattle.published.proofs.CallerLemmas.{begun_grows, committed_moment}
 use Rattle.view.specs.Published.{Published}
 use Rattle.view.specs.Stages.{IsNext}
 use Rattle.hub.specs.Runs.{Run}
+use Rattle.flusher.specs.declared.flusher.Flusher.{Flusher}
 use Rattle.flusher.specs.Flushers.{IsCommittedTo, IsLeftWithout, IsHeldCommitted, IsGivenUp}
+use Rattle.flusher.specs.Holding.{store_of, told_of, committed_of, waiting_of}
+use Rattle.flusher.specs.Upkeep.{KeepsUp}
 use Rattle.flusher.proofs.Beginnings.{commands-append, fold-append}
 
 -- the refusal of an answer, or this one where there is none
@@ -94,39 +96,6 @@ pub no_error : {A : Type 0} (answer : A) (refusal : Refusal) → IsErrOf (Ok ans
 no_error answer refusal is = cc
 
 module _ {D : Type 0} {disk : Ghosts D} (old new : Store D disk) where
-  -- what a retirement leaves, whatever it answers
-  retire_done : (result : Result (Unit {0}) Refusal) → OnOk result ((is_open : IsOpen old) → IsRetiredNow is_open.cells is_open.table new) → OnOk result (IsOpen old → IsOpen new)
-  retire_done (Ok answer) done = λ is_open. (done is_open).goes_on
-  retire_done (Err refusal) done = tt
-
-  retire_kept : (result : Result (Unit {0}) Refusal) → IfErr result (λ e. (e ≡ StillNeeded) ⊎ (e ≡ Fault)) → (IsErrOf result StillNeeded → IsUnchanged old new)
-      → IfErr result (λ e. e ≢ Fault → IsOpen old → IsOpen new)
-  retire_kept (Ok answer) only untouched = tt
-  retire_kept (Err refusal) (inl needed) untouched = λ no_fault is_open. open_unchanged (untouched (ap (λ (e : Refusal). Err e) needed)) is_open
-  retire_kept (Err refusal) (inr fault) untouched = λ no_fault is_open. absurd (no_fault fault)
-
-  pub goes_retired : (result : Result (Unit {0}) Refusal) → FailsAtFaults result old new
-      → (has_failed old ≡ false → IsOpen old → LeavesOnly disk (λ content. FoundAs content (state_of old)) (device_of old) (device_of new))
-      → OnOk result ((is_open : IsOpen old) → IsRetiredNow is_open.cells is_open.table new)
-      → IfErr result (λ e. (e ≡ StillNeeded) ⊎ (e ≡ Fault)) → (IsErrOf result StillNeeded → IsUnchanged old new)
-      → Goes (λ content. FoundAs content (state_of old)) old new
-  goes_retired result faults any_moment done only untouched =
-      goes_call result faults.failed_before faults.fails any_moment (retire_done result done) (retire_kept result only untouched)
-
-  -- a retirement was made
-  pub retired_now : {A : Type 0} (result : Result A Refusal) → OnOk result (has_failed new ≡ false) → state_of new ≡ state_of old
-      → OnOk result ((is_open : IsOpen old) → MayRetire is_open.table is_open.cells) → OnOk result ((is_open : IsOpen old) → IsRetiredNow is_open.cells is_open.table new)
-      → OnOk result (IsTaken Retires old new)
-  retired_now (Ok answer) works state may retired = (works, state, λ is_open. record { may = may is_open; retired = retired is_open })
-  retired_now (Err refusal) works state may retired = tt
-
-  -- why it was refused
-  pub retire_why : (result : Result (Unit {0}) Refusal) → IfErr result (λ e. (e ≡ StillNeeded) ⊎ (e ≡ Fault))
-      → (IsErrOf result StillNeeded → (is_open : IsOpen old) → ¬ MayRetire is_open.table is_open.cells) → IfErr result (λ e. e ≢ Fault → IsWhy Retires e old)
-  retire_why (Ok answer) only needed = tt
-  retire_why (Err refusal) (inl is) needed = λ no_fault. (is, needed (ap (λ (e : Refusal). Err e) is))
-  retire_why (Err refusal) (inr fault) needed = λ no_fault. absurd (no_fault fault)
-
   -- what a milestone of a job leaves
   put_done : (job : Job) (result : Result (Unit {0}) Refusal) → OnOk result ((is_open : IsOpen old) → IsPutNow is_open.cells is_open.table job new) → OnOk result (IsOpen old → IsOpen new)
   put_done job (Ok answer) done = λ is_open. (done is_open).goes_on
@@ -139,10 +108,23 @@ module _ {D : Type 0} {disk : Ghosts D} (old new : Store D disk) where
       → Goes (λ content. FoundAs content (state_of old)) old new
   goes_put job result faults any_moment done kept = goes_call result faults.failed_before faults.fails any_moment (put_done job result done) kept
 
+module _ {D L : Type 0} {disk : Ghosts D} where
+  -- a call of its store that leaves the state, and changes no more of the flusher
+  pub keeps_by : {old new : Flusher D L disk} → Goes (λ content. FoundAs content (state_of (store_of old))) (store_of old) (store_of new)
+      → state_of (store_of new) ≡ state_of (store_of old) → told_of new ≡ told_of old → committed_of new ≡ committed_of old → waiting_of new ≡ waiting_of old → KeepsUp old new
+  keeps_by goes state told committed waiting = record {
+    kept_up = record { goes = goes; state = state };
+    batches = record { told = told; committed = committed; waiting = waiting };
+  }
+
+-- all that a publisher was given is published
+abbrev pub all_published : Published → Published
+all_published before = record { told = before.told ++ before.unpublished; unpublished = []; moments = before.moments }
+
 -- one batch that is committed more
-pub kept_more : (start old new : State) (before after : Published) (receipt batch : List Taken) → old ≡ fold start (commands_of (before.told ++ before.unpublished)) → before.unpublished ≡ []
-    → after ≡ record before { unpublished = receipt ∷ [] } → receipt ≡ batch → new ≡ fold old batch → new ≡ fold start (commands_of (after.told ++ after.unpublished))
-kept_more start old new before after receipt batch kept none is same grown =
+pub kept_more : (start old new : State) (before after : Published) (moments : List Moment) (receipt batch : List Taken) → old ≡ fold start (commands_of (before.told ++ before.unpublished)) → before.unpublished ≡ []
+    → after ≡ record { told = before.told; unpublished = receipt ∷ []; moments = moments } → receipt ≡ batch → new ≡ fold old batch → new ≡ fold start (commands_of (after.told ++ after.unpublished))
+kept_more start old new before after moments receipt batch kept none is same grown =
     grown ∙ ap (λ (s : State). fold s batch) (kept ∙ ap (λ (l : List (List Taken)). fold start (commands_of (before.told ++ l))) none ∙ ap (λ (l : List (List Taken)). fold start (commands_of l)) (append-nil before.told))
     ∙ sym (fold-append start (commands_of before.told) batch)
     ∙ ap (λ (c : List Taken). fold start (commands_of before.told ++ c)) (sym (append-nil batch) ∙ ap (λ (b : List Taken). b ++ []) (sym same))
@@ -150,7 +132,7 @@ kept_more start old new before after receipt batch kept none is same grown =
     ∙ ap (λ (p : Published). fold start (commands_of (p.told ++ p.unpublished))) (sym is)
 
 -- the batch that is held is published: what the store holds is the same
-pub kept_published : (start state : State) (before after : Published) → state ≡ fold start (commands_of (before.told ++ before.unpublished)) → after ≡ record { told = before.told ++ before.unpublished; unpublished = [] }
+pub kept_published : (start state : State) (before after : Published) → state ≡ fold start (commands_of (before.told ++ before.unpublished)) → after ≡ all_published before
     → state ≡ fold start (commands_of (after.told ++ after.unpublished))
 kept_published start state before after kept is =
     kept ∙ ap (λ (l : List (List Taken)). fold start (commands_of l)) (sym (append-nil (before.told ++ before.unpublished)))
@@ -203,28 +185,20 @@ made_on start told named run receipt documents same is made =
 
 -- So its commit isn't refused as a stranger's.
 pub not_stranger : (state : State) (batch : List Taken) (refusal : Refusal) → all_grow state batch ≡ true → (refusal ≡ Stranger → all_grow state batch ≡ false)
-    → ((refusal ≡ JournalFull) ⊎ (refusal ≡ Stranger)) ⊎ ((refusal ≡ NoMemory) ⊎ (refusal ≡ Fault))
+    → (refusal ≡ JournalFull) ⊎ ((refusal ≡ Stranger) ⊎ ((refusal ≡ NoMemory) ⊎ (refusal ≡ Fault)))
     → (refusal ≡ JournalFull) ⊎ ((refusal ≡ NoMemory) ⊎ (refusal ≡ Fault))
-not_stranger state batch refusal grow stranger (inl (inl full)) = inl full
-not_stranger state batch refusal grow stranger (inl (inr strange)) = absurd (false≢true (sym (stranger strange) ∙ grow))
-not_stranger state batch refusal grow stranger (inr other) = inr other
+not_stranger state batch refusal grow stranger (inl full) = inl full
+not_stranger state batch refusal grow stranger (inr (inl strange)) = absurd (false≢true (sym (stranger strange) ∙ grow))
+not_stranger state batch refusal grow stranger (inr (inr other)) = inr other
 
 -- nor is the one that makes room
 pub no_stranger : (state : State) (batch : List Taken) (refusal : Refusal) → all_grow state batch ≡ true → (refusal ≡ Stranger → all_grow state batch ≡ false)
-    → ((refusal ≡ JournalFull) ⊎ ((refusal ≡ StillNeeded) ⊎ (refusal ≡ Stranger))) ⊎ ((refusal ≡ NoMemory) ⊎ (refusal ≡ Fault))
-    → ((refusal ≡ JournalFull) ⊎ (refusal ≡ StillNeeded)) ⊎ ((refusal ≡ NoMemory) ⊎ (refusal ≡ Fault))
-no_stranger state batch refusal grow stranger (inl (inl full)) = inl (inl full)
-no_stranger state batch refusal grow stranger (inl (inr (inl needed))) = inl (inr needed)
+    → (IsOneOf refusal (JournalFull ∷ StillNeeded ∷ Stranger ∷ [])) ⊎ ((refusal ≡ NoMemory) ⊎ (refusal ≡ Fault))
+    → IsOneOf refusal (JournalFull ∷ StillNeeded ∷ NoMemory ∷ Fault ∷ [])
+no_stranger state batch refusal grow stranger (inl (inl full)) = inl full
+no_stranger state batch refusal grow stranger (inl (inr (inl needed))) = inr (inl needed)
 no_stranger state batch refusal grow stranger (inl (inr (inr strange))) = absurd (false≢true (sym (stranger strange) ∙ grow))
-no_stranger state batch refusal grow stranger (inr other) = inr other
-
--- A refusal of a commit but for the device's leaves the store unchanged.
-pub unchanged_without : {D : Type 0} {disk : Ghosts D} (old new : Store D disk) (refusal : Refusal)
-    → ((refusal ≡ JournalFull) ⊎ (refusal ≡ Stranger)) ⊎ ((refusal ≡ NoMemory) ⊎ (refusal ≡ Fault))
-    → ((refusal ≡ JournalFull) ⊎ (refusal ≡ Stranger) → IsUnchanged old new) → (refusal ≡ NoMemory → IsUnchanged old new) → refusal ≢ Fault → IsUnchanged old new
-unchanged_without old new refusal (inl first) untouched given_up other = untouched first
-unchanged_without old new refusal (inr (inl memory)) untouched given_up other = given_up memory
-unchanged_without old new refusal (inr (inr fault)) untouched given_up other = absurd (other fault)
+no_stranger state batch refusal grow stranger (inr other) = inr (inr other)
 
 -- the next part of the order, for a publisher
 pub next_by : (told named : List (List Taken)) (batch receipt order : List Taken) → named ≡ told → receipt ≡ batch → 1 ≤ length batch
@@ -233,39 +207,37 @@ next_by told named batch receipt order same is some few next =
     subst (λ (l : List (List Taken)). IsNext (commands_of l) receipt order) same
     (subst (λ (r : List Taken). IsNext (commands_of named) r order) (sym is) (record { some = some; few = few; next = next }))
 
--- what is published and held, with what is committed between, which is nothing
-pub ordered_held : (told committed waiting : List (List Taken)) (run : List Taken) (order : List Entry) → committed ≡ [] → waiting ≡ run ∷ []
-    → IsPrefix (commands_of told ++ run) (takens order) → IsPrefix (commands_of (told ++ (committed ++ waiting))) (takens order)
-ordered_held told committed waiting run order none is begins =
-    subst (λ (l : List Taken). IsPrefix l (takens order))
-    (sym (ap (λ (l : List (List Taken)). commands_of (told ++ (l ++ waiting))) none ∙ ap (λ (l : List (List Taken)). commands_of (told ++ l)) is
-    ∙ commands-append told (run ∷ []) ∙ ap (λ (l : List Taken). commands_of told ++ l) (append-nil run)))
-    begins
-
-pub ordered_none : (told committed waiting : List (List Taken)) (order : List Entry) → waiting ≡ [] → IsPrefix (commands_of (told ++ committed)) (takens order)
-    → IsPrefix (commands_of (told ++ (committed ++ waiting))) (takens order)
-ordered_none told committed waiting order none begins =
-    subst (λ (l : List (List Taken)). IsPrefix (commands_of (told ++ l)) (takens order))
-    (sym (ap (λ (l : List (List Taken)). committed ++ l) none ∙ append-nil committed)) begins
-
 -- A publish leaves a publisher unchanged, or has published what it was given.
-pub published_or_not : {E : Type 0} (result : Result (Option (List Taken × List (List Taken))) E) (old new : Published)
-    → IfOk result (λ published. IfSome published (λ p. old.unpublished ≡ p.0 ∷ [])) → IfOk result (λ published. IfSome published (λ p. p.1 ≡ old.told ++ p.0 ∷ []))
-    → IfOk result (λ published. IfSome published (λ p. new ≡ record { told = p.1; unpublished = [] }))
+pub published_or_not : {D : Type 0} {E : Type 0} (result : Result (Option (Receipt D × List (List Taken))) E) (old new : Published)
+    → IfOk result (λ published. IfSome published (λ p. old.unpublished ≡ p.0.batch ∷ []))
+    → IfOk result (λ published. IfSome published (λ p. p.1 ≡ old.told ++ p.0.batch ∷ []))
+    → IfOk result (λ published. IfSome published (λ p. new ≡ record { told = p.1; unpublished = []; moments = old.moments }))
     → IfOk result (λ published. IfNone published ((old.unpublished ≡ []) × (new ≡ old))) → OnErr result (new ≡ old)
-    → (new ≡ old) ⊎ (new ≡ record { told = old.told ++ old.unpublished; unpublished = [] })
+    → (new ≡ old) ⊎ (new ≡ all_published old)
 published_or_not (Ok (Some p)) old new batch told shown none same =
-    inr (shown ∙ ap (λ (t : List (List Taken)). record { told = t; unpublished = [] }) (told ∙ ap (λ (l : List (List Taken)). old.told ++ l) (sym batch)))
+    inr (shown ∙ ap (λ (t : List (List Taken)). record { told = t; unpublished = []; moments = old.moments }) (told ∙ ap (λ (l : List (List Taken)). old.told ++ l) (sym batch)))
 published_or_not (Ok None) old new batch told shown none same = inl none.1
 published_or_not (Err why) old new batch told shown none same = inl same
 
+-- When the commit ended of the batch that was held, the store held what it makes of what is published, over a device that was synced.
+pub moment_by : {D : Type 0} (disk : Ghosts D) (start begin old new : State) (told committed : List (List Taken)) (batch : List Taken) (device : D) (receipt : Receipt D)
+    → begin ≡ start → old ≡ fold begin (commands_of (told ++ committed)) → committed ≡ [] → receipt.batch ≡ batch → new ≡ fold old batch
+    → receipt.at ≡ record { state = new; device = device } → disk.unsynced device ≡ []
+    → IsMomentOf (fold start (commands_of (told ++ receipt.batch ∷ []))) (moment_of disk receipt.at)
+moment_by disk start begin old new told committed batch device receipt begun kept none same grown at synced =
+    committed_moment disk start old new told batch device receipt before same grown at synced
+  where
+    before : old ≡ fold start (commands_of told)
+    before = kept ∙ ap (λ (s : State). fold s (commands_of (told ++ committed))) begun
+        ∙ ap (λ (l : List (List Taken)). fold start (commands_of (told ++ l))) none ∙ ap (λ (l : List (List Taken)). fold start (commands_of l)) (append-nil told)
+
 -- so what a flusher's type keeps holds on
-pub kept_moved : (start state : State) (old new : Published) → (new ≡ old) ⊎ (new ≡ record { told = old.told ++ old.unpublished; unpublished = [] })
+pub kept_moved : (start state : State) (old new : Published) → (new ≡ old) ⊎ (new ≡ all_published old)
     → state ≡ fold start (commands_of (old.told ++ old.unpublished)) → state ≡ fold start (commands_of (new.told ++ new.unpublished))
 kept_moved start state old new (inl same) kept = kept ∙ ap (λ (p : Published). fold start (commands_of (p.told ++ p.unpublished))) (sym same)
 kept_moved start state old new (inr is) kept = kept_published start state old new kept is
 
-pub few_moved : (old new : Published) → (new ≡ old) ⊎ (new ≡ record { told = old.told ++ old.unpublished; unpublished = [] })
+pub few_moved : (old new : Published) → (new ≡ old) ⊎ (new ≡ all_published old)
     → length old.unpublished ≤ 1 → length new.unpublished ≤ 1
 few_moved old new (inl same) few = omega (arith, few, ap (λ (p : Published). length p.unpublished) same)
 few_moved old new (inr is) few = omega (arith, ap (λ (p : Published). length p.unpublished) is)

@@ -1,4 +1,6 @@
 pub mod Beginnings
 pub mod Holdings
+pub mod Retirement
+pub mod Writes
 pub mod Fitting
 pub mod CallerLemmas

@@ -2,4 +2,6 @@ pub mod Batches
 pub mod Standing
 pub mod Flushers
 pub mod Holding
+pub mod Writing
+pub mod Upkeep
 pub mod Laws

@@ -1,9 +1,9 @@
 -- A board, a flusher and its store at one moment of a thread's run.
-use Rattle.std.specs.Prelude.{◌≡◌, ◌≤◌, List, [], ◌++◌, length}
+use Rattle.std.specs.Prelude.{◌≡◌, ◌≤◌, ℕ, false, List, [], ◌++◌, length}
 use Rattle.disk.specs.declared.device.Disk.{Ghosts}
 use Rattle.revision.specs.Command.{Taken}
 use Rattle.revision.specs.State.{State, fold}
-use Rattle.world.specs.Board.{Board}
+use Rattle.world.specs.Board.{Board, begun_board}
 use Rattle.world.specs.World.{Entry, takens}
 use Rattle.recovery.specs.declared.store.Store.{Store}
 use Rattle.recovery.specs.Found.{commands_of}
@@ -38,8 +38,8 @@ module _ {D : Type 0} {disk : Ghosts D} where
     pub waiting : here.waiting ≡ []
     pub state : state_of here.store ≡ fold start (commands_of here.told)
 
-module _ {D J : Type 0} {disk : Ghosts D} where
-  abbrev pub standing : HubBoard → Flusher D J disk → Standing D disk
+module _ {D L : Type 0} {disk : Ghosts D} where
+  abbrev pub standing : HubBoard → Flusher D L disk → Standing D disk
   standing board flusher = record {
     board = board.board;
     known = board.told;
@@ -48,3 +48,11 @@ module _ {D J : Type 0} {disk : Ghosts D} where
     waiting = waiting_of flusher;
     store = store_of flusher;
   }
+
+  -- A flusher has begun over a store, and its board, which has so many seats to give: nothing is ordered since the start, and nothing is under
+  -- way.
+  pub record HaveBegun (start : State) (store : Store D disk) (seats : ℕ) (flusher : Flusher D L disk) (board : HubBoard) : Type 0 where
+    pub over : store_of flusher ≡ store
+    pub fresh : board ≡ record { board = begun_board start; failed = false; told = []; left = seats }
+    pub told : told_of flusher ≡ []
+    pub calm : IsCalm start (standing board flusher)

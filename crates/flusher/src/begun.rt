@@ -1,19 +1,19 @@
 //! The state that a run began with.
 ghost use Rattle.std.specs.Prelude.{◌≡◌};
 
-use published::Site;
+use published::Life;
 use revision::State;
 use std::marker::{Model, PhantomData};
 use std::snapshot::Snapshot;
 
 /// The state that a store was opened with, for contracts alone: it takes no memory.
 #[derive(Drop)]
-pub(crate) struct Begun<J: Site> {
+pub(crate) struct Begun<L: Life> {
     state: Snapshot<State>,
-    of: PhantomData<J>,
+    of: PhantomData<L>,
 }
 
-impl<J: Site> Model for Begun<J> {
+impl<L: Life> Model for Begun<L> {
     ghost use Rattle.std.specs.Prelude.{◌≡◌};
     ghost use Rattle.revision.specs.State.{State as StateValue};
 
@@ -21,14 +21,14 @@ impl<J: Site> Model for Begun<J> {
 
     ghost view = { λ b. b.state.value };
 
-    ghost invariant = { λ b. b.state.value ≡ J.start };
+    ghost invariant = { λ b. b.state.value ≡ L.start };
 }
 
-impl<J: Site> Begun<J> {
+impl<L: Life> Begun<L> {
     /// The run's start.
-    pub(crate) fn of(state: &State) -> Begun<J>
-        requires { state.now ≡ J.start }
-        ensures { result ≡ J.start }
+    pub(crate) fn of(state: &State) -> Begun<L>
+        requires { state.now ≡ L.start }
+        ensures { result ≡ L.start }
     {
         Begun {
             state: Snapshot::of(state),
@@ -36,9 +36,9 @@ impl<J: Site> Begun<J> {
         }
     }
 
-    /// It is the run's start.
-    pub(crate) fn is_start(&self)
-        ensures { self.now ≡ J.start }
+    /// What each of these keeps, for the prover: it is the run's start. It does nothing.
+    pub(crate) fn facts(&self)
+        ensures { self.now ≡ L.start }
     {
         let _ = &self.state;
     }

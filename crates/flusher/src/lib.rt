@@ -22,6 +22,6 @@ pub use flusher::Flusher;
 pub use gate::{Gate, Moment, OpenGate};
 pub use hub::{Board, Hub, Seat, Ticket};
 pub use published::Told;
-pub use starting::{StartFault, start};
+pub use starting::{StartError, start};
 pub use view::Viewer;
 pub use written::Written;

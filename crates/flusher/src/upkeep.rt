@@ -1,30 +1,28 @@
 //! What a flusher does for its store between batches: milestones, and the retirement of what nothing needs any more.
-ghost use Rattle.std.specs.Prelude.{◌≡◌, ◌≢◌, ◌⊎◌, ◌↔◌, ◌≤◌, ℕ, [], true, false, Some, None, length, take, slice_get, Contains, OnOk, OnErr, IfOk, IfErr, IsErrOf};
-ghost use Rattle.refusal.specs.declared.Refusal.{Refusal as Why};
-ghost use Rattle.refusal.specs.declared.Refusal.TheVariants.{NoDocument, Future, TooOld, StillNeeded, Stranger, NoMemory, Fault};
-ghost use Rattle.history.specs.Cell.{cells_at};
+ghost use Rattle.std.specs.Prelude.{◌≡◌, ◌≢◌, ◌⊎◌, ◌↔◌, ◌≤◌, [], false, length, take, slice_get, Contains, OnOk, OnErr, IfOk, IfErr, IsErrOf, ◌∷◌};
+ghost use Rattle.refusal.specs.Refusal.{IsOneOf};
+ghost use Rattle.refusal.specs.declared.Refusal.TheVariants.{StillNeeded, Stranger, NoMemory, Fault};
 ghost use Rattle.recovery.specs.declared.run.StoreStep.TheVariants.{Milestone, Retire};
-ghost use Rattle.recovery.specs.Begun.{IsLeftByMemory};
 ghost use Rattle.recovery.specs.Due.{job_due_for};
 ghost use Rattle.recovery.specs.Faults.{FailsAtFaults};
-ghost use Rattle.recovery.specs.Found.{FoundAs};
-ghost use Rattle.recovery.specs.Jobs.{IsJobTo, highest, last_job, no_job_for, with_job, without_job};
-ghost use Rattle.recovery.specs.Open.{IsOpen, IsPutNow, IsUnchanged, device_of, state_of, has_failed, known_cells, kept_jobs};
+ghost use Rattle.recovery.specs.Jobs.{last_job, without_job};
+ghost use Rattle.recovery.specs.Milestones.{IsHandedOut, IsRefusedWhereDue, IsUnput};
+ghost use Rattle.recovery.specs.Open.{IsOpen, IsPutNow, IsUnchanged, state_of, has_failed, known_cells, kept_jobs};
 ghost use Rattle.recovery.specs.PutJobs.{ArePut, CostsTogether};
 ghost use Rattle.recovery.specs.Cells.{highest_known};
 ghost use Rattle.recovery.specs.Unwritten.{IsUnchangedButJobs};
 ghost use Rattle.recovery.specs.Run.{IsTaken, IsWhy};
-ghost use Rattle.recovery.specs.Goes.{Goes};
-ghost use Rattle.flusher.specs.Holding.{store_of, told_of, committed_of, waiting_of};
+ghost use Rattle.flusher.specs.Holding.{store_of};
+ghost use Rattle.flusher.specs.Upkeep.{KeepsUp};
 
 use crate::flusher::Flusher;
 use disk::Disk;
 use milestone::{Composed, Job};
-use published::Site;
+use published::Life;
 use refusal::Refusal;
 use std::alloc::Global;
 
-impl<D: Disk, J: Site> Flusher<D, J> {
+impl<D: Disk, L: Life> Flusher<D, L> {
     /// Puts a milestone of the document of this number at a revision, as `Store::put_document` does: hands out its job, composes it here,
     /// and puts what came of it. Where memory runs out, the document's job is dropped. What is held, and what is published, stays.
     pub fn put_document(
@@ -34,25 +32,12 @@ impl<D: Disk, J: Site> Flusher<D, J> {
         revision: u64,
     ) -> Result<(), Refusal>
         ensures faults { FailsAtFaults result (store_of self.old) (store_of self.new) }
-        ensures goes { Goes (λ content. FoundAs content (state_of (store_of self.old))) (store_of self.old)
-            (store_of self.new) }
-        ensures state { state_of (store_of self.new) ≡ state_of (store_of self.old) }
+        ensures keeps { KeepsUp self.old self.new }
+        ensures due { IsRefusedWhereDue document revision result (store_of self.old) }
         ensures put { OnOk result (IsTaken (Milestone document revision) (store_of self.old) (store_of self.new)) }
-        ensures refused { IfErr result (λ e. e ≢ NoMemory → e ≢ Fault
-            → IsWhy (Milestone document revision) e (store_of self.old)) }
-        ensures untouched { IfErr result (λ e. e ≢ NoMemory → e ≢ Fault
-            → IsUnchanged (store_of self.old) (store_of self.new)) }
-        ensures unwritten { IfErr result (λ e. e ≢ Fault
-            → device_of (store_of self.new) ≡ device_of (store_of self.old)) }
-        ensures memory { IsErrOf result NoMemory
-            → IsLeftByMemory (Milestone document revision) (store_of self.old) (store_of self.new) }
         ensures dropped { OnOk result (kept_jobs (store_of self.new)
             ≡ without_job document (kept_jobs (store_of self.old))) }
-        ensures only { IfErr result (λ e. ((e ≡ NoDocument) ⊎ ((e ≡ Future) ⊎ (e ≡ TooOld)))
-            ⊎ ((e ≡ NoMemory) ⊎ (e ≡ Fault))) }
-        ensures told { told_of self.new ≡ told_of self.old }
-        ensures committed { committed_of self.new ≡ committed_of self.old }
-        ensures waiting { waiting_of self.new ≡ waiting_of self.old }
+        ensures left { IfErr result (λ e. IsUnput document revision e (store_of self.old) (store_of self.new)) }
     {
         self.store.put_document(alloc, document, revision)
     }
@@ -77,25 +62,11 @@ impl<D: Disk, J: Site> Flusher<D, J> {
         revision: u64,
     ) -> Result<Job, Refusal>
         ensures faults { FailsAtFaults result (store_of self.old) (store_of self.new) }
-        ensures goes { Goes (λ content. FoundAs content (state_of (store_of self.old))) (store_of self.old)
-            (store_of self.new) }
-        ensures state { state_of (store_of self.new) ≡ state_of (store_of self.old) }
-        ensures failed { has_failed (store_of self.new) ≡ has_failed (store_of self.old) }
-        ensures job { IfOk result (λ job. IsJobTo (state_of (store_of self.old)).documents document revision job) }
-        ensures keeps { IfOk result (λ job. kept_jobs (store_of self.new)
-            ≡ with_job job (kept_jobs (store_of self.old))) }
-        ensures device { device_of (store_of self.new) ≡ device_of (store_of self.old) }
+        ensures keeps { KeepsUp self.old self.new }
+        ensures due { IsRefusedWhereDue document revision result (store_of self.old) }
+        ensures given { IfOk result (λ job. IsHandedOut document revision job (store_of self.old) (store_of self.new)) }
+        ensures same { IsUnchangedButJobs (store_of self.old) (store_of self.new) }
         ensures untouched { OnErr result (IsUnchanged (store_of self.old) (store_of self.new)) }
-        ensures refused { has_failed (store_of self.old) ≡ false → (is_open : IsOpen (store_of self.old)) → (why : Why)
-            → no_job_for (slice_get (state_of (store_of self.old)).documents document)
-            (highest (cells_at is_open.cells document)) revision ≡ Some why → IsErrOf result why }
-        ensures refusal { IfErr result (λ e. e ≢ NoMemory → has_failed (store_of self.old) ≡ false
-            → (is_open : IsOpen (store_of self.old))
-            → no_job_for (slice_get (state_of (store_of self.old)).documents document)
-            (highest (cells_at is_open.cells document)) revision ≡ Some e) }
-        ensures told { told_of self.new ≡ told_of self.old }
-        ensures committed { committed_of self.new ≡ committed_of self.old }
-        ensures waiting { waiting_of self.new ≡ waiting_of self.old }
     {
         self.store.milestone_job(alloc, document, revision)
     }
@@ -103,16 +74,12 @@ impl<D: Disk, J: Site> Flusher<D, J> {
     /// Drops the copy of a job, where this very job is still kept, as `Store::give_up_job` does: another one may be due. It takes no memory.
     /// What is held, and what is published, stays.
     pub fn give_up_job(&mut self, job: &Job)
-        ensures goes { Goes (λ content. FoundAs content (state_of (store_of self.old))) (store_of self.old)
-            (store_of self.new) }
+        ensures keeps { KeepsUp self.old self.new }
         ensures kept { Contains (kept_jobs (store_of self.old)) job.now
             → kept_jobs (store_of self.new) ≡ without_job job.now.document (kept_jobs (store_of self.old)) }
         ensures other { (¬ Contains (kept_jobs (store_of self.old)) job.now)
             → kept_jobs (store_of self.new) ≡ kept_jobs (store_of self.old) }
         ensures same { IsUnchangedButJobs (store_of self.old) (store_of self.new) }
-        ensures told { told_of self.new ≡ told_of self.old }
-        ensures committed { committed_of self.new ≡ committed_of self.old }
-        ensures waiting { waiting_of self.new ≡ waiting_of self.old }
     {
         self.store.give_up_job(job);
     }
@@ -120,9 +87,7 @@ impl<D: Disk, J: Site> Flusher<D, J> {
     /// Puts the milestone that came of a job, as `Store::put_milestone` does. What is held, and what is published, stays.
     pub fn put_milestone(&mut self, alloc: Global, composed: &Composed) -> Result<(), Refusal>
         ensures faults { FailsAtFaults result (store_of self.old) (store_of self.new) }
-        ensures goes { Goes (λ content. FoundAs content (state_of (store_of self.old))) (store_of self.old)
-            (store_of self.new) }
-        ensures state { state_of (store_of self.new) ≡ state_of (store_of self.old) }
+        ensures keeps { KeepsUp self.old self.new }
         ensures done { OnOk result ((is_open : IsOpen (store_of self.old))
             → IsPutNow is_open.cells is_open.table composed.now (store_of self.new)) }
         ensures dropped { OnOk result (kept_jobs (store_of self.new)
@@ -132,10 +97,7 @@ impl<D: Disk, J: Site> Flusher<D, J> {
         ensures jobs { OnErr result (kept_jobs (store_of self.new) ≡ kept_jobs (store_of self.old)) }
         ensures stranger { has_failed (store_of self.old) ≡ false
             → (IsErrOf result Stranger ↔ (¬ Contains (kept_jobs (store_of self.old)) composed.now)) }
-        ensures only { IfErr result (λ e. (e ≡ Stranger) ⊎ ((e ≡ NoMemory) ⊎ (e ≡ Fault))) }
-        ensures told { told_of self.new ≡ told_of self.old }
-        ensures committed { committed_of self.new ≡ committed_of self.old }
-        ensures waiting { waiting_of self.new ≡ waiting_of self.old }
+        ensures only { IfErr result (λ e. IsOneOf e (Stranger ∷ NoMemory ∷ Fault ∷ [])) }
     {
         self.store.put_milestone(alloc, composed)
     }
@@ -144,18 +106,13 @@ impl<D: Disk, J: Site> Flusher<D, J> {
     /// and what is published, stays.
     pub fn put_milestones(&mut self, alloc: Global, composed: &[Composed]) -> Result<usize, Refusal>
         ensures faults { FailsAtFaults result (store_of self.old) (store_of self.new) }
-        ensures goes { Goes (λ content. FoundAs content (state_of (store_of self.old))) (store_of self.old)
-            (store_of self.new) }
-        ensures state { state_of (store_of self.new) ≡ state_of (store_of self.old) }
+        ensures keeps { KeepsUp self.old self.new }
         ensures count { IfOk result (λ count. (count ≤ length composed.now) × (composed.now ≢ [] → 1 ≤ count)) }
         ensures put { IfOk result (λ count. ArePut (take count composed.now) (store_of self.old) (store_of self.new)) }
         ensures untouched { IsErrOf result NoMemory → IsUnchanged (store_of self.old) (store_of self.new) }
         ensures jobs { OnErr result (kept_jobs (store_of self.new) ≡ kept_jobs (store_of self.old)) }
         ensures costs { CostsTogether composed.now (store_of self.old) (store_of self.new) }
         ensures only { IfErr result (λ e. (e ≡ NoMemory) ⊎ (e ≡ Fault)) }
-        ensures told { told_of self.new ≡ told_of self.old }
-        ensures committed { committed_of self.new ≡ committed_of self.old }
-        ensures waiting { waiting_of self.new ≡ waiting_of self.old }
     {
         self.store.put_milestones(alloc, composed)
     }
@@ -163,16 +120,11 @@ impl<D: Disk, J: Site> Flusher<D, J> {
     /// Retires the oldest segment of the store, as `Store::retire` does. It takes no memory. What is held, and what is published, stays.
     pub fn retire(&mut self) -> Result<(), Refusal>
         ensures faults { FailsAtFaults result (store_of self.old) (store_of self.new) }
-        ensures goes { Goes (λ content. FoundAs content (state_of (store_of self.old))) (store_of self.old)
-            (store_of self.new) }
-        ensures state { state_of (store_of self.new) ≡ state_of (store_of self.old) }
+        ensures keeps { KeepsUp self.old self.new }
         ensures retired { OnOk result (IsTaken Retire (store_of self.old) (store_of self.new)) }
         ensures needed { IfErr result (λ e. e ≢ Fault → IsWhy Retire e (store_of self.old)) }
         ensures untouched { IsErrOf result StillNeeded → IsUnchanged (store_of self.old) (store_of self.new) }
         ensures only { IfErr result (λ e. (e ≡ StillNeeded) ⊎ (e ≡ Fault)) }
-        ensures told { told_of self.new ≡ told_of self.old }
-        ensures committed { committed_of self.new ≡ committed_of self.old }
-        ensures waiting { waiting_of self.new ≡ waiting_of self.old }
     {
         self.store.retire()
     }

@@ -4,8 +4,8 @@ ghost use Rattle.world.specs.Board.{settled_more};
 ghost use Rattle.recovery.specs.Found.{commands_of};
 ghost use Rattle.hub.specs.Runs.{MaySettle};
 
-use hub::{Board, Failed, Hub, Settled, Unsettled, Writer};
-use published::{Site, Told};
+use hub::{Board, Failed, Hub, SettleError, Settled, Writer};
+use published::{Life, Told};
 use recovery::Receipt;
 use refusal::Refusal;
 use std::marker::Model;
@@ -14,34 +14,35 @@ use std::sync::Wait;
 /// A batch that was committed and published, and that the board has to settle next: the receipt of its commit, and the token that ends with
 /// it. Only `Flusher::write` makes one. It isn't `Drop`: each one is settled, or the hub is told that the store has failed, or a board of the
 /// same thread has refused it.
-pub struct Written<D, J: Site> {
+pub struct Written<D, L: Life> {
     receipt: Receipt<D>,
-    told: Told<D, J>,
+    told: Told<D, L>,
 }
 
-impl<D, J: Site> Model for Written<D, J> {
+impl<D, L: Life> Model for Written<D, L> {
     ghost use Rattle.std.specs.Prelude.{List};
     ghost use Rattle.revision.specs.Command.{Taken};
+    ghost use Rattle.recovery.specs.Moment.{Receipt as Committed};
 
-    ghost Value = { List Taken × List (List Taken) };
+    ghost Value = { Committed D × List (List Taken) };
 
     ghost view = { λ w. (w.receipt, w.told) };
 }
 
-impl<D, J: Site> Written<D, J> {
+impl<D, L: Life> Written<D, L> {
     /// Settles it at the hub, and gives the receipt of its commit and the hub's token, by which the board has settled what was published up to
     /// this batch. Where the hub refuses it, the hub is told that the store has failed, as `Stranger`; that comes with the hub's token by which
     /// just this batch couldn't be settled by just this token.
     pub fn settle<R: Wait>(
         self,
         rt: &R,
-        hub: &Hub<D, J>,
-        writer: &mut Writer<J>,
-    ) -> Result<(Receipt<D>, Settled<D, J>), (Failed<J>, Unsettled<D, J>)>
+        hub: &Hub<D, L>,
+        writer: &mut Writer<L>,
+    ) -> Result<(Receipt<D>, Settled<D, L>), (Failed<L>, SettleError<D, L>)>
         ensures receipt { IfOk result (λ done. done.0 ≡ self.0) }
         ensures settled { IfOk result (λ done. done.1 ≡ self.1) }
         ensures only { IfErr result (λ both. both.0 ≡ Refusal.Stranger) }
-        ensures batch { IfErr result (λ both. both.1.batch ≡ self.0) }
+        ensures batch { IfErr result (λ both. both.1.batch ≡ self.0.batch) }
         ensures told { IfErr result (λ both. both.1.told ≡ self.1) }
     {
         let Written { receipt, told } = self;
@@ -53,10 +54,10 @@ impl<D, J: Site> Written<D, J> {
 
     /// Settles it on a board of the same thread, as `Board::settle` does. Refused with `Stranger` alone, where it isn't what the board has to
     /// settle next; the board is unchanged then, and the batch, which is on the disk, stays unsettled.
-    pub fn settle_on(self, board: &mut Board<D, J>) -> Result<(), Refusal>
+    pub fn settle_on(self, board: &mut Board<D, L>) -> Result<(), Refusal>
         ensures ok { OnOk result (board.new
-            ≡ record board.old { board = settled_more board.old.board (length self.0); told = self.1 }) }
-        ensures stranger { MaySettle board.old.board self.0 (length (commands_of self.1)) → IsOk result }
+            ≡ record board.old { board = settled_more board.old.board (length self.0.batch); told = self.1 }) }
+        ensures stranger { MaySettle board.old.board self.0.batch (length (commands_of self.1)) → IsOk result }
         ensures only { IfErr result (λ e. e ≡ Refusal.Stranger) }
         ensures unchanged { OnErr result (board.new ≡ board.old) }
     {
@@ -66,9 +67,9 @@ impl<D, J: Site> Written<D, J> {
 }
 
 // What a publish gave, to be settled.
-pub(crate) fn to_settle<D, J: Site>(
-    published: Option<(Receipt<D>, Told<D, J>)>,
-) -> Option<Written<D, J>>
+pub(crate) fn to_settle<D, L: Life>(
+    published: Option<(Receipt<D>, Told<D, L>)>,
+) -> Option<Written<D, L>>
     ensures { result ≡ published }
 {
     match published {

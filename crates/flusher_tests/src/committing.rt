@@ -10,7 +10,7 @@ use disk::MemDisk;
 use fixtures::{command, new_store, wide_command};
 use flusher::{Flusher, OpenGate, start};
 use hub::{Hub, Seat, Writer};
-use published::{Opened, Site};
+use published::{Life, Opened};
 use recovery::Store;
 use refusal::Refusal;
 use revision::Command;
@@ -20,12 +20,12 @@ use std::sync::Wait;
 use std::sync::ledger::Blank;
 
 // Submits a command and holds it as a batch, whose commit alone is answered as it is wanted. Then it is written and settled.
-fn is_committed<J: Site, R: Wait + Abort + AllocGlobal>(
+fn is_committed<L: Life, R: Wait + Abort + AllocGlobal>(
     rt: &R,
-    flusher: &mut Flusher<MemDisk, J>,
-    hub: &Hub<MemDisk, J>,
-    writer: &mut Writer<J>,
-    seat: &mut Seat<J>,
+    flusher: &mut Flusher<MemDisk, L>,
+    hub: &Hub<MemDisk, L>,
+    writer: &mut Writer<L>,
+    seat: &mut Seat<L>,
     next: &Command,
     wanted: Result<(), Refusal>,
 )
@@ -43,20 +43,20 @@ fn is_committed<J: Site, R: Wait + Abort + AllocGlobal>(
     assert!(rt; batch.settle(rt, hub, writer).is_ok());
 }
 
-fn three_batches<J: Site, R: Wait + Abort + AllocGlobal>(
+fn three_batches<L: Life, R: Wait + Abort + AllocGlobal>(
     rt: &R,
     store: Store<MemDisk>,
     opened: Opened,
     blank: Blank,
 )
-    requires book { opened ≡ J.book }
-    requires name { blank.name ≡ J.name }
-    requires parts { blank.parts ≡ J.parts }
+    requires book { opened ≡ L.book }
+    requires name { blank.name ≡ L.name }
+    requires parts { blank.parts ≡ L.parts }
     requires seats { blank.parts ≡ 2 }
-    requires begin { state_of store ≡ J.start }
+    requires begin { state_of store ≡ L.start }
 {
     let alloc = rt.alloc();
-    let (mut flusher, mut board) = match start::<_, J>(alloc, store, opened, blank, 1) {
+    let (mut flusher, mut board) = match start::<_, L>(alloc, store, opened, blank, 1) {
         Ok(both) => both,
         Err(fault) => panic!(rt; "{}", fault.refusal),
     };

@@ -8,7 +8,7 @@ use disk::{Disk, MemDisk};
 use fixtures::{command, new_device, new_store, wide_command, write};
 use flusher::{Flusher, OpenGate, start};
 use hub::{Board, Hub, Writer};
-use published::{Opened, Site};
+use published::{Life, Opened};
 use recovery::{Shape, Store};
 use revision::Command;
 use std::marker::Brand;
@@ -33,19 +33,19 @@ pub const ROOMY: Shape = Shape {
 pub const TURNS: u64 = 20_000;
 
 /// A flusher and a board of a store.
-pub fn started<J: Site>(
+pub fn started<L: Life>(
     rt: &(impl Abort + AllocGlobal),
     store: Store<MemDisk>,
     opened: Opened,
     blank: Blank,
-) -> (Flusher<MemDisk, J>, Board<MemDisk, J>)
-    requires book { opened ≡ J.book }
-    requires name { blank.name ≡ J.name }
-    requires parts { blank.parts ≡ J.parts }
+) -> (Flusher<MemDisk, L>, Board<MemDisk, L>)
+    requires book { opened ≡ L.book }
+    requires name { blank.name ≡ L.name }
+    requires parts { blank.parts ≡ L.parts }
     requires seats { blank.parts ≡ 2 }
-    requires begin { state_of store ≡ J.start }
+    requires begin { state_of store ≡ L.start }
 {
-    match start::<_, J>(rt.alloc(), store, opened, blank, 1) {
+    match start::<_, L>(rt.alloc(), store, opened, blank, 1) {
         Ok(both) => both,
         Err(fault) => panic!(rt; "{}", fault.refusal),
     }
@@ -53,11 +53,11 @@ pub fn started<J: Site>(
 
 // Makes turns in which nothing is to be written, until a milestone of the only document is put. Its revision is 9, and each fourth one is a
 // multiple: so the milestone is at 8, where a job for each ninth is due, and none for each eighth.
-fn turned<J: Site, R: Wait + Clock + AllocGlobal>(
+fn turned<L: Life, R: Wait + Clock + AllocGlobal>(
     rt: &R,
-    flusher: &mut Flusher<MemDisk, J>,
-    hub: &Hub<MemDisk, J>,
-    writer: &mut Writer<J>,
+    flusher: &mut Flusher<MemDisk, L>,
+    hub: &Hub<MemDisk, L>,
+    writer: &mut Writer<L>,
     ends: Composers,
 ) -> bool {
     let alloc = rt.alloc();
@@ -74,19 +74,19 @@ fn turned<J: Site, R: Wait + Clock + AllocGlobal>(
     false
 }
 
-fn composed_beside<J: Site + Send + Sync, R: Threads + Wait + Clock + Abort + AllocGlobal + Sync>(
+fn composed_beside<L: Life + Send + Sync, R: Threads + Wait + Clock + Abort + AllocGlobal + Sync>(
     rt: &R,
     store: Store<MemDisk>,
     opened: Opened,
     blank: Blank,
 ) -> MemDisk
-    requires book { opened ≡ J.book }
-    requires name { blank.name ≡ J.name }
-    requires parts { blank.parts ≡ J.parts }
+    requires book { opened ≡ L.book }
+    requires name { blank.name ≡ L.name }
+    requires parts { blank.parts ≡ L.parts }
     requires seats { blank.parts ≡ 2 }
-    requires begin { state_of store ≡ J.start }
+    requires begin { state_of store ≡ L.start }
 {
-    let (mut flusher, board) = started::<J>(rt, store, opened, blank);
+    let (mut flusher, board) = started::<L>(rt, store, opened, blank);
     let (hub, mut writer, _closer) = Hub::new(board);
     let (ends, first, second) = channels(rt.alloc()).expect(rt, "memory");
     let (_ended, put) = join(
@@ -112,28 +112,28 @@ fn a_document_that_was_opened_gets_a_milestone(rt: HostRuntime) {
 }
 
 // Puts both milestones of the only document at revision 2.
-fn put_both<J: Site>(rt: &(impl Abort + AllocGlobal), flusher: &mut Flusher<MemDisk, J>) {
+fn put_both<L: Life>(rt: &(impl Abort + AllocGlobal), flusher: &mut Flusher<MemDisk, L>) {
     for _ in 0..2u8 {
         assert!(rt; flusher.put_document(rt.alloc(), 0, 2).is_ok());
     }
 }
 
 // Makes a turn for each of these commands, with no composers. After the second both milestones of the only document are put.
-fn retired_before<J: Site, R: Wait + Abort + AllocGlobal>(
+fn retired_before<L: Life, R: Wait + Abort + AllocGlobal>(
     rt: &R,
     store: Store<MemDisk>,
     opened: Opened,
     blank: Blank,
     turns: &[Command],
 ) -> MemDisk
-    requires book { opened ≡ J.book }
-    requires name { blank.name ≡ J.name }
-    requires parts { blank.parts ≡ J.parts }
+    requires book { opened ≡ L.book }
+    requires name { blank.name ≡ L.name }
+    requires parts { blank.parts ≡ L.parts }
     requires seats { blank.parts ≡ 2 }
-    requires begin { state_of store ≡ J.start }
+    requires begin { state_of store ≡ L.start }
 {
     let alloc = rt.alloc();
-    let (mut flusher, mut board) = started::<J>(rt, store, opened, blank);
+    let (mut flusher, mut board) = started::<L>(rt, store, opened, blank);
     let mut seat = board.seat().expect(rt, "a seat");
     let (hub, mut writer, _closer) = Hub::new(board);
     let mut upkeep = Upkeep::new(alloc, 0, None, flusher.state());

@@ -9,7 +9,7 @@ use fixtures::new_store;
 use flusher::{Flusher, start};
 use lives::drive;
 use milestone::compose_job;
-use published::{Opened, Site};
+use published::{Life, Opened};
 use recovery::Store;
 use refusal::Refusal;
 use revision::Reply::Taken;
@@ -24,7 +24,7 @@ const CREATED: [Row; 2] = [
 ];
 
 // The job of the document's first revision is composed and put, once.
-fn is_put<D: Disk, J: Site>(rt: &(impl Abort + AllocGlobal), flusher: &mut Flusher<D, J>) {
+fn is_put<D: Disk, L: Life>(rt: &(impl Abort + AllocGlobal), flusher: &mut Flusher<D, L>) {
     let alloc = rt.alloc();
     let job = flusher.milestone_job(alloc, 0, 1).expect(rt, "a job");
     match compose_job(alloc, job) {
@@ -39,21 +39,21 @@ fn is_put<D: Disk, J: Site>(rt: &(impl Abort + AllocGlobal), flusher: &mut Flush
     }
 }
 
-fn put_after_the_create<J: Site, R: Wait + Abort + AllocGlobal>(
+fn put_after_the_create<L: Life, R: Wait + Abort + AllocGlobal>(
     rt: &R,
     store: Store<MemDisk>,
     opened: Opened,
     blank: Blank,
 ) -> MemDisk
-    requires book { opened ≡ J.book }
-    requires name { blank.name ≡ J.name }
-    requires parts { blank.parts ≡ J.parts }
+    requires book { opened ≡ L.book }
+    requires name { blank.name ≡ L.name }
+    requires parts { blank.parts ≡ L.parts }
     requires seats { blank.parts ≡ 2 }
-    requires begin { state_of store ≡ J.start }
+    requires begin { state_of store ≡ L.start }
     requires works { has_failed store ≡ false }
 {
     let alloc = rt.alloc();
-    let (mut flusher, mut board) = match start::<_, J>(alloc, store, opened, blank, 1) {
+    let (mut flusher, mut board) = match start::<_, L>(alloc, store, opened, blank, 1) {
         Ok(both) => both,
         Err(fault) => panic!(rt; "{}", fault.refusal),
     };

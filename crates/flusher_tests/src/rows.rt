@@ -7,7 +7,7 @@ use fixtures::{command, wide_command};
 use flusher::start;
 use hub::Ticket;
 use lives::{Answer, Call, Driven, drive};
-use published::{Opened, Site};
+use published::{Life, Opened};
 use recovery::{Shape, Store};
 use refusal::Refusal;
 use revision::Reply;
@@ -81,14 +81,14 @@ pub fn calls_of(rt: &(impl Abort + AllocGlobal), rows: &[Row]) -> Vec<Call> {
     calls
 }
 
-fn ordered<J: Site>(tickets: &[Ticket<J>], at: usize) -> Gives {
+fn ordered<L: Life>(tickets: &[Ticket<L>], at: usize) -> Gives {
     match tickets.get(at) {
         Some(ticket) => Gives::Ordered(at, ticket.reply(), ticket.length()),
         None => Gives::NoTicket,
     }
 }
 
-fn given<D, J: Site>(answer: &Answer<D, J>, tickets: &[Ticket<J>]) -> Gives {
+fn given<D, L: Life>(answer: &Answer<D, L>, tickets: &[Ticket<L>]) -> Gives {
     match answer {
         Answer::Submitted(at) => ordered(tickets, *at),
         Answer::Turned(count) => Gives::Settled(*count),
@@ -101,9 +101,9 @@ fn given<D, J: Site>(answer: &Answer<D, J>, tickets: &[Ticket<J>]) -> Gives {
 }
 
 /// So many of the rows are answered, and then the run stops by this.
-pub fn is_answered<D, J: Site>(
+pub fn is_answered<D, L: Life>(
     rt: &impl Abort,
-    run: &Driven<D, J>,
+    run: &Driven<D, L>,
     rows: &[Row],
     count: usize,
     stopped: Option<Refusal>,
@@ -116,7 +116,7 @@ pub fn is_answered<D, J: Site>(
 }
 
 // A run from a store that was just opened, where so many rows are answered. The device comes back.
-fn driven<D: Disk + Drop, J: Site, R: Wait + Abort + AllocGlobal>(
+fn driven<D: Disk + Drop, L: Life, R: Wait + Abort + AllocGlobal>(
     rt: &R,
     store: Store<D>,
     opened: Opened,
@@ -125,15 +125,15 @@ fn driven<D: Disk + Drop, J: Site, R: Wait + Abort + AllocGlobal>(
     count: usize,
     stopped: Option<Refusal>,
 ) -> D
-    requires book { opened ≡ J.book }
-    requires name { blank.name ≡ J.name }
-    requires parts { blank.parts ≡ J.parts }
+    requires book { opened ≡ L.book }
+    requires name { blank.name ≡ L.name }
+    requires parts { blank.parts ≡ L.parts }
     requires seats { blank.parts ≡ 2 }
-    requires begin { state_of store ≡ J.start }
+    requires begin { state_of store ≡ L.start }
     requires works { has_failed store ≡ false }
 {
     let alloc = rt.alloc();
-    let (mut flusher, mut board) = match start::<_, J>(alloc, store, opened, blank, 1) {
+    let (mut flusher, mut board) = match start::<_, L>(alloc, store, opened, blank, 1) {
         Ok(both) => both,
         Err(fault) => panic!(rt; "{}", fault.refusal),
     };

@@ -9,7 +9,7 @@ use disk::MemDisk;
 use fixtures::{command, new_store, newest};
 use flusher::{Flusher, Gate, Moment, start};
 use hub::{Hub, Seat, Writer};
-use published::{Opened, Site, Told};
+use published::{Life, Opened, Told};
 use recovery::Store;
 use refusal::Refusal;
 use revision::Name;
@@ -21,14 +21,14 @@ use view::Viewer;
 
 /// Notes what a reader is shown at each of a write's two moments. Another reader learns what was acknowledged.
 #[derive(Drop)]
-struct Looks<J: Site> {
-    viewer: Viewer<MemDisk, J>,
-    learner: Viewer<MemDisk, J>,
+struct Looks<L: Life> {
+    viewer: Viewer<MemDisk, L>,
+    learner: Viewer<MemDisk, L>,
     before: Result<u64, Refusal>,
     after: Result<u64, Refusal>,
 }
 
-impl<J: Site> Gate for Looks<J> {
+impl<L: Life> Gate for Looks<L> {
     fn pass(&mut self, at: Moment) {
         let shown = self.viewer.read(newest);
         match at {
@@ -40,11 +40,11 @@ impl<J: Site> Gate for Looks<J> {
 
 /// Takes the one command that was submitted off the board, and holds it.
 #[tactic(auto, using(crate::proofs::Fitting::fits_slot))]
-pub fn hold_next<J: Site, R: Wait + Abort + AllocGlobal>(
+pub fn hold_next<L: Life, R: Wait + Abort + AllocGlobal>(
     rt: &R,
-    flusher: &mut Flusher<MemDisk, J>,
-    hub: &Hub<MemDisk, J>,
-    writer: &mut Writer<J>,
+    flusher: &mut Flusher<MemDisk, L>,
+    hub: &Hub<MemDisk, L>,
+    writer: &mut Writer<L>,
 )
     requires nothing { (committed_of flusher.old ≡ []) × (waiting_of flusher.old ≡ []) }
 {
@@ -59,13 +59,13 @@ pub fn hold_next<J: Site, R: Wait + Abort + AllocGlobal>(
 }
 
 // Submits the next command, and writes and settles it: its reader was shown the revision before it until then, and is shown it now.
-fn is_shown<J: Site, R: Wait + Abort + AllocGlobal>(
+fn is_shown<L: Life, R: Wait + Abort + AllocGlobal>(
     rt: &R,
-    flusher: &mut Flusher<MemDisk, J>,
-    hub: &Hub<MemDisk, J>,
-    writer: &mut Writer<J>,
-    seat: &mut Seat<J>,
-    gate: &mut Looks<J>,
+    flusher: &mut Flusher<MemDisk, L>,
+    hub: &Hub<MemDisk, L>,
+    writer: &mut Writer<L>,
+    seat: &mut Seat<L>,
+    gate: &mut Looks<L>,
     number: u64,
 )
     requires nothing { (committed_of flusher.old ≡ []) × (waiting_of flusher.old ≡ []) }
@@ -86,10 +86,10 @@ fn is_shown<J: Site, R: Wait + Abort + AllocGlobal>(
 
 // Who learns the token shows this revision from then on, and so does a reader that didn't learn it. With a floor of 0 each revision before it can
 // be had, with the deltas since.
-fn learns<J: Site>(
+fn learns<L: Life>(
     rt: &(impl Abort + AllocGlobal),
-    gate: &mut Looks<J>,
-    told: Told<MemDisk, J>,
+    gate: &mut Looks<L>,
+    told: Told<MemDisk, L>,
     number: u64,
 ) {
     gate.learner.learn(&told);
@@ -107,19 +107,19 @@ fn learns<J: Site>(
     assert_eq!(rt; deltas.len(), 1);
 }
 
-fn two_batches<J: Site, R: Wait + Abort + AllocGlobal>(
+fn two_batches<L: Life, R: Wait + Abort + AllocGlobal>(
     rt: &R,
     store: Store<MemDisk>,
     opened: Opened,
     blank: Blank,
 )
-    requires book { opened ≡ J.book }
-    requires name { blank.name ≡ J.name }
-    requires parts { blank.parts ≡ J.parts }
+    requires book { opened ≡ L.book }
+    requires name { blank.name ≡ L.name }
+    requires parts { blank.parts ≡ L.parts }
     requires seats { blank.parts ≡ 2 }
-    requires begin { state_of store ≡ J.start }
+    requires begin { state_of store ≡ L.start }
 {
-    let (mut flusher, mut board) = match start::<_, J>(rt.alloc(), store, opened, blank, 1) {
+    let (mut flusher, mut board) = match start::<_, L>(rt.alloc(), store, opened, blank, 1) {
         Ok(both) => both,
         Err(fault) => panic!(rt; "{}", fault.refusal),
     };

@@ -8,7 +8,7 @@ use disk::MemDisk;
 use fixtures::{command, new_store};
 use flusher::{Flusher, Gate, Moment, start};
 use hub::{Board, Closer, Hub, Seat, Writer};
-use published::{Opened, Site};
+use published::{Life, Opened};
 use recovery::Store;
 use refusal::Refusal;
 use std::alloc::Global;
@@ -25,14 +25,14 @@ const LOOKS: u64 = 10_000_000;
 
 /// Holds the flusher before its first commit until the order has a second command.
 #[derive(Drop)]
-struct UntilSecond<'a, J: Site, R> {
+struct UntilSecond<'a, L: Life, R> {
     rt: &'a R,
-    hub: &'a Hub<MemDisk, J>,
+    hub: &'a Hub<MemDisk, L>,
     reached: &'a AtomicBool,
     saw: bool,
 }
 
-impl<'a, J: Site, R: Wait> Gate for UntilSecond<'a, J, R> {
+impl<'a, L: Life, R: Wait> Gate for UntilSecond<'a, L, R> {
     fn pass(&mut self, at: Moment) {
         if self.saw || at == Moment::AfterCommit {
             return;
@@ -61,11 +61,11 @@ fn wait_for(reached: &AtomicBool) -> bool {
 
 // Submits the first command, and by another seat the second one, once the flusher is at the gate with the first. Both are acknowledged
 // then; the last token's commands are counted.
-fn submitted<J: Site, R: Wait + Abort + AllocGlobal>(
+fn submitted<L: Life, R: Wait + Abort + AllocGlobal>(
     rt: &R,
-    hub: &Hub<MemDisk, J>,
-    one: &mut Seat<J>,
-    other: &mut Seat<J>,
+    hub: &Hub<MemDisk, L>,
+    one: &mut Seat<L>,
+    other: &mut Seat<L>,
     reached: &AtomicBool,
 ) -> u64 {
     let alloc = rt.alloc();
@@ -79,12 +79,12 @@ fn submitted<J: Site, R: Wait + Abort + AllocGlobal>(
 }
 
 // Submits both, and then ends the hub.
-fn submitted_all<J: Site, R: Wait + Abort + AllocGlobal>(
+fn submitted_all<L: Life, R: Wait + Abort + AllocGlobal>(
     rt: &R,
-    hub: &Hub<MemDisk, J>,
-    closer: &mut Closer<J>,
-    one: &mut Seat<J>,
-    other: &mut Seat<J>,
+    hub: &Hub<MemDisk, L>,
+    closer: &mut Closer<L>,
+    one: &mut Seat<L>,
+    other: &mut Seat<L>,
     reached: &AtomicBool,
 ) -> u64 {
     let held = submitted(rt, hub, one, other, reached);
@@ -94,12 +94,12 @@ fn submitted_all<J: Site, R: Wait + Abort + AllocGlobal>(
 
 // Writes all that is ordered; whether the order had a second command while the first was
 // written.
-fn flushed<J: Site, R: Wait>(
+fn flushed<L: Life, R: Wait>(
     rt: &R,
     alloc: Global,
-    flusher: &mut Flusher<MemDisk, J>,
-    hub: &Hub<MemDisk, J>,
-    writer: &mut Writer<J>,
+    flusher: &mut Flusher<MemDisk, L>,
+    hub: &Hub<MemDisk, L>,
+    writer: &mut Writer<L>,
     reached: &AtomicBool,
 ) -> Result<bool, Refusal> {
     let mut gate = UntilSecond {
@@ -114,38 +114,38 @@ fn flushed<J: Site, R: Wait>(
     }
 }
 
-fn started<J: Site, R: Abort + AllocGlobal>(
+fn started<L: Life, R: Abort + AllocGlobal>(
     rt: &R,
     store: Store<MemDisk>,
     opened: Opened,
     blank: Blank,
-) -> (Flusher<MemDisk, J>, Board<MemDisk, J>)
-    requires book { opened ≡ J.book }
-    requires name { blank.name ≡ J.name }
-    requires parts { blank.parts ≡ J.parts }
+) -> (Flusher<MemDisk, L>, Board<MemDisk, L>)
+    requires book { opened ≡ L.book }
+    requires name { blank.name ≡ L.name }
+    requires parts { blank.parts ≡ L.parts }
     requires seats { blank.parts ≡ 3 }
-    requires begin { state_of store ≡ J.start }
+    requires begin { state_of store ≡ L.start }
 {
-    match start::<_, J>(rt.alloc(), store, opened, blank, 2) {
+    match start::<_, L>(rt.alloc(), store, opened, blank, 2) {
         Ok(both) => both,
         Err(fault) => panic!(rt; "{}", fault.refusal),
     }
 }
 
-fn beside<J: Site + Send + Sync, R: Threads + Wait + Abort + AllocGlobal + Sync>(
+fn beside<L: Life + Send + Sync, R: Threads + Wait + Abort + AllocGlobal + Sync>(
     rt: &R,
     store: Store<MemDisk>,
     opened: Opened,
     blank: Blank,
 )
-    requires book { opened ≡ J.book }
-    requires name { blank.name ≡ J.name }
-    requires parts { blank.parts ≡ J.parts }
+    requires book { opened ≡ L.book }
+    requires name { blank.name ≡ L.name }
+    requires parts { blank.parts ≡ L.parts }
     requires seats { blank.parts ≡ 3 }
-    requires begin { state_of store ≡ J.start }
+    requires begin { state_of store ≡ L.start }
 {
     let alloc = rt.alloc();
-    let (mut flusher, mut board) = started::<J, R>(rt, store, opened, blank);
+    let (mut flusher, mut board) = started::<L, R>(rt, store, opened, blank);
     let mut one = board.seat().expect(rt, "a seat");
     let mut other = board.seat().expect(rt, "a seat");
     let (hub, mut writer, mut closer) = Hub::new(board);

@@ -9,7 +9,7 @@ use disk::{Disk, MemDisk};
 use fixtures::{command, commit_taken, new_store, open_store, wide_command, write};
 use flusher::{Flusher, OpenGate};
 use hub::{Hub, Seat, Writer};
-use published::{Opened, Site};
+use published::{Life, Opened};
 use recovery::{Pick, Shape, Store};
 use refusal::Refusal;
 use revision::{Action, Command, Name, Plan};
@@ -94,11 +94,11 @@ fn store_with(rt: &(impl Abort + AllocGlobal), shape: Shape, documents: u32) -> 
 }
 
 // Makes a turn.
-fn turn<J: Site, R: Wait + Abort + AllocGlobal>(
+fn turn<L: Life, R: Wait + Abort + AllocGlobal>(
     rt: &R,
-    flusher: &mut Flusher<MemDisk, J>,
-    hub: &Hub<MemDisk, J>,
-    writer: &mut Writer<J>,
+    flusher: &mut Flusher<MemDisk, L>,
+    hub: &Hub<MemDisk, L>,
+    writer: &mut Writer<L>,
     upkeep: &mut Upkeep,
 ) {
     let turned = flush_turn(rt, rt.alloc(), flusher, hub, writer, upkeep, &mut OpenGate);
@@ -107,11 +107,11 @@ fn turn<J: Site, R: Wait + Abort + AllocGlobal>(
 
 // Makes a turn in which nothing is to be written. No segment is left after it that could be retired, and no job of the first document is due
 // that isn't out.
-fn idle_turn<J: Site, R: Wait + Abort + AllocGlobal>(
+fn idle_turn<L: Life, R: Wait + Abort + AllocGlobal>(
     rt: &R,
-    flusher: &mut Flusher<MemDisk, J>,
-    hub: &Hub<MemDisk, J>,
-    writer: &mut Writer<J>,
+    flusher: &mut Flusher<MemDisk, L>,
+    hub: &Hub<MemDisk, L>,
+    writer: &mut Writer<L>,
     upkeep: &mut Upkeep,
     every: u32,
 )
@@ -123,12 +123,12 @@ fn idle_turn<J: Site, R: Wait + Abort + AllocGlobal>(
 }
 
 // Makes a turn for each command.
-fn write_commands<J: Site, R: Wait + Abort + AllocGlobal>(
+fn write_commands<L: Life, R: Wait + Abort + AllocGlobal>(
     rt: &R,
-    flusher: &mut Flusher<MemDisk, J>,
-    hub: &Hub<MemDisk, J>,
-    writer: &mut Writer<J>,
-    seat: &mut Seat<J>,
+    flusher: &mut Flusher<MemDisk, L>,
+    hub: &Hub<MemDisk, L>,
+    writer: &mut Writer<L>,
+    seat: &mut Seat<L>,
     upkeep: &mut Upkeep,
     work: &Work,
 ) {
@@ -145,7 +145,7 @@ fn write_commands<J: Site, R: Wait + Abort + AllocGlobal>(
 }
 
 // Each document has its milestone at the revision before its last one: a job to the last one would be due, and none to that one.
-fn are_put<J: Site>(flusher: &Flusher<MemDisk, J>, last: u64) -> bool
+fn are_put<L: Life>(flusher: &Flusher<MemDisk, L>, last: u64) -> bool
     requires { 2 ≤ last }
 {
     let mut document = 0;
@@ -162,7 +162,7 @@ fn are_put<J: Site>(flusher: &Flusher<MemDisk, J>, last: u64) -> bool
 
 // Makes turns for all commands, and two more, while the composers hold what they have taken. Then these may go on, and turns are made until
 // all milestones are put.
-fn turned<J: Site, R: Wait + Clock + Abort + AllocGlobal>(
+fn turned<L: Life, R: Wait + Clock + Abort + AllocGlobal>(
     rt: &R,
     store: Store<MemDisk>,
     opened: Opened,
@@ -171,16 +171,16 @@ fn turned<J: Site, R: Wait + Clock + Abort + AllocGlobal>(
     is_open: &AtomicBool,
     work: &Work,
 ) -> MemDisk
-    requires book { opened ≡ J.book }
-    requires name { blank.name ≡ J.name }
-    requires parts { blank.parts ≡ J.parts }
+    requires book { opened ≡ L.book }
+    requires name { blank.name ≡ L.name }
+    requires parts { blank.parts ≡ L.parts }
     requires seats { blank.parts ≡ 2 }
-    requires begin { state_of store ≡ J.start }
+    requires begin { state_of store ≡ L.start }
 {
     let every = work.every;
     let last = work.last;
     assert!(rt; 1 <= every && 2 <= last);
-    let (mut flusher, mut board) = started::<J>(rt, store, opened, blank);
+    let (mut flusher, mut board) = started::<L>(rt, store, opened, blank);
     let mut seat = board.seat().expect(rt, "a seat");
     let (hub, mut writer, _closer) = Hub::new(board);
     let mut upkeep = Upkeep::new(rt.alloc(), every, Some(ends), flusher.state());
@@ -314,19 +314,19 @@ fn the_turn_that_puts_a_milestone_retires_what_waits_for_it(rt: HostRuntime) {
 }
 
 // Makes turns while nobody takes from the channel, and more once the composers' ends are gone.
-fn alone<J: Site, R: Wait + Abort + AllocGlobal>(
+fn alone<L: Life, R: Wait + Abort + AllocGlobal>(
     rt: &R,
     store: Store<MemDisk>,
     opened: Opened,
     blank: Blank,
 ) -> MemDisk
-    requires book { opened ≡ J.book }
-    requires name { blank.name ≡ J.name }
-    requires parts { blank.parts ≡ J.parts }
+    requires book { opened ≡ L.book }
+    requires name { blank.name ≡ L.name }
+    requires parts { blank.parts ≡ L.parts }
     requires seats { blank.parts ≡ 2 }
-    requires begin { state_of store ≡ J.start }
+    requires begin { state_of store ≡ L.start }
 {
-    let (mut flusher, board) = started::<J>(rt, store, opened, blank);
+    let (mut flusher, board) = started::<L>(rt, store, opened, blank);
     let (hub, mut writer, _closer) = Hub::new(board);
     let (ends, first, second) = channels(rt.alloc()).expect(rt, "memory");
     let mut upkeep = Upkeep::new(rt.alloc(), 4, Some(ends), flusher.state());

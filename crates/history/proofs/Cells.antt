@@ -17,19 +17,19 @@ use Rattle.history.proofs.Showing.{shows-itself, next-revision, newest-after, ne
 use Rattle.history.proofs.Counting.{of_document-append, continue-split}
 
 -- the cells of a document, and those of the others
-pair-own : (number : ℕ) (pair : Pair) (cells : List Pair) → number < length cells → cells_at (with_pair number pair cells) number ≡ pair
+pub pair-own : (number : ℕ) (pair : Pair) (cells : List Pair) → number < length cells → cells_at (with_pair number pair cells) number ≡ pair
 pair-own number pair [] lt = absurd (omega (arith, lt))
 pair-own zero pair (first ∷ others) lt = refl
 pair-own (suc number) pair (first ∷ others) lt = pair-own number pair others (omega (arith, lt))
 
-pair-other : (number : ℕ) (pair : Pair) (cells : List Pair) (other : ℕ) → (number ≡ other → ⊥) → cells_at (with_pair number pair cells) other ≡ cells_at cells other
+pub pair-other : (number : ℕ) (pair : Pair) (cells : List Pair) (other : ℕ) → (number ≡ other → ⊥) → cells_at (with_pair number pair cells) other ≡ cells_at cells other
 pair-other number pair [] other differ = refl
 pair-other zero pair (first ∷ others) zero differ = absurd (differ refl)
 pair-other zero pair (first ∷ others) (suc other) differ = refl
 pair-other (suc number) pair (first ∷ others) zero differ = refl
 pair-other (suc number) pair (first ∷ others) (suc other) differ = pair-other number pair others other (λ e. differ (ap suc e))
 
-length-with_pair : (number : ℕ) (pair : Pair) (cells : List Pair) → length (with_pair number pair cells) ≡ length cells
+pub length-with_pair : (number : ℕ) (pair : Pair) (cells : List Pair) → length (with_pair number pair cells) ≡ length cells
 length-with_pair number pair [] = refl
 length-with_pair zero pair (first ∷ others) = refl
 length-with_pair (suc number) pair (first ∷ others) = ap suc (length-with_pair number pair others)
@@ -56,13 +56,13 @@ changes_cells order cells entries state number pair runs lt of covers = record {
   covered = at-each (λ n p. newest_revision (base_at order n) + length (of_document n runs.retired) ≤ lowest p) number pair cells lt (omega (arith, runs.covered number, covers)) runs.covered;
 }
 
-freed-of : (P : Cell → Type 0) (pair : Pair) → OfBoth P pair → OfBoth P (freed pair)
+pub freed-of : (P : Cell → Type 0) (pair : Pair) → OfBoth P pair → OfBoth P (freed pair)
 freed-of P (None, second) both = both
 freed-of P (Some first, None) both = both
 freed-of P (Some first, Some second) both =
     cond_both (nat_lt second.revision first.revision) (Some first, None) (None, Some second) (OfBoth P) (λ e. (both.0, tt)) (λ e. (tt, both.1))
 
-freed-lowest : (pair : Pair) → lowest pair ≤ lowest (freed pair)
+pub freed-lowest : (pair : Pair) → lowest pair ≤ lowest (freed pair)
 freed-lowest (None, second) = omega arith
 freed-lowest (Some first, None) = omega arith
 freed-lowest (Some first, Some second) =
@@ -181,7 +181,7 @@ pub covered_by_greatest : CoveredByGreatest
 covered_by_greatest cells entries = (covered-greatest cells entries, greatest-covered cells entries)
 
 -- a store without commands
-none-open : (count number : ℕ) → cells_at (replicate count no_cells) number ≡ no_cells
+pub none-open : (count number : ℕ) → cells_at (replicate count no_cells) number ≡ no_cells
 none-open zero number = refl
 none-open (suc count) zero = refl
 none-open (suc count) (suc number) = none-open count number

@@ -6,8 +6,7 @@ use Rattle.std.proofs.lemmas.List.{append_assoc, take-append-le}
 use Rattle.std.proofs.lemmas.Option.{slice_get_within}
 use Rattle.revision.specs.Command.{Taken}
 use Rattle.revision.specs.State.{Limits, DocumentRecord, State, find, continues_by_name, continues, record_by_name, record_after, all_continue, record_after_all, has_room, grows, set_document, grown, all_grow, fold}
-use Rattle.revision.specs.Invariants.{IsState}
-use Rattle.revision.proofs.CallerLemmas.{growing_keeps, agreeing_continue}
+use Rattle.revision.proofs.CallerLemmas.{agreeing_continue}
 use Rattle.history.specs.Entries.{of_document}
 use Rattle.history.specs.Cell.{Cell, CellKeeps, record_of_cell, cells_at, OfOpen, OfBoth}
 use Rattle.history.specs.Shown.{base_at, whole_at, whole_of, PlacesShow}
@@ -15,6 +14,7 @@ use Rattle.history.specs.Running.{IsCellOf}
 use Rattle.history.specs.Law.{GrowsByDocuments, Commits}
 use Rattle.history.proofs.Showing.{places-itself, record-all, records-agree, whole-append}
 use Rattle.history.proofs.Counting.{after-append, of_document-append, continue-join}
+pub use Rattle.revision.proofs.CallerLemmas.{limits-fold, all_keep as fold-is-state}
 
 -- a document set, and the others
 set-own : (number : ℕ) (document : DocumentRecord) (documents : List DocumentRecord) → number ≤ length documents
@@ -86,16 +86,6 @@ grows_by_documents state (first ∷ others) h number =
           ∙ (sym (after-append state.limits.keep (slice_get state.documents number) (one_of number first) (of_document number others))
           ∙ ap (record_after_all state.limits.keep (slice_get state.documents number)) (sym split))),
     )
-
-pub limits-fold : (state : State) (commands : List Taken) → (fold state commands).limits ≡ state.limits
-limits-fold state [] = refl
-limits-fold state (first ∷ others) = limits-fold (grown state first) others
-
-pub fold-is-state : (state : State) (commands : List Taken) → IsState state → all_grow state commands ≡ true → IsState (fold state commands)
-fold-is-state state [] is h = is
-fold-is-state state (first ∷ others) is h =
-    let parts = and_parts (grows state first) (all_grow (grown state first) others) h in
-    fold-is-state (grown state first) others (growing_keeps state first is parts.0) parts.1
 
 -- a cell of a document stays one as the document continues
 pub cell-longer : (base : Option DocumentRecord) (commands others : List Taken) (cell : Cell) → IsCellOf base commands cell → IsCellOf base (commands ++ others) cell

@@ -10,10 +10,10 @@ use Rattle.revision.specs.Floors.{longer}
 use Rattle.revision.specs.State.{Limits, DocumentRecord, revision_of, newest_revision, change_of, continues, record_after, all_continue}
 use Rattle.revision.proofs.CallerLemmas.{from_longer}
 use Rattle.history.specs.Entries.{of_document}
-use Rattle.history.specs.Cell.{Cell, Pair, cell_of, record_of_cell}
+use Rattle.history.specs.Cell.{Cell, cell_of, record_of_cell}
 use Rattle.history.specs.Found.{started}
-use Rattle.history.specs.Shown.{longer_by, whole_after, whole_of, Order, base_at, whole_at, Shows, PlacesShow}
-use Rattle.history.specs.Running.{IsCellOf, IsCellAt, Runs}
+use Rattle.history.specs.Shown.{longer_by, whole_after, whole_of, base_at, whole_at, Shows, PlacesShow}
+use Rattle.history.specs.Running.{IsCellOf, IsCellAt}
 use Rattle.history.specs.Law.{HeldIsCell, CellsStay}
 use Rattle.history.proofs.Showing.{newest-longer, newest-shown, newest-after, record-more, places-itself, from-shown, revision-shown}
 use Rattle.history.proofs.Counting.{of_document-append}

@@ -39,10 +39,10 @@ nothing (suc n) = refl
 cell-units : (cell : Cell) → (content_of (record_of_cell cell)).units ≡ cell.content.units
 cell-units cell = ap (applied cell.content.units) (nothing (cell.revision + 0 - cell.revision))
 
-cell-content : (cell : Cell) → content_of (record_of_cell cell) ≡ cell.content
+pub cell-content : (cell : Cell) → content_of (record_of_cell cell) ≡ cell.content
 cell-content cell = ap (λ (u : List Element). record { units = u; live = cell.content.live }) (cell-units cell)
 
-cell-sources : (cell : Cell) → sources_of (record_of_cell cell) ≡ cell.sources
+pub cell-sources : (cell : Cell) → sources_of (record_of_cell cell) ≡ cell.sources
 cell-sources cell = ap (sources_after cell.revision cell.sources) (nothing (cell.revision + 0 - cell.revision))
 
 -- a cell that agrees with a document that keeps the limits keeps them

@@ -1,10 +1,8 @@
 -- States that the parts of a store stand for.
-use Rattle.std.proofs.Common.{◌≡◌, ℕ, suc, List, [], ◌∷◌, Some, refl, sym, ap, ◌∙◌}
-use Rattle.std.specs.Prelude.{unwrap_or, slice_get}
+use Rattle.std.proofs.Common.{◌≡◌, ℕ, suc, List, [], ◌∷◌, refl, sym, ◌∙◌}
+use Rattle.std.specs.Prelude.{slice_get}
 use Rattle.history.specs.Law.{AtMostOne}
-
-some_is : {A : Type 0} (x y : A) → Some x ≡ Some y → x ≡ y
-some_is x y h = ap (λ o. unwrap_or o x) h
+use Rattle.std.proofs.lemmas.Option.{same_Some}
 
 -- lists that are equal at each place
 pub same_list : {A : Type 0} (xs ys : List A) → ((number : ℕ) → slice_get xs number ≡ slice_get ys number) → xs ≡ ys
@@ -12,7 +10,7 @@ same_list [] [] each = refl
 same_list [] (y ∷ ys) each = let first = each 0 in absurd (cc)
 same_list (x ∷ xs) [] each = let first = each 0 in absurd (cc)
 same_list (x ∷ xs) (y ∷ ys) each =
-    let first = some_is x y (each 0) in
+    let first = same_Some x y (each 0) in
     let others = same_list xs ys (λ number. each (suc number)) in
     λ i. first i ∷ others i
 

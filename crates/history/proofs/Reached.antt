@@ -1,5 +1,5 @@
 -- How far the documents and the cells of a running store reach.
-use Rattle.std.proofs.Common.{◌≡◌, ℕ, ◌+◌, ◌≤◌, true, List, length, take, Option, Some, None, refl, sym, ap, subst, ◌∙◌, arith}
+use Rattle.std.proofs.Common.{◌≡◌, ◌+◌, true, List, length, take, Option, Some, None, sym, ap, subst, ◌∙◌, arith}
 use Rattle.std.specs.Prelude.{slice_get}
 use Rattle.std.proofs.lemmas.List.{length-take-le, take-append-drop}
 use Rattle.revision.specs.Command.{Taken}
@@ -7,8 +7,8 @@ use Rattle.revision.specs.Past.{Past, from_floor}
 use Rattle.revision.specs.State.{Limits, DocumentRecord, newest_revision, all_continue}
 use Rattle.history.specs.Entries.{of_document}
 use Rattle.history.specs.Cell.{Cell, record_of_cell}
-use Rattle.history.specs.Shown.{base_at, whole_at, whole_of, Shows, PlacesShow}
-use Rattle.history.specs.Running.{IsCellOf, IsCellAt, Runs}
+use Rattle.history.specs.Shown.{base_at, whole_at, whole_of, PlacesShow}
+use Rattle.history.specs.Running.{IsCellOf}
 use Rattle.history.specs.Law.{DocumentsReach, CellsReach, OneCellAt}
 use Rattle.history.proofs.Showing.{newest-shown, newest-whole}
 use Rattle.history.proofs.Counting.{continue-split}

@@ -89,7 +89,7 @@ all-grow-new state (first ∷ others) last of room fresh h is =
     and_from _ _ one (all-grow-there (grown state first) next begun.0 others own of.1 (subst (λ o. all_continue state.limits o others ≡ true) begun.1 parts.1))
 
 -- a document that is there
-some-there : {A : Type 0} (xs : List A) (n : ℕ) → n < length xs → (x : A) × (slice_get xs n ≡ Some x)
+pub some-there : {A : Type 0} (xs : List A) (n : ℕ) → n < length xs → (x : A) × (slice_get xs n ≡ Some x)
 some-there [] n lt = absurd (omega (arith, lt))
 some-there (x ∷ xs) zero lt = (x, refl)
 some-there (x ∷ xs) (suc n) lt = some-there xs n (omega (arith, lt))

@@ -1,12 +1,12 @@
 -- What a document shows continues with each command that continues the document, and documents that show the same agree.
-use Rattle.std.proofs.Common.{◌≡◌, ℕ, ◌+◌, ◌-◌, ◌≤◌, max, true, List, [], ◌∷◌, ◌++◌, length, Option, Some, None, length-append, refl, sym, ap, subst, ◌∙◌, arith}
+use Rattle.std.proofs.Common.{◌≡◌, ℕ, ◌+◌, ◌-◌, ◌≤◌, max, true, List, [], ◌∷◌, ◌++◌, length, Option, Some, None, length-append, refl, sym, ap, ◌∙◌, arith}
 use Rattle.std.specs.Prelude.{◌&&◌, ◌==◌, not, nat_le}
 use Rattle.std.proofs.lemmas.Bool.{and_parts, eqb-true}
 use Rattle.revision.specs.Command.{Taken, edits}
 use Rattle.revision.specs.declared.step.Step.{Step}
 use Rattle.revision.specs.declared.step.Step.TheVariants.{Edits, Deletes, Revives}
-use Rattle.revision.specs.Sources.{Sources, window_of, with_taken}
-use Rattle.revision.specs.Past.{Past, Content, Change, suits, content_after, newest, newest_content, newest_sources, content_at, sources_at, empty_past, from_floor, rebased, with_step}
+use Rattle.revision.specs.Sources.{window_of, with_taken}
+use Rattle.revision.specs.Past.{Past, Change, suits, content_after, newest, newest_content, newest_sources, content_at, sources_at, empty_past, from_floor, rebased, with_step}
 use Rattle.revision.specs.Floors.{longer}
 use Rattle.revision.specs.State.{Limits, DocumentRecord, revision_of, newest_revision, units_of, sources_of, is_live, last_of_all, has_place, keeps, comes_next, continues_by_name, continues, change_of, record_by_name, record_after, all_continue, record_after_all}
 use Rattle.revision.specs.Agree.{DocumentsAgree, PlacesAgree}

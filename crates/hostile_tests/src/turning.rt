@@ -7,7 +7,7 @@ use crate::scripts::{Script, Step, command_of};
 use disk::FaultDisk;
 use flusher::{Flusher, OpenGate, start};
 use hub::{Hub, Seat, Ticket, Writer};
-use published::{Opened, Site};
+use published::{Life, Opened};
 use recovery::Store;
 use refusal::Refusal;
 use revision::Reply;
@@ -19,7 +19,7 @@ use turns::{Upkeep, flush_turn};
 
 // A milestone that is due of the only document is composed and put, as composers and a turn do it together. Where memory ran out it is put once
 // more. What else keeps it from that, the next turn tells, or the next command asks for it again.
-fn put_due<J: Site>(rt: &impl AllocGlobal, flusher: &mut Flusher<FaultDisk, J>, every: u32)
+fn put_due<L: Life>(rt: &impl AllocGlobal, flusher: &mut Flusher<FaultDisk, L>, every: u32)
     requires { 1 ≤ every }
 {
     if let Some(revision) = flusher.job_due(0, u64::from(every)) {
@@ -31,11 +31,11 @@ fn put_due<J: Site>(rt: &impl AllocGlobal, flusher: &mut Flusher<FaultDisk, J>, 
 }
 
 // A turn, whose failure is told as its refusal.
-fn turn<J: Site, R: Wait + AllocGlobal>(
+fn turn<L: Life, R: Wait + AllocGlobal>(
     rt: &R,
-    flusher: &mut Flusher<FaultDisk, J>,
-    hub: &Hub<FaultDisk, J>,
-    writer: &mut Writer<J>,
+    flusher: &mut Flusher<FaultDisk, L>,
+    hub: &Hub<FaultDisk, L>,
+    writer: &mut Writer<L>,
     upkeep: &mut Upkeep,
 ) -> Result<(), Refusal> {
     let alloc = rt.alloc();
@@ -49,13 +49,13 @@ fn turn<J: Site, R: Wait + AllocGlobal>(
 }
 
 // The command of a step is submitted.
-fn ordered<J: Site, R: Wait + AllocGlobal>(
+fn ordered<L: Life, R: Wait + AllocGlobal>(
     rt: &R,
-    hub: &Hub<FaultDisk, J>,
-    seat: &mut Seat<J>,
+    hub: &Hub<FaultDisk, L>,
+    seat: &mut Seat<L>,
     number: u64,
     step: &Step,
-) -> Result<Ticket<J>, Refusal> {
+) -> Result<Ticket<L>, Refusal> {
     let command = command_of(rt.alloc(), number, step)?;
     match hub.submit(rt, rt.alloc(), seat, &command) {
         Ok(ticket) => Ok(ticket),
@@ -64,10 +64,10 @@ fn ordered<J: Site, R: Wait + AllocGlobal>(
 }
 
 // The reply to a command that is settled.
-fn acknowledged<J: Site, R: Wait>(
+fn acknowledged<L: Life, R: Wait>(
     rt: &R,
-    hub: &Hub<FaultDisk, J>,
-    ticket: &Ticket<J>,
+    hub: &Hub<FaultDisk, L>,
+    ticket: &Ticket<L>,
 ) -> Result<Option<Reply>, Refusal> {
     match hub.ack(rt, ticket) {
         Ok(Some(_)) => Ok(Some(ticket.reply())),
@@ -77,12 +77,12 @@ fn acknowledged<J: Site, R: Wait>(
 }
 
 // A command is submitted, written in a turn after the milestone that is due, and acknowledged.
-fn send<J: Site, R: Wait + AllocGlobal>(
+fn send<L: Life, R: Wait + AllocGlobal>(
     rt: &R,
-    flusher: &mut Flusher<FaultDisk, J>,
-    hub: &Hub<FaultDisk, J>,
-    writer: &mut Writer<J>,
-    seat: &mut Seat<J>,
+    flusher: &mut Flusher<FaultDisk, L>,
+    hub: &Hub<FaultDisk, L>,
+    writer: &mut Writer<L>,
+    seat: &mut Seat<L>,
     upkeep: &mut Upkeep,
     every: u32,
     number: u64,
@@ -97,12 +97,12 @@ fn send<J: Site, R: Wait + AllocGlobal>(
 }
 
 // The answer to a step. It is asked once more where memory was wanted; where the device failed, it is then answered as failed.
-fn asked<J: Site, R: Wait + AllocGlobal>(
+fn asked<L: Life, R: Wait + AllocGlobal>(
     rt: &R,
-    flusher: &mut Flusher<FaultDisk, J>,
-    hub: &Hub<FaultDisk, J>,
-    writer: &mut Writer<J>,
-    seat: &mut Seat<J>,
+    flusher: &mut Flusher<FaultDisk, L>,
+    hub: &Hub<FaultDisk, L>,
+    writer: &mut Writer<L>,
+    seat: &mut Seat<L>,
     upkeep: &mut Upkeep,
     every: u32,
     number: u64,
@@ -125,11 +125,11 @@ fn asked<J: Site, R: Wait + AllocGlobal>(
 
 // A last turn, in which nothing is to be written: the oldest segment is retired while nothing needs it. It is made once more where memory was
 // wanted.
-fn rest<J: Site, R: Wait + AllocGlobal>(
+fn rest<L: Life, R: Wait + AllocGlobal>(
     rt: &R,
-    flusher: &mut Flusher<FaultDisk, J>,
-    hub: &Hub<FaultDisk, J>,
-    writer: &mut Writer<J>,
+    flusher: &mut Flusher<FaultDisk, L>,
+    hub: &Hub<FaultDisk, L>,
+    writer: &mut Writer<L>,
     upkeep: &mut Upkeep,
 ) -> Option<&'static str> {
     let mut ended = turn(rt, flusher, hub, writer, upkeep);
@@ -143,12 +143,12 @@ fn rest<J: Site, R: Wait + AllocGlobal>(
 }
 
 // The steps of a script, up to one that stops it, and a last turn.
-fn send_steps<J: Site, R: Wait + AllocGlobal>(
+fn send_steps<L: Life, R: Wait + AllocGlobal>(
     rt: &R,
-    flusher: &mut Flusher<FaultDisk, J>,
-    hub: &Hub<FaultDisk, J>,
-    writer: &mut Writer<J>,
-    seat: &mut Seat<J>,
+    flusher: &mut Flusher<FaultDisk, L>,
+    hub: &Hub<FaultDisk, L>,
+    writer: &mut Writer<L>,
+    seat: &mut Seat<L>,
     every: u32,
     script: &Script,
     begin: Begin,
@@ -183,7 +183,7 @@ fn send_steps<J: Site, R: Wait + AllocGlobal>(
 }
 
 // The life of a hub over a store.
-fn lived<J: Site, R: Wait + Abort + AllocGlobal>(
+fn lived<L: Life, R: Wait + Abort + AllocGlobal>(
     rt: &R,
     store: Store<FaultDisk>,
     opened: Opened,
@@ -192,14 +192,14 @@ fn lived<J: Site, R: Wait + Abort + AllocGlobal>(
     script: &Script,
     begin: Begin,
 ) -> Ended
-    requires book { opened ≡ J.book }
-    requires name { blank.name ≡ J.name }
-    requires parts { blank.parts ≡ J.parts }
+    requires book { opened ≡ L.book }
+    requires name { blank.name ≡ L.name }
+    requires parts { blank.parts ≡ L.parts }
     requires seats { blank.parts ≡ 2 }
-    requires begin { state_of store ≡ J.start }
+    requires begin { state_of store ≡ L.start }
     requires every { 1 ≤ every }
 {
-    let (mut flusher, mut board) = match start::<_, J>(rt.alloc(), store, opened, blank, 1) {
+    let (mut flusher, mut board) = match start::<_, L>(rt.alloc(), store, opened, blank, 1) {
         Ok(both) => both,
         Err(fault) => {
             return Ended {

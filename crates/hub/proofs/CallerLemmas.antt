@@ -7,16 +7,17 @@ use Rattle.core.specs.declared.ledger.Ledger as ledger
 use Rattle.core.proofs.ledger.Book.TheSendSync as book
 use Rattle.core.proofs.ledger.Share.TheSendSync as share
 use Rattle.ownlog.proofs.CallerLemmas.{owner_send}
-use Rattle.revision.specs.contracts.moved.MovedEdit as moved
+use Rattle.revision.specs.contracts.past.moved.MovedEdit as moved
 use Rattle.world.specs.contracts.entry.Entry as entry
 use Rattle.world.specs.contracts.board.Board as board
-use Rattle.published.specs.declared.site.Site as site
+use Rattle.published.specs.declared.life.Life as life
 use Rattle.published.proofs.Crossing.{delta_send, document_send, entry_send, ordered_send, state_send, told_send}
 use Rattle.hub.specs.contracts.ahead.Ahead as ahead
 use Rattle.hub.specs.contracts.found.Found as found
 use Rattle.hub.specs.contracts.hub.Hub as hub
 use Rattle.hub.specs.contracts.seat.Seat as seat
-use Rattle.hub.specs.contracts.kept.Closer as closer
+use Rattle.hub.specs.contracts.locked.Closer as closer
+pub use Rattle.hub.proofs.Histories.{fold-more}
 
 pub board_send : IsSend board.the_row
 board_send = search (state_send, entry_send, sendable, crosses) depth 30 fits 20000
@@ -24,17 +25,17 @@ board_send = search (state_send, entry_send, sendable, crosses) depth 30 fits 20
 pub moved_send : IsSend moved.the_row
 moved_send = search (delta_send, sendable, crosses) depth 60 fits 20000
 
-pub ahead_send : (T : RattleType) (s : site.Ghosts T.Denot) (l : ledger.Ghosts T.Denot) → IsSend T → IsSend (ahead.the_row T s l)
+pub ahead_send : (T : RattleType) (s : life.Ghosts T.Denot) (l : ledger.Ghosts T.Denot) → IsSend T → IsSend (ahead.the_row T s l)
 ahead_send T s l a =
     let order = ordered_send T s l a in
     search (moved_send, sendable, crosses) depth 60 fits 20000
 
-pub found_send : (T : RattleType) (s : site.Ghosts T.Denot) (l : ledger.Ghosts T.Denot) → IsSend T → IsSend (found.the_row T s l)
+pub found_send : (T : RattleType) (s : life.Ghosts T.Denot) (l : ledger.Ghosts T.Denot) → IsSend T → IsSend (found.the_row T s l)
 found_send T s l a =
     let order = ordered_send T s l a in
     search (sendable, crosses) depth 60 fits 20000
 
-pub seat_send : (T : RattleType) (s : site.Ghosts T.Denot) (l : ledger.Ghosts T.Denot) → IsSend T → IsSend (seat.the_row T s l)
+pub seat_send : (T : RattleType) (s : life.Ghosts T.Denot) (l : ledger.Ghosts T.Denot) → IsSend T → IsSend (seat.the_row T s l)
 seat_send T s l a =
     let edits = ahead_send T s l a in
     search (share.the_send, sendable, crosses) depth 60 fits 20000
@@ -42,7 +43,7 @@ seat_send T s l a =
 pub closer_send : (T : RattleType) → IsSend T → IsSend (closer.the_row T)
 closer_send T a = search (sendable, crosses) depth 60 fits 20000
 
-pub hub_sync : (D T : RattleType) (s : site.Ghosts T.Denot) (l : ledger.Ghosts T.Denot) → IsSend T → IsSync T → IsSync (hub.the_row D T s l)
+pub hub_sync : (D T : RattleType) (s : life.Ghosts T.Denot) (l : ledger.Ghosts T.Denot) → IsSend T → IsSync T → IsSync (hub.the_row D T s l)
 hub_sync D T s l a b =
     let told = told_send D T s l a in
     let order = owner_send entry.the_row entry_send in

@@ -6,22 +6,16 @@ use mathlib.Core.List.{IsPrefix}
 use Rattle.revision.specs.Command.{Taken, Command}
 use Rattle.revision.specs.State.{State, grown, fold}
 use Rattle.revision.specs.Acceptance.{Answer, Takes, Repeats, Refuses, Reply, TakenAt, AgainAt, answer}
-use Rattle.world.specs.Board.{Board, Ticket, begun_board, submitted, submitted_by, ticket_by, ticket_of}
+use Rattle.world.specs.Board.{Board, Ticket, submitted, submitted_by, ticket_by, ticket_of}
 use Rattle.world.specs.World.{Entry, entry_of, takens}
 use Rattle.recovery.specs.Found.{commands_of}
 use Rattle.published.specs.Order.{HasNumber}
 use Rattle.published.proofs.CallerLemmas.{legal_more}
 use Rattle.hub.specs.Legal.{IsHistory, IsWithin, counted}
 
-fold-more : (state : State) (commands : List Taken) (taken : Taken) → fold state (commands ++ taken ∷ []) ≡ grown (fold state commands) taken
+pub fold-more : (state : State) (commands : List Taken) (taken : Taken) → fold state (commands ++ taken ∷ []) ≡ grown (fold state commands) taken
 fold-more state [] taken = refl
 fold-more state (first ∷ others) taken = fold-more (grown state first) others taken
-
--- a board to which nothing was submitted yet
-pub begun_within : (start : State) (told : List (List Taken)) → told ≡ [] → IsWithin (begun_board start) told
-begun_within start told none =
-    subst (λ (t : List (List Taken)). IsWithin (begun_board start) t) (sym none)
-    (record { settled = omega arith; taken = omega arith; published = refl; begins = ([], refl) })
 
 -- what begins the order begins it with one more
 begins-more : (xs : List Taken) (order : List Entry) (entry : Entry) → IsPrefix xs (takens order) → IsPrefix xs (takens (order ++ entry ∷ []))

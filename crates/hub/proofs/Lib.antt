@@ -4,7 +4,6 @@ pub mod Placing
 pub mod Histories
 pub mod Making
 pub mod Submitting
-pub mod Turning
 pub mod Waking
 pub mod Widths
 pub mod MovedAhead

@@ -9,17 +9,13 @@ use Rattle.delta.specs.Element.{Element}
 use Rattle.revision.specs.Command.{Command, Taken}
 use Rattle.revision.specs.Acceptance.{Answer, Takes, Repeats, Refuses, answer}
 use Rattle.revision.specs.Made.{text_at, IsMade, AreMade}
-use Rattle.revision.specs.State.{State, grown, fold}
-use Rattle.revision.proofs.CallerLemmas.{taken_grows, made_more, made_before, made_first, made_rest}
+use Rattle.revision.specs.State.{State, fold}
+use Rattle.revision.proofs.CallerLemmas.{taken_grows, made_more, made_before, made_first, made_rest, fold-append}
 use Rattle.world.specs.Board.{Board, Ticket, next_run, submitted, submitted_by, can_take, taken_more}
 use Rattle.world.specs.World.{Entry, entry_of, takens}
 use Rattle.hub.specs.Placed.{WasSubmitted}
 use Rattle.hub.specs.Runs.{AreMadeThere, untaken}
 use Rattle.hub.proofs.Placing.{TakenLast, WasBefore, takens-take, takens-drop}
-
-fold-append : (state : State) (first others : List Taken) → fold state (first ++ others) ≡ fold (fold state first) others
-fold-append state [] others = refl
-fold-append state (one ∷ first) others = fold-append (grown state one) first others
 
 -- the commands of a longer order
 takens-append : (first others : List Entry) → takens (first ++ others) ≡ takens first ++ takens others

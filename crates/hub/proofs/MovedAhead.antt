@@ -1,24 +1,20 @@
 -- An edit that was moved in a state stays so as the order grows.
-use Rattle.std.proofs.Common.{◌≡◌, List, [], ◌∷◌, ◌++◌, refl, sym, ap, subst, ◌∙◌}
+use Rattle.std.proofs.Common.{◌≡◌, List, sym, ap, subst, ◌∙◌}
 use Rattle.std.proofs.lemmas.List.{map-append}
 use mathlib.Core.List.{IsPrefix}
 use Rattle.revision.specs.Command.{Taken}
-use Rattle.revision.specs.State.{State, grown, fold}
+use Rattle.revision.specs.State.{State, fold}
 use Rattle.revision.specs.Moved.{MovedEdit, IsMovedIn}
-use Rattle.revision.proofs.CallerLemmas.{moved_stays}
+use Rattle.revision.proofs.CallerLemmas.{moved_stays, fold-append}
 use Rattle.world.specs.Board.{Board}
 use Rattle.world.specs.World.{Entry, takens}
 use Rattle.hub.specs.Legal.{IsHistory}
-
-fold-parts : (state : State) (first others : List Taken) → fold state (first ++ others) ≡ fold (fold state first) others
-fold-parts state [] others = refl
-fold-parts state (one ∷ first) others = fold-parts (grown state one) first others
 
 -- in what a longer list of commands makes
 pub moved_further : (start : State) (commands more : List Taken) (m : MovedEdit) → IsPrefix commands more
     → IsMovedIn (fold start commands) m → IsMovedIn (fold start more) m
 moved_further start commands more m (rest, is) moved =
-    subst (λ s. IsMovedIn s m) (sym (fold-parts start commands rest) ∙ ap (fold start) is) (moved_stays (fold start commands) m rest moved)
+    subst (λ s. IsMovedIn s m) (sym (fold-append start commands rest) ∙ ap (fold start) is) (moved_stays (fold start commands) m rest moved)
 
 -- and in what a longer order makes
 pub moved_later : (start : State) (first order : List Entry) (m : MovedEdit) → IsPrefix first order

@@ -1,5 +1,5 @@
 -- Where the command of a ticket stands in the order.
-use Rattle.std.proofs.Common.{◌≡◌, ℕ, ◌+◌, ◌-◌, ◌≤◌, ◌<◌, ◌^◌, List, [], ◌∷◌, ◌++◌, length, take, drop, get_or, refl, sym, ap, subst, ◌∙◌, arith, length-append, length-drop}
+use Rattle.std.proofs.Common.{◌≡◌, ℕ, ◌+◌, ◌-◌, ◌≤◌, ◌<◌, ◌^◌, List, [], ◌∷◌, ◌++◌, length, take, drop, refl, sym, ap, subst, ◌∙◌, arith, length-append, length-drop}
 use Rattle.std.specs.Prelude.{Some, zero, suc}
 use mathlib.Core.List.{IsPrefix}
 use Rattle.revision.specs.Command.{Taken, Command}
@@ -12,6 +12,7 @@ use Rattle.hub.specs.Legal.{IsHistory}
 use Rattle.hub.specs.Placed.{PlacedBy, IsPlaced, WasSubmitted}
 use Rattle.hub.specs.Runs.{IsPart}
 use Rattle.hub.proofs.Histories.{counts}
+use Rattle.published.proofs.CallerLemmas.{takens_long}
 
 -- A command was taken: it is put behind the order.
 pub record TakenLast (start : State) (order : List Entry) (ticket : Ticket) (new : Board Entry) (revision : ℕ) : Type 0 where
@@ -89,35 +90,7 @@ module _ (start : State) (order : List Entry) (ticket : Ticket) (new : Board Ent
         reply = placed_reply (TakenAt revision) after (order, last.taken, whole, last.answered, last.made) replied;
       }
 
-  pub placed_again : (revision : ℕ) → ticket.reply ≡ AgainAt revision → (after : List Entry) → after ≡ new.order → IsPlaced start after ticket
-  placed_again revision replied after is =
-      let before = was_before revision replied in
-      let whole : after ≡ order = is ∙ before.same in
-      record {
-        long = ap length whole ∙ sym before.long;
-        reply = placed_reply (AgainAt revision) after (subst (λ o. answer (fold start (takens o)) ticket.command ≡ Repeats revision) (sym whole) before.answered) replied;
-      }
-
 module _ {A : Type 0} where
-  drop-front : (n : ℕ) (xs ys : List A) → n ≤ length xs → drop n (xs ++ ys) ≡ drop n xs ++ ys
-  drop-front zero xs ys le = refl
-  drop-front (suc n) [] ys le = absurd (omega arith)
-  drop-front (suc n) (x ∷ xs) ys le = drop-front n xs ys (omega arith)
-
-  get-last : (xs : List A) (x d : A) → get_or (xs ++ x ∷ []) (length xs) d ≡ x
-  get-last [] x d = refl
-  get-last (y ∷ xs) x d = get-last xs x d
-
-  less-one : (xs : List A) (x : A) → length (xs ++ x ∷ []) - 1 ≡ length xs
-  less-one xs x = omega (arith, length-append xs (x ∷ []))
-
-  -- the last one of a list, behind what is dropped of it
-  pub last-behind : (n : ℕ) (all xs : List A) (x d : A) → all ≡ xs ++ x ∷ [] → n ≤ length xs → get_or (drop n all) (length (drop n all) - 1) d ≡ x
-  last-behind n all xs x d is le =
-      let whole : drop n all ≡ drop n xs ++ x ∷ [] = ap (drop n) is ∙ drop-front n xs (x ∷ []) le in
-      subst (λ l. get_or l (length l - 1) d ≡ x) (sym whole)
-      (ap (λ k. get_or (drop n xs ++ x ∷ []) k d) (less-one (drop n xs) x) ∙ get-last (drop n xs) x d)
-
   parts : (m : ℕ) (cs zs : List A) → cs ≡ take m zs → cs ++ drop m zs ≡ zs
   parts zero cs zs part = ap (λ l. l ++ zs) part
   parts (suc m) cs [] part = ap (λ l. l ++ []) part
@@ -150,10 +123,6 @@ was_submitted start order old command ticket new ordered begun history within su
       numbered = subst HasNumber (sym same) numbered;
     }
 
-takens-long : (entries : List Entry) → length (takens entries) ≡ length entries
-takens-long [] = refl
-takens-long (first ∷ others) = ap (λ n. suc n) (takens-long others)
-
 pub takens-take : (n : ℕ) (entries : List Entry) → takens (take n entries) ≡ take n (takens entries)
 takens-take zero entries = refl
 takens-take (suc n) [] = refl
@@ -168,8 +137,8 @@ takens-drop (suc n) (first ∷ others) = takens-drop n others
 pub part_of : (order : List Entry) (commands : List Taken) (taken : ℕ) → length order < 2 ^ 64 → taken ≤ length order → length commands ≤ length (takens (drop taken order))
     → commands ≡ takens (take (length commands) (drop taken order)) → IsPart commands taken order
 part_of order commands taken fits bound within next = record {
-  within = omega (arith, bound, within, takens-long (drop taken order), length-drop taken order);
-  few = omega (arith, fits, bound, within, takens-long (drop taken order), length-drop taken order);
+  within = omega (arith, bound, within, takens_long (drop taken order), length-drop taken order);
+  few = omega (arith, fits, bound, within, takens_long (drop taken order), length-drop taken order);
   part = next ∙ (takens-take (length commands) (drop taken order) ∙ ap (take (length commands)) (takens-drop taken order));
 }
 

@@ -13,8 +13,8 @@ use Rattle.world.specs.World.{Entry, takens}
 use Rattle.published.specs.Order.{IsLegal}
 use Rattle.hub.specs.Given.{GaveTicket}
 use Rattle.hub.specs.Placed.{IsPlaced}
-use Rattle.hub.specs.declared.not_submitted.NotSubmitted.{NotSubmitted}
-use Rattle.hub.specs.declared.not_submitted.NotSubmitted.TheVariants.{Stopped, ByBoard}
+use Rattle.hub.specs.declared.submit_error.SubmitError.{SubmitError}
+use Rattle.hub.specs.declared.submit_error.SubmitError.TheVariants.{Stopped, ByBoard}
 
 -- what was found of the order: nothing, where nothing was found yet
 abbrev pub all_found : Option (List Entry) → List Entry
@@ -28,26 +28,26 @@ IsRefusedAfter start order command refusal =
     ((refusal ≡ NoMemory) × (may_want_memory command.action (answer (fold start (takens order)) command) ≡ true))
     ⊎ (answer (fold start (takens order)) command ≡ Refuses refusal)
 
-module _ {J : Type 0} where
+module _ {L : Type 0} where
   -- What comes of a command behind which the order is this: a ticket of just this order, or a refusal by it. That the store had failed or
   -- the hub had ended a token says.
-  abbrev pub IsGivenAt : State → List Entry → Command → Result Ticket (NotSubmitted J) → Type 0
+  abbrev pub IsGivenAt : State → List Entry → Command → Result Ticket (SubmitError L) → Type 0
   IsGivenAt start order command (Ok ticket) = GaveTicket start command ticket × IsPlaced start order ticket
   IsGivenAt start order command (Err (Stopped token)) = Unit {0}
   IsGivenAt start order command (Err (ByBoard refusal)) = IsRefusedAfter start order command refusal
 
 -- A command was submitted by one who was told of these batches and had found that much of the order: what comes of it is by an order that
 -- begins with all that. The order is a legal history from the start of the run, and is found from then on.
-pub record IsSubmittedAfter {J : Type 0} (start : State) (told : List (List Taken)) (old : List Entry) (command : Command) (submitted : Result Ticket (NotSubmitted J)) (new : List Entry) : Type 0 where
+pub record IsSubmittedAfter {L : Type 0} (start : State) (told : List (List Taken)) (old : List Entry) (command : Command) (submitted : Result Ticket (SubmitError L)) (new : List Entry) : Type 0 where
   pub legal : IsLegal start new
   pub given : IsGivenAt start new command submitted
   pub of_command : IfOk submitted (λ ticket. ticket.command ≡ command)
   pub found : IsPrefix old new
   pub begins : IsPrefix (commands_of told) (takens new)
 
-module _ {J : Type 0} where
+module _ {L : Type 0} where
   -- Commands were submitted one after another: the answer to each is by an order that begins with what the one before it found.
-  abbrev pub AreSubmittedAfter : State → List (List Taken) → List Entry → List Command → List (Result Ticket (NotSubmitted J)) → List Entry → Type 0
+  abbrev pub AreSubmittedAfter : State → List (List Taken) → List Entry → List Command → List (Result Ticket (SubmitError L)) → List Entry → Type 0
   AreSubmittedAfter start told old [] [] new = new ≡ old
   AreSubmittedAfter start told old [] (first ∷ others) new = ⊥
   AreSubmittedAfter start told old (command ∷ commands) [] new = ⊥

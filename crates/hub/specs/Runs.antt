@@ -38,7 +38,7 @@ untaken board = takens (drop board.taken board.order)
 
 -- What was asked of a board that can't be done: its value then, the batch that was to be settled, and the batches that were told to be
 -- published.
-pub record Unsettled : Type 0 where
+pub record SettleError : Type 0 where
   pub board : Board Entry
   pub batch : List Taken
   pub told : List (List Taken)

@@ -2,14 +2,14 @@
 use Rattle.std.specs.Prelude.{ℕ, List, [], ◌∷◌, Result, Ok, Err}
 use Rattle.world.specs.Board.{Ticket}
 use Rattle.hub.specs.Legal.{counted}
-use Rattle.hub.specs.declared.not_submitted.NotSubmitted.{NotSubmitted}
+use Rattle.hub.specs.declared.submit_error.SubmitError.{SubmitError}
 
-module _ {J : Type 0} where
+module _ {L : Type 0} where
   -- how many commands a seat has counted after a submission
-  abbrev pub counted_by : ℕ → Result Ticket (NotSubmitted J) → ℕ
+  abbrev pub counted_by : ℕ → Result Ticket (SubmitError L) → ℕ
   counted_by count (Ok ticket) = counted count ticket.reply
   counted_by count (Err why) = count
 
-  abbrev pub counted_all : ℕ → List (Result Ticket (NotSubmitted J)) → ℕ
+  abbrev pub counted_all : ℕ → List (Result Ticket (SubmitError L)) → ℕ
   counted_all count [] = count
   counted_all count (first ∷ others) = counted_all (counted_by count first) others

@@ -11,7 +11,7 @@ pub record Turns : Type 0 where
   pub alone : Bool
 
 -- the board, what is awaited at each place, the turns, and whether the end was called
-pub record Kept : Type 0 where
+pub record Locked : Type 0 where
   pub board : Board
   pub awaited : List Awaited
   pub turns : Turns

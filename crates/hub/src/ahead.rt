@@ -6,19 +6,19 @@ ghost use Rattle.revision.specs.Moved.{IsMovedIn};
 ghost use Rattle.revision.specs.State.{fold};
 ghost use Rattle.world.specs.World.{takens};
 
-use published::{Order, Ordered, Site, Told};
+use published::{Life, Order, Ordered, Told};
 use revision::{Command, MovedEdit};
 use std::marker::Model;
 
 /// An edit that is past what a prefix of the life's order took after its base. A seat that has it submits that edit in less time, since
 /// only what was taken later is left to move it past. Contracts see it as the edit that was moved.
 #[derive(Drop)]
-pub struct Ahead<J: Site> {
-    order: Ordered<J>,
+pub struct Ahead<L: Life> {
+    order: Ordered<L>,
     moved: MovedEdit,
 }
 
-impl<J: Site> Model for Ahead<J> {
+impl<L: Life> Model for Ahead<L> {
     ghost use Rattle.revision.specs.Moved as spec;
     ghost use Rattle.revision.specs.Moved.{IsMovedIn};
     ghost use Rattle.revision.specs.State.{fold};
@@ -28,13 +28,13 @@ impl<J: Site> Model for Ahead<J> {
 
     ghost view = { λ a. a.moved };
 
-    ghost invariant = { λ a. IsMovedIn (fold J.start (takens a.order)) a.moved };
+    ghost invariant = { λ a. IsMovedIn (fold L.start (takens a.order)) a.moved };
 }
 
-impl<J: Site> Ahead<J> {
+impl<L: Life> Ahead<L> {
     /// An edit that was moved in the state which published batches make. It takes no memory.
-    pub fn of<D>(told: &Told<D, J>, moved: MovedEdit) -> Ahead<J>
-        requires { IsMovedIn (fold J.start (commands_of told.now)) moved }
+    pub fn of<D>(told: &Told<D, L>, moved: MovedEdit) -> Ahead<L>
+        requires { IsMovedIn (fold L.start (commands_of told.now)) moved }
         ensures { result ≡ moved }
     {
         Ahead {
@@ -49,8 +49,8 @@ impl<J: Site> Ahead<J> {
     }
 
     // The edit, which is so in the state after the whole order.
-    pub(crate) fn in_order(&self, order: &mut Order<J>) -> &MovedEdit
-        ensures moved { IsMovedIn (fold J.start (takens order.old)) result.now }
+    pub(crate) fn in_order(&self, order: &mut Order<L>) -> &MovedEdit
+        ensures moved { IsMovedIn (fold L.start (takens order.old)) result.now }
         ensures same { order.new ≡ order.old }
     {
         order.holds(&self.order);
@@ -59,11 +59,11 @@ impl<J: Site> Ahead<J> {
 }
 
 // The edit of a seat that has one, which is so in the state after the whole order.
-pub(crate) fn moved_in<'a, J: Site>(
-    ahead: &'a Option<Ahead<J>>,
-    order: &mut Order<J>,
+pub(crate) fn moved_in<'a, L: Life>(
+    ahead: &'a Option<Ahead<L>>,
+    order: &mut Order<L>,
 ) -> Option<&'a MovedEdit>
-    ensures moved { IfSome result (λ m. IsMovedIn (fold J.start (takens order.old)) m.now) }
+    ensures moved { IfSome result (λ m. IsMovedIn (fold L.start (takens order.old)) m.now) }
     ensures same { order.new ≡ order.old }
 {
     match ahead {

@@ -7,7 +7,7 @@ ghost use Rattle.revision.specs.Planned.{may_want_memory};
 ghost use Rattle.recovery.specs.Found.{commands_of};
 ghost use Rattle.recovery.specs.Open.{state_of};
 ghost use Rattle.world.specs.Board.{begun_board, submitted, ticket_of, next_run, taken_more, settled_more, can_ack};
-ghost use Rattle.world.specs.World.{Entry as Kept, entry_of, takens};
+ghost use Rattle.world.specs.World.{Entry as OrderEntry, entry_of, takens};
 ghost use Rattle.published.specs.Order.{IsLegal};
 ghost use Rattle.hub.specs.Legal.{IsHistory, IsOfRun, IsWithin, counted};
 ghost use Rattle.hub.specs.Placed.{IsPlaced, StandsFirst, WasSubmitted};
@@ -19,7 +19,7 @@ use crate::run::{Run, copied, is_beginning, longest};
 use crate::seat::{PLACES, Seat, Tally, Ticket, count};
 use disk::Disk;
 use document::Document;
-use published::{Order, Ordered, Site, Told};
+use published::{Life, Order, Ordered, Told};
 use recovery::{Receipt, Store};
 use refusal::Refusal;
 use revision::{Batch, Command, Reply, State};
@@ -29,8 +29,8 @@ use std::mem;
 use std::sync::ledger::{Blank, Book, Share};
 use world::{Board as Inner, Entry};
 
-/// The documents beside commands have at most so many code units, counted as if all were as long as the newest one.
-const MOST_UNITS: u64 = 1 << 22;
+/// Bound on the kept documents times the newest one's length, in UTF-16 code units.
+const MAX_KEPT_UNITS: u64 = 1 << 22;
 
 /// The order of the commands that were taken since a store was opened, with the state after them, how many are taken off to be written
 /// and how many of those are settled; the token of what was published up to there; whether the store has failed; and the ledger of the
@@ -38,19 +38,19 @@ const MOST_UNITS: u64 = 1 << 22;
 /// commands that aren't taken off it keeps the documents as they leave them, as far as memory went and they aren't too many or too long:
 /// beside the first of them, since behind one that has none no further one is kept.
 #[derive(Drop)]
-pub struct Board<D, J: Site> {
+pub struct Board<D, L: Life> {
     board: Inner,
-    order: Order<J>,
+    order: Order<L>,
     failed: bool,
-    told: Told<D, J>,
-    seats: Book<J>,
-    spare: Share<J>,
+    told: Told<D, L>,
+    seats: Book<L>,
+    spare: Share<L>,
     left: u32,
     used: [u32; 64],
     made: Vec<Document>,
 }
 
-impl<D, J: Site> Model for Board<D, J> {
+impl<D, L: Life> Model for Board<D, L> {
     ghost use Rattle.std.specs.Prelude.{◌≡◌, ◌+◌, length};
     ghost use Rattle.hub.specs.Legal as spec;
     ghost use Rattle.hub.specs.Runs.{AreMadeThere, untaken};
@@ -59,37 +59,37 @@ impl<D, J: Site> Model for Board<D, J> {
 
     ghost view = { λ b. record { board = b.board; failed = b.failed; told = b.told; left = b.left } };
 
-    ghost invariant = { λ b. spec.IsHistory b.board × spec.IsWithin b.board b.told × (b.board.start ≡ J.start)
+    ghost invariant = { λ b. spec.IsHistory b.board × spec.IsWithin b.board b.told × (b.board.start ≡ L.start)
         × (b.seats.total ≡ length b.board.order) × (b.spare.parts ≡ b.left + 1) × (b.order ≡ b.board.order)
         × (b.spare.amount ≡ 0)
-        × AreMadeThere J.start b.board.order b.board.taken (untaken b.board) b.made.items };
+        × AreMadeThere L.start b.board.order b.board.taken (untaken b.board) b.made.items };
 }
 
-impl<D, J: Site> Board<D, J> {
+impl<D, L: Life> Board<D, L> {
     /// The board of a store, by a copy of its state, with the token of the start, the order, and a ledger of so many seats. Who has no store
     /// can't make one. It takes no memory.
     pub fn new(
         alloc: Global,
         store: &Store<D>,
         state: State,
-        told: Told<D, J>,
-        order: Order<J>,
+        told: Told<D, L>,
+        order: Order<L>,
         blank: Blank,
         seats: u32,
-    ) -> Board<D, J>
+    ) -> Board<D, L>
     where
         D: Disk,
-        requires store { state_of store.now ≡ J.start }
-        requires start { state ≡ J.start }
+        requires store { state_of store.now ≡ L.start }
+        requires start { state ≡ L.start }
         requires told { told ≡ [] }
         requires order { order ≡ [] }
-        requires name { blank.name ≡ J.name }
-        requires parts { blank.parts ≡ J.parts }
+        requires name { blank.name ≡ L.name }
+        requires parts { blank.parts ≡ L.parts }
         requires seats { blank.parts ≡ seats + 1 }
         ensures { result ≡ record { board = begun_board state; failed = false; told = []; left = seats } }
     {
         let _ = store;
-        let (book, spare) = blank.open::<J>();
+        let (book, spare) = blank.open::<L>();
         Board {
             board: Inner::new(alloc, state),
             order,
@@ -106,7 +106,7 @@ impl<D, J: Site> Board<D, J> {
     /// The state after the whole order, which is a legal history from the state that the store was opened with.
     pub fn state(&self) -> &State
         ensures state { result.now ≡ self.now.board.state }
-        ensures start { self.now.board.start ≡ J.start }
+        ensures start { self.now.board.start ≡ L.start }
         ensures history { IsHistory self.now.board }
         ensures within { IsWithin self.now.board self.now.told }
     {
@@ -116,9 +116,17 @@ impl<D, J: Site> Board<D, J> {
     /// How many commands the order has.
     pub fn ordered(&self) -> usize
         ensures ordered { result ≡ length self.now.board.order }
-        ensures run { IsOfRun J.start self.now.board }
+        ensures run { IsOfRun L.start self.now.board }
     {
         self.board.ordered()
+    }
+
+    /// What each board keeps, for the prover. It does nothing.
+    pub(crate) fn facts(&self)
+        ensures run { IsOfRun L.start self.now.board }
+        ensures bound { length self.now.board.order < 2 ^ 64 }
+    {
+        self.board.facts();
     }
 
     /// How many commands of the order are settled.
@@ -137,14 +145,14 @@ impl<D, J: Site> Board<D, J> {
     }
 
     // The token of the whole order.
-    pub(crate) fn order(&self) -> Ordered<J>
+    pub(crate) fn order(&self) -> Ordered<L>
         ensures { result ≡ self.now.board.order }
     {
         self.order.ordered()
     }
 
     /// The token of what was published, up to what is settled.
-    pub fn told(&self) -> &Told<D, J>
+    pub fn told(&self) -> &Told<D, L>
         ensures { result.now ≡ self.now.told }
     {
         &self.told
@@ -165,7 +173,7 @@ impl<D, J: Site> Board<D, J> {
     }
 
     /// A seat more, with nothing counted yet. Refused with `NoSeat` exactly when none is left, and then nothing has changed. It takes no memory.
-    pub fn seat(&mut self) -> Result<Seat<J>, Refusal>
+    pub fn seat(&mut self) -> Result<Seat<L>, Refusal>
         ensures ok { OnOk result (self.old ≡ record self.new { left = self.new.left + 1 }) }
         ensures new { IfOk result (λ seat. seat ≡ 0) }
         ensures none { (self.old.left ≡ 0) ↔ IsErrOf result Refusal.NoSeat }
@@ -194,13 +202,13 @@ impl<D, J: Site> Board<D, J> {
     pub fn submit(
         &mut self,
         alloc: Global,
-        seat: &mut Seat<J>,
+        seat: &mut Seat<L>,
         command: &Command,
-    ) -> Result<Ticket<J>, Refusal>
+    ) -> Result<Ticket<L>, Refusal>
         ensures ok { OnOk result (self.new
             ≡ record self.old { board = submitted (entry_of command.now) self.old.board command.now }) }
         ensures ticket { IfOk result (λ ticket. Some ticket ≡ ticket_of self.old.board command.now) }
-        ensures placed { IfOk result (λ ticket. IsPlaced J.start self.new.board.order ticket) }
+        ensures placed { IfOk result (λ ticket. IsPlaced L.start self.new.board.order ticket) }
         ensures command { IfOk result (λ ticket. ticket.command ≡ command.now) }
         ensures counts { IfOk result (λ ticket. seat.new ≡ counted seat.old ticket.reply) }
         ensures works { OnOk result (self.old.failed ≡ false) }
@@ -211,14 +219,14 @@ impl<D, J: Site> Board<D, J> {
             → may_want_memory command.now.action (answer self.old.board.state command.now) ≡ true }
         ensures unchanged { OnErr result (self.new ≡ self.old) }
         ensures uncounted { OnErr result (seat.new ≡ seat.old) }
-        ensures start { self.old.board.start ≡ J.start }
+        ensures start { self.old.board.start ≡ L.start }
         ensures history { IsHistory self.old.board }
     {
         if self.failed {
             return Err(Refusal::StoreFailed);
         }
         // its number is in range
-        let _ = command.number();
+        command.facts();
         let ahead = seat.ahead_for(command);
         let moved = moved_in(&ahead, &mut self.order);
         match self.board.submit_moved(alloc, command, moved) {
@@ -238,10 +246,10 @@ impl<D, J: Site> Board<D, J> {
     }
 
     // Finds the whole order of it, which begins with what was found before, and with what was told.
-    pub(crate) fn find(&mut self, told: &Told<D, J>, found: &mut Found<J>)
+    pub(crate) fn find(&mut self, told: &Told<D, L>, found: &mut Found<L>)
         ensures same { self.new ≡ self.old }
         ensures whole { found.new ≡ self.old.board.order }
-        ensures legal { IsLegal J.start found.new }
+        ensures legal { IsLegal L.start found.new }
         ensures found { IsPrefix found.old found.new }
         ensures begins { IsPrefix (commands_of told.now) (takens found.new) }
     {
@@ -249,7 +257,7 @@ impl<D, J: Site> Board<D, J> {
     }
 
     // What was found is a prefix of its order, and of what the token has after it.
-    pub(crate) fn join(&mut self, found: &Found<J>, ordered: &mut Ordered<J>)
+    pub(crate) fn join(&mut self, found: &Found<L>, ordered: &mut Ordered<L>)
         ensures same { self.new ≡ self.old }
         ensures found { IsPrefix found.now ordered.new }
         ensures before { IsPrefix ordered.old ordered.new }
@@ -259,14 +267,13 @@ impl<D, J: Site> Board<D, J> {
 
     /// Takes off the longest run of the next commands whose batch has at most `cap` bytes, and gives a copy of it, with the documents that
     /// are kept beside these commands; it is empty where there is none. Refused as out of memory alone, and then nothing has changed.
-    pub fn take(&mut self, alloc: Global, cap: u32) -> Result<Run<D, J>, Refusal>
+    pub fn take(&mut self, alloc: Global, cap: u32) -> Result<Run<D, L>, AllocError>
         ensures longest { IfOk result (λ run. IsLongest cap (untaken self.old.board) (length run.commands)) }
         ensures run { IfOk result (λ run. run.commands ≡ takens (next_run self.old.board (length run.commands))) }
         ensures cap { IfOk result (λ run. run.cap ≡ cap) }
         ensures place { IfOk result (λ run. run.place ≡ self.old.board.taken) }
         ensures board { IfOk result (λ run. self.new
             ≡ record self.old { board = taken_more self.old.board (length run.commands) }) }
-        ensures only { IfErr result (λ e. e ≡ Refusal.NoMemory) }
         ensures unchanged { OnErr result (self.new ≡ self.old) }
     {
         let untaken = self.board.untaken();
@@ -283,11 +290,11 @@ impl<D, J: Site> Board<D, J> {
     /// Settles a batch that was committed, by its receipt and the token of its publish. Refused with `Stranger` exactly where the batch isn't the
     /// next part of the order that is taken off, or the token has not as many commands as the order has with it; nothing has changed then.
     /// What the token names begins the order in any case. It takes no memory.
-    pub fn settle(&mut self, receipt: &Receipt<D>, told: Told<D, J>) -> Result<(), Refusal>
+    pub fn settle(&mut self, receipt: &Receipt<D>, told: Told<D, L>) -> Result<(), Refusal>
         ensures ok { OnOk result (self.new
-            ≡ record self.old { board = settled_more self.old.board (length receipt.now); told = told }) }
-        ensures may { OnOk result (MaySettle self.old.board receipt.now (length (commands_of told))) }
-        ensures stranger { MaySettle self.old.board receipt.now (length (commands_of told)) → IsOk result }
+            ≡ record self.old { board = settled_more self.old.board (length receipt.now.batch); told = told }) }
+        ensures may { OnOk result (MaySettle self.old.board receipt.now.batch (length (commands_of told))) }
+        ensures stranger { MaySettle self.old.board receipt.now.batch (length (commands_of told)) → IsOk result }
         ensures begins { IsPrefix (commands_of told) (takens self.old.board.order) }
         ensures only { IfErr result (λ e. e ≡ Refusal.Stranger) }
         ensures unchanged { OnErr result (self.new ≡ self.old) }
@@ -306,11 +313,11 @@ impl<D, J: Site> Board<D, J> {
 
     /// Acknowledges a ticket: the token of what was published, exactly when the ticket's length is settled, which stays so once the store has failed. Else
     /// refused with `StoreFailed` where the store has failed, and `None` where it hasn't. It takes no memory.
-    pub fn ack(&self, ticket: &Ticket<J>) -> Result<Option<Told<D, J>>, Refusal>
+    pub fn ack(&self, ticket: &Ticket<L>) -> Result<Option<Told<D, L>>, Refusal>
         ensures settled { (can_ack self.now.board ticket.now ≡ true) ↔ (result ≡ Ok (Some self.now.told)) }
         ensures waits { (result ≡ Ok None) ↔ ((can_ack self.now.board ticket.now ≡ false) × (self.now.failed ≡ false)) }
         ensures holds { IfOk result (λ told. IfSome told (λ t. ticket.now.length ≤ length (commands_of t))) }
-        ensures stands { IfOk result (λ told. IfSome told (λ t. StandsFirst J.start ticket.now (commands_of t))) }
+        ensures stands { IfOk result (λ told. IfSome told (λ t. StandsFirst L.start ticket.now (commands_of t))) }
         ensures only { IfErr result (λ e. e ≡ Refusal.StoreFailed) }
         ensures failed { OnErr result (self.now.failed ≡ true) }
     {
@@ -325,7 +332,7 @@ impl<D, J: Site> Board<D, J> {
     }
 
     /// A tally of no seats. It takes no memory.
-    pub fn tally(&mut self) -> Tally<J>
+    pub fn tally(&mut self) -> Tally<L>
         ensures none { result ≡ record { seats = 0; counted = 0 } }
         ensures same { self.new ≡ self.old }
     {
@@ -336,10 +343,10 @@ impl<D, J: Site> Board<D, J> {
 
     /// Ends the board, whose seats were all given and are tallied: its order is a legal history, which begins as a token of it has it, and
     /// is as long as what the seats have counted. It gives that length, and takes no memory.
-    pub fn end(self, seats: Tally<J>, ordered: &Ordered<J>) -> usize
-        requires all { seats.seats + 1 ≡ J.parts }
+    pub fn end(self, seats: Tally<L>, ordered: &Ordered<L>) -> usize
+        requires all { seats.seats + 1 ≡ L.parts }
         ensures ordered { result ≡ length self.board.order }
-        ensures run { IsOfRun J.start self.board }
+        ensures run { IsOfRun L.start self.board }
         ensures begins { IsPrefix ordered.now self.board.order }
         ensures counts { length self.board.order ≡ seats.counted }
     {
@@ -383,10 +390,10 @@ fn least(used: &[u32; 64]) -> usize
 }
 
 // Puts the command of a ticket that the board has just given behind the run's order, if the board took it.
-fn order_taken<J: Site>(order: &mut Order<J>, board: &Inner, ticket: &world::Ticket)
-    requires { WasSubmitted J.start order.old ticket.now board.now }
+fn order_taken<L: Life>(order: &mut Order<L>, board: &Inner, ticket: &world::Ticket)
+    requires { WasSubmitted L.start order.old ticket.now board.now }
     ensures order { order.new ≡ board.now.order }
-    ensures placed { IsPlaced J.start order.new ticket.now }
+    ensures placed { IsPlaced L.start order.new ticket.now }
 {
     match ticket.reply() {
         Reply::Taken { rev: _ } => order.put(last_ordered(board)),
@@ -396,16 +403,16 @@ fn order_taken<J: Site>(order: &mut Order<J>, board: &Inner, ticket: &world::Tic
 
 // Keeps the document that the command of a ticket left, which the board has just given, if the board took it, memory suffices, and the
 // documents of all commands before it that aren't taken off are kept. The order is the one before the command.
-fn keep_made<J: Site>(
+fn keep_made<L: Life>(
     alloc: Global,
     made: &mut Vec<Document>,
-    order: &Order<J>,
+    order: &Order<L>,
     board: &Inner,
     ticket: &world::Ticket,
 )
-    requires given { WasSubmitted J.start order.now ticket.now board.now }
-    requires made { AreMadeThere J.start order.now board.now.taken (takens (drop board.now.taken order.now)) made.old.items }
-    ensures { AreMadeThere J.start board.now.order board.now.taken (untaken board.now) made.new.items }
+    requires given { WasSubmitted L.start order.now ticket.now board.now }
+    requires made { AreMadeThere L.start order.now board.now.taken (takens (drop board.now.taken order.now)) made.old.items }
+    ensures { AreMadeThere L.start board.now.order board.now.taken (untaken board.now) made.new.items }
 {
     let _ = order;
     match ticket.reply() {
@@ -434,7 +441,7 @@ fn keep_last(alloc: Global, made: &mut Vec<Document>, board: &Inner, last: &Entr
 // are sent far ahead don't hold a text each.
 fn may_keep(count: usize, document: &Document) -> bool {
     let many = (count as u64).saturating_add(1);
-    many.saturating_mul(document.len16()) <= MOST_UNITS
+    many.saturating_mul(document.len16()) <= MAX_KEPT_UNITS
 }
 
 // what stands in the document of this number, where there is one
@@ -469,7 +476,7 @@ fn parted(made: &mut Vec<Document>, count: usize) -> Result<Vec<Document>, Alloc
 // The command that was ordered last, which isn't taken off yet.
 fn last_ordered(board: &Inner) -> &Entry
     requires { board.now.taken < length board.now.order }
-    ensures { (before : List Kept) (last : Kept) → board.now.order ≡ before ++ last ∷ []
+    ensures { (before : List OrderEntry) (last : OrderEntry) → board.now.order ≡ before ++ last ∷ []
         → board.now.taken ≤ length before → result.now ≡ last }
 {
     let untaken = board.untaken();

@@ -2,7 +2,7 @@
 //!
 //! # How who waits is woken
 //!
-//! No contract promises a wake. This is the argument for it; its parts under the lock are clauses of `Kept` (src/kept.rt). It uses that the
+//! No contract promises a wake. This is the argument for it; its parts under the lock are clauses of `Locked` (src/locked.rt). It uses that the
 //! calls under one lock have an order, and that all words have one.
 //!
 //! A seat waits at a place for a length of the order, and sleeps at the word of a turn. `submit` notes the length at the place under the
@@ -51,19 +51,19 @@ ghost use Rattle.hub.specs.Submitted.{counted_all, counted_by};
 
 use crate::board::Board;
 use crate::found::Found;
-use crate::kept::{Closer, Kept, Writer};
-use crate::not_submitted::NotSubmitted;
+use crate::locked::{Closer, Locked, Writer};
 use crate::place::Place;
 use crate::run::Run;
 use crate::seat::{Seat, Ticket};
+use crate::settle_error::SettleError;
+use crate::submit_error::SubmitError;
 use crate::tokens::{Ended, Failed, Idle, Settled, Stopped, Work};
-use crate::unsettled::Unsettled;
 use crate::waiting::Woken;
-use published::{Ordered, Site, Told};
+use published::{Life, Ordered, Told};
 use recovery::Receipt;
 use refusal::Refusal;
 use revision::Command;
-use std::alloc::Global;
+use std::alloc::{AllocError, Global};
 use std::sync::atomic::{AtomicU64, Ordering};
 use std::sync::{Condvar, Mutex, MutexGuard, Wait};
 use std::{array, thread};
@@ -81,18 +81,18 @@ const YIELDS: u32 = 200;
 /// sleeps until the batch with its command is settled, which wakes all who wait for that batch at once. All calls by `&self` may wait.
 /// What a call does to the board under the lock is the board's own contract; here stands what the caller gets.
 #[derive(Drop)]
-pub struct Hub<D, J: Site> {
-    kept: Mutex<Kept<D, J>>,
-    places: [Mutex<Place<D, J>>; 64],
+pub struct Hub<D, L: Life> {
+    kept: Mutex<Locked<D, L>>,
+    places: [Mutex<Place<D, L>>; 64],
     turns: [AtomicU64; 8],
     work: Condvar,
 }
 
-impl<D, J: Site> Hub<D, J> {
+impl<D, L: Life> Hub<D, L> {
     /// A hub of a board, the only right to write what it orders, and the only right to end it. It takes no memory.
-    pub fn new(board: Board<D, J>) -> (Hub<D, J>, Writer<J>, Closer<J>) {
+    pub fn new(board: Board<D, L>) -> (Hub<D, L>, Writer<L>, Closer<L>) {
         let told = board.told().copy();
-        let (kept, writer, closer) = Kept::new(board);
+        let (kept, writer, closer) = Locked::new(board);
         let hub = Hub {
             kept: Mutex::new(kept),
             places: array::from_fn(|_| Mutex::new(Place::new(told.copy()))),
@@ -103,7 +103,7 @@ impl<D, J: Site> Hub<D, J> {
     }
 
     // The board, once its lock is free. It looks and lets others run before it sleeps.
-    fn held<R: Wait>(&self, rt: &R) -> MutexGuard<'_, Kept<D, J>> {
+    fn held<R: Wait>(&self, rt: &R) -> MutexGuard<'_, Locked<D, L>> {
         for _ in 0..LOOKS {
             if let Some(kept) = self.kept.try_lock() {
                 return kept;
@@ -126,10 +126,10 @@ impl<D, J: Site> Hub<D, J> {
         &self,
         rt: &R,
         alloc: Global,
-        seat: &mut Seat<J>,
+        seat: &mut Seat<L>,
         command: &Command,
-    ) -> Result<Ticket<J>, NotSubmitted<J>>
-        ensures given { WasGiven J.start command.now result }
+    ) -> Result<Ticket<L>, SubmitError<L>>
+        ensures given { WasGiven L.start command.now result }
         ensures command { IfOk result (λ ticket. ticket.command ≡ command.now) }
         ensures counts { IfOk result (λ ticket. seat.new ≡ counted seat.old ticket.reply) }
         ensures uncounted { OnErr result (seat.new ≡ seat.old) }
@@ -153,12 +153,12 @@ impl<D, J: Site> Hub<D, J> {
         &self,
         rt: &R,
         alloc: Global,
-        seat: &mut Seat<J>,
+        seat: &mut Seat<L>,
         command: &Command,
-        told: &Told<D, J>,
-        found: &mut Found<J>,
-    ) -> Result<Ticket<J>, NotSubmitted<J>>
-        ensures after { IsSubmittedAfter J.start told.now found.old command.now result found.new }
+        told: &Told<D, L>,
+        found: &mut Found<L>,
+    ) -> Result<Ticket<L>, SubmitError<L>>
+        ensures after { IsSubmittedAfter L.start told.now found.old command.now result found.new }
         ensures counts { seat.new ≡ counted_by seat.old result }
     {
         let place = seat.place();
@@ -173,22 +173,21 @@ impl<D, J: Site> Hub<D, J> {
     }
 
     /// Submits commands one after another, each as `submit_after` does, under one hold of the board's lock: the answers are in their order,
-    /// and each one's order begins with what the one before it found. Refused with `NoMemory` where there is none for the list, which is made
-    /// first, and then nothing is submitted or found.
+    /// and each one's order begins with what the one before it found. Refused as out of memory alone, where there is none for the list,
+    /// which is made first, and then nothing is submitted or found.
     pub fn submit_all_after<R: Wait>(
         &self,
         rt: &R,
         alloc: Global,
-        seat: &mut Seat<J>,
+        seat: &mut Seat<L>,
         commands: &[&Command],
-        told: &Told<D, J>,
-        found: &mut Found<J>,
-    ) -> Result<Vec<Result<Ticket<J>, NotSubmitted<J>>>, Refusal>
-        ensures after { IfOk result (λ answers. AreSubmittedAfter J.start told.now found.old
+        told: &Told<D, L>,
+        found: &mut Found<L>,
+    ) -> Result<Vec<Result<Ticket<L>, SubmitError<L>>>, AllocError>
+        ensures after { IfOk result (λ answers. AreSubmittedAfter L.start told.now found.old
             (map (λ command. command.now) commands.now) answers.items found.new) }
         ensures as_many { IfOk result (λ answers. vec_len answers ≡ length commands.now) }
         ensures counts { IfOk result (λ answers. seat.new ≡ counted_all seat.old answers.items) }
-        ensures only { IfErr result (λ e. e ≡ Refusal.NoMemory) }
         ensures uncounted { OnErr result (seat.new ≡ seat.old) }
         ensures unfound { OnErr result (found.new ≡ found.old) }
     {
@@ -205,7 +204,7 @@ impl<D, J: Site> Hub<D, J> {
 
     // Once the lock is free again: notifies the flusher where it has something to do that it hadn't, and tells a seat's place of what holds
     // one of its tickets already.
-    fn submitted<R: Wait>(&self, rt: &R, place: usize, begins: bool, settled: Option<Told<D, J>>)
+    fn submitted<R: Wait>(&self, rt: &R, place: usize, begins: bool, settled: Option<Told<D, L>>)
         requires { place < 64 }
     {
         if begins {
@@ -221,12 +220,11 @@ impl<D, J: Site> Hub<D, J> {
         &self,
         rt: &R,
         alloc: Global,
-        writer: &mut Writer<J>,
+        writer: &mut Writer<L>,
         cap: u32,
-    ) -> Result<Run<D, J>, Refusal>
+    ) -> Result<Run<D, L>, AllocError>
         ensures fits { IfOk result (λ run. (run.commands ≡ []) ⊎ (batch_width run.commands ≤ cap)) }
         ensures cap { IfOk result (λ run. run.cap ≡ cap) }
-        ensures only { IfErr result (λ e. e ≡ Refusal.NoMemory) }
     {
         self.held(rt).take(alloc, writer, cap)
     }
@@ -237,12 +235,12 @@ impl<D, J: Site> Hub<D, J> {
     pub fn settle<R: Wait>(
         &self,
         rt: &R,
-        writer: &mut Writer<J>,
+        writer: &mut Writer<L>,
         receipt: &Receipt<D>,
-        told: Told<D, J>,
-    ) -> Result<Settled<D, J>, Unsettled<D, J>>
+        told: Told<D, L>,
+    ) -> Result<Settled<D, L>, SettleError<D, L>>
         ensures settled { IfOk result (λ settled. settled ≡ told) }
-        ensures batch { IfErr result (λ unsettled. unsettled.batch ≡ receipt.now) }
+        ensures batch { IfErr result (λ unsettled. unsettled.batch ≡ receipt.now.batch) }
         ensures told { IfErr result (λ unsettled. unsettled.told ≡ told) }
     {
         let shown = told.copy();
@@ -257,7 +255,7 @@ impl<D, J: Site> Hub<D, J> {
     }
 
     // Tells the places that are covered of what is settled, and then wakes the turns.
-    fn wake<R: Wait>(&self, rt: &R, woken: &Woken, told: &Told<D, J>) {
+    fn wake<R: Wait>(&self, rt: &R, woken: &Woken, told: &Told<D, L>) {
         for (place, covered) in self.places.iter().zip(woken.places.iter()) {
             if *covered {
                 place.lock(rt).tell(told);
@@ -272,7 +270,7 @@ impl<D, J: Site> Hub<D, J> {
     }
 
     /// Notes that the store has failed, for this reason, and wakes all who wait.
-    pub fn fail<R: Wait>(&self, rt: &R, writer: &mut Writer<J>, why: Refusal) -> Failed<J>
+    pub fn fail<R: Wait>(&self, rt: &R, writer: &mut Writer<L>, why: Refusal) -> Failed<L>
         ensures { result ≡ why }
     {
         let failed = self.held(rt).fail(writer, why);
@@ -289,18 +287,18 @@ impl<D, J: Site> Hub<D, J> {
 
     /// What `Board::ack` gives for a ticket, at once: a token that holds the ticket's length, `None` where it isn't settled yet, or the token
     /// that the store has failed.
-    pub fn ack<R: Wait>(&self, rt: &R, ticket: &Ticket<J>) -> Result<Option<Told<D, J>>, Stopped<J>>
+    pub fn ack<R: Wait>(&self, rt: &R, ticket: &Ticket<L>) -> Result<Option<Told<D, L>>, Stopped<L>>
         ensures holds { IfOk result (λ told. IfSome told (λ t. ticket.now.length ≤ length (commands_of t))) }
-        ensures stands { IfOk result (λ told. IfSome told (λ t. StandsFirst J.start ticket.now (commands_of t))) }
+        ensures stands { IfOk result (λ told. IfSome told (λ t. StandsFirst L.start ticket.now (commands_of t))) }
     {
         self.held(rt).ack(ticket)
     }
 
     /// Waits until a ticket's length is settled, and gives a token that holds it, by which its order is a prefix of what is published. Refused
     /// with the token that the store has failed, where it failed before that.
-    pub fn wait_ack<R: Wait>(&self, rt: &R, ticket: &Ticket<J>) -> Result<Told<D, J>, Stopped<J>>
+    pub fn wait_ack<R: Wait>(&self, rt: &R, ticket: &Ticket<L>) -> Result<Told<D, L>, Stopped<L>>
         ensures holds { IfOk result (λ told. ticket.now.length ≤ length (commands_of told)) }
-        ensures stands { IfOk result (λ told. StandsFirst J.start ticket.now (commands_of told)) }
+        ensures stands { IfOk result (λ told. StandsFirst L.start ticket.now (commands_of told)) }
     {
         let turn = &self.turns[ticket.turn()];
         for _ in rt.forever() {
@@ -317,7 +315,7 @@ impl<D, J: Site> Hub<D, J> {
 
     /// Waits for a command to take off, and answers with the token `Work`; or, once the end was called and no command is left, with the
     /// token `Idle`.
-    pub fn wait_work<R: Wait>(&self, rt: &R, writer: &mut Writer<J>) -> Result<Work<J>, Idle<J>> {
+    pub fn wait_work<R: Wait>(&self, rt: &R, writer: &mut Writer<L>) -> Result<Work<L>, Idle<L>> {
         let _ = writer;
         let mut kept = self.held(rt);
         for _ in rt.forever() {
@@ -325,7 +323,7 @@ impl<D, J: Site> Hub<D, J> {
                 return Ok(Work::by_board(kept.board()));
             }
             if kept.has_ended() {
-                return Err(Idle::by_kept(&kept));
+                return Err(Idle::by_locked(&kept));
             }
             kept = self.work.wait(rt, kept);
         }
@@ -334,7 +332,7 @@ impl<D, J: Site> Hub<D, J> {
 
     /// Tells the flusher that nothing more will be submitted, and answers with the token of that. From then on `submit` is refused with
     /// `StoreFailed`, so that nobody waits for a turn that doesn't come.
-    pub fn end<R: Wait>(&self, rt: &R, closer: &mut Closer<J>) -> Ended<J> {
+    pub fn end<R: Wait>(&self, rt: &R, closer: &mut Closer<L>) -> Ended<L> {
         let ended = self.held(rt).end(closer);
         self.work.notify_all();
         ended
@@ -342,7 +340,7 @@ impl<D, J: Site> Hub<D, J> {
 
     /// A seat more, with nothing counted yet, as `Board::seat` gives it. Refused with `NoSeat` alone, where none is left to give. It
     /// takes no memory.
-    pub fn seat<R: Wait>(&self, rt: &R, closer: &mut Closer<J>) -> Result<Seat<J>, Refusal>
+    pub fn seat<R: Wait>(&self, rt: &R, closer: &mut Closer<L>) -> Result<Seat<L>, Refusal>
         ensures new { IfOk result (λ seat. seat ≡ 0) }
         ensures only { IfErr result (λ e. e ≡ Refusal.NoSeat) }
     {
@@ -350,7 +348,7 @@ impl<D, J: Site> Hub<D, J> {
     }
 
     /// Gives the board back, once nobody shares the hub any more. It takes no memory, and waits for nobody.
-    pub fn into_board(self) -> Board<D, J> {
+    pub fn into_board(self) -> Board<D, L> {
         let Hub {
             kept,
             places: _places,
@@ -361,7 +359,7 @@ impl<D, J: Site> Hub<D, J> {
     }
 
     /// What was found, and what a token has, are prefixes of one order, and of what the token has after it. It takes no memory.
-    pub fn join<R: Wait>(&self, rt: &R, found: &Found<J>, ordered: &mut Ordered<J>)
+    pub fn join<R: Wait>(&self, rt: &R, found: &Found<L>, ordered: &mut Ordered<L>)
         ensures found { IsPrefix found.now ordered.new }
         ensures before { IsPrefix ordered.old ordered.new }
     {
@@ -370,7 +368,7 @@ impl<D, J: Site> Hub<D, J> {
 
     /// How many commands the order has: as many as that of a board of this run had at some moment.
     pub fn ordered<R: Wait>(&self, rt: &R) -> usize
-        ensures { WasOrdered J.start result }
+        ensures { WasOrdered L.start result }
     {
         self.held(rt).board().ordered()
     }

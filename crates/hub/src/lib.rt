@@ -25,14 +25,14 @@
 //!
 //! What is the flusher's, to take, to settle, to wait for work and to fail, asks for a hub's `Writer`, and to end it or to give its seats
 //! out for its `Closer`: `Hub::new` gives one of each, which can't be copied, so that no session's desk can do any of it. The hub's own calls
-//! can't either: what lies under the lock stands in a module of its own (src/kept.rt), which lends the board for reading alone, and asks for
+//! can't either: what lies under the lock stands in a module of its own (src/locked.rt), which lends the board for reading alone, and asks for
 //! the same rights. So `Hub::submit` can't take, settle, fail, end or give a seat, and `Hub::wait_work`, which is lent a `Writer` alone,
 //! can't end.
 //!
 //! Some answers are tokens that nothing else makes: `Settled` where a batch was settled, `Failed` where the hub was told of a failure,
 //! `Work` where a command isn't taken off, `Idle` where the hub was ended and nothing is left to take, `Ended` where it was ended, `Nothing`
 //! where a run was taken off empty, `Stopped` where a board had failed or a hub had ended, and so no command is submitted. Whoever answers
-//! with one had it of such a call, this one or an earlier one. `Unsettled`, by which a hub refuses to settle a batch, shows a moment of its board at
+//! with one had it of such a call, this one or an earlier one. `SettleError`, by which a hub refuses to settle a batch, shows a moment of its board at
 //! which that batch can't be settled.
 //!
 //! A `Hub` is shared by threads: sessions submit and wait for their acknowledgements, and one flusher takes batches, writes them with
@@ -48,22 +48,22 @@
 //! ghost use Rattle.hub.specs.Placed.{StandsFirst};
 //!
 //! use hub::{Hub, Seat, Ticket};
-//! use published::{Site, Told};
+//! use published::{Life, Told};
 //! use refusal::Refusal;
 //! use revision::Command;
 //! use std::alloc::Global;
 //! use std::sync::Wait;
 //!
 //! /// Submits a command, and waits until its reply may be given: the token that comes with it has the ticket's order first.
-//! pub fn submit_and_wait<D, J: Site, R: Wait>(
+//! pub fn submit_and_wait<D, L: Life, R: Wait>(
 //!     rt: &R,
 //!     alloc: Global,
-//!     hub: &Hub<D, J>,
-//!     seat: &mut Seat<J>,
+//!     hub: &Hub<D, L>,
+//!     seat: &mut Seat<L>,
 //!     command: &Command,
-//! ) -> Result<(Ticket<J>, Told<D, J>), Refusal>
+//! ) -> Result<(Ticket<L>, Told<D, L>), Refusal>
 //!     ensures command { IfOk result (λ done. done.0.command ≡ command.now) }
-//!     ensures stands { IfOk result (λ done. StandsFirst J.start done.0 (commands_of done.1)) }
+//!     ensures stands { IfOk result (λ done. StandsFirst L.start done.0 (commands_of done.1)) }
 //! {
 //!     let ticket = match hub.submit(rt, alloc, seat, command) {
 //!         Ok(ticket) => ticket,
@@ -94,22 +94,22 @@ mod ahead;
 mod board;
 mod found;
 mod hub;
-mod kept;
-mod not_submitted;
+mod locked;
 mod place;
 mod run;
 mod seat;
+mod settle_error;
+mod submit_error;
 mod tokens;
-mod unsettled;
 mod waiting;
 
 pub use ahead::Ahead;
 pub use board::Board;
 pub use found::Found;
 pub use hub::Hub;
-pub use kept::{Closer, Writer};
-pub use not_submitted::NotSubmitted;
+pub use locked::{Closer, Writer};
 pub use run::Run;
 pub use seat::{Seat, Tally, Ticket};
+pub use settle_error::SettleError;
+pub use submit_error::SubmitError;
 pub use tokens::{Ended, Failed, Idle, Nothing, Settled, Stopped, Work};
-pub use unsettled::Unsettled;

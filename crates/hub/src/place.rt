@@ -6,19 +6,19 @@ ghost use Rattle.hub.specs.Placed.{StandsFirst};
 
 use crate::seat::Ticket;
 use crate::tokens::Stopped;
-use published::{Site, Told};
+use published::{Life, Told};
 
 // What those who wait at a place are told: the token of what is published up to what is settled, as far as one of them waited for it, and
 // the token that the store has failed. It stands behind a lock of its own.
 #[derive(Drop)]
-pub(crate) struct Place<D, J: Site> {
-    told: Told<D, J>,
-    stopped: Option<Stopped<J>>,
+pub(crate) struct Place<D, L: Life> {
+    told: Told<D, L>,
+    stopped: Option<Stopped<L>>,
 }
 
-impl<D, J: Site> Place<D, J> {
+impl<D, L: Life> Place<D, L> {
     // a place that is told what was published when its hub was made
-    pub(crate) fn new(told: Told<D, J>) -> Place<D, J>
+    pub(crate) fn new(told: Told<D, L>) -> Place<D, L>
         ensures { result ≡ record { told = told; stopped = None } }
     {
         Place {
@@ -28,7 +28,7 @@ impl<D, J: Site> Place<D, J> {
     }
 
     // tells it of what is published; what it was told is never taken back by something older
-    pub(crate) fn tell(&mut self, told: &Told<D, J>)
+    pub(crate) fn tell(&mut self, told: &Told<D, L>)
         ensures one { (self.new.told ≡ self.old.told) ⊎ (self.new.told ≡ told.now) }
         ensures older { IsPrefix self.old.told self.new.told }
         ensures newer { IsPrefix told.now self.new.told }
@@ -38,7 +38,7 @@ impl<D, J: Site> Place<D, J> {
     }
 
     // tells it that the store has failed
-    pub(crate) fn stop(&mut self, stopped: Stopped<J>)
+    pub(crate) fn stop(&mut self, stopped: Stopped<L>)
         ensures { self.new ≡ record self.old { stopped = Some stopped } }
     {
         self.stopped = Some(stopped);
@@ -46,12 +46,12 @@ impl<D, J: Site> Place<D, J> {
 
     // What it was told, where that holds a ticket's length; else the token that the store has failed, if it was told of that, and `None`
     // where it wasn't.
-    pub(crate) fn ack(&self, ticket: &Ticket<J>) -> Result<Option<Told<D, J>>, Stopped<J>>
+    pub(crate) fn ack(&self, ticket: &Ticket<L>) -> Result<Option<Told<D, L>>, Stopped<L>>
         ensures settled { (ticket.now.length ≤ length (commands_of self.now.told)) ↔ (result ≡ Ok (Some self.now.told)) }
         ensures waits { result ≡ Ok None → self.now.stopped ≡ None }
         ensures stopped { OnErr result (IsSome self.now.stopped) }
         ensures holds { IfOk result (λ told. IfSome told (λ t. ticket.now.length ≤ length (commands_of t))) }
-        ensures stands { IfOk result (λ told. IfSome told (λ t. StandsFirst J.start ticket.now (commands_of t))) }
+        ensures stands { IfOk result (λ told. IfSome told (λ t. StandsFirst L.start ticket.now (commands_of t))) }
     {
         if ticket.length() as u64 <= self.told.len() {
             ticket.stands(&self.told);

@@ -1,5 +1,5 @@
 //! Runs of the order: which make a batch, a copy of one, and whether a batch is one.
-ghost use Rattle.std.specs.Prelude.{◌≡◌, ◌≢◌, ◌↔◌, ◌<◌, ◌+◌, ◌^◌, ◌++◌, length, take, IfOk, IsOkUnless, IsTrue};
+ghost use Rattle.std.specs.Prelude.{◌≡◌, ◌≢◌, ◌↔◌, ◌<◌, ◌+◌, ◌^◌, ◌++◌, length, take, IfOk, IsTrue};
 ghost use mathlib.Core.List.{IsPrefix};
 ghost use Rattle.recovery.specs.Found.{commands_of};
 ghost use Rattle.world.specs.Board.{next_run};
@@ -12,11 +12,10 @@ use crate::board::Board;
 use crate::tokens::Nothing;
 use disk::Disk;
 use document::Document;
-use published::{Ordered, Site, Told};
+use published::{Life, Ordered, Told};
 use recovery::{Receipt, Store};
-use refusal::Refusal;
 use revision::{Batch, Taken};
-use std::alloc::Global;
+use std::alloc::{AllocError, Global};
 use std::marker::{Model, PhantomData};
 use world::Entry;
 
@@ -25,16 +24,16 @@ use world::Entry;
 /// of its commit, or where it has no command, or where it doesn't follow what a token names, be it an old one (`apart`), or with the store that
 /// would have written it. It has a token of the order, and knows its place there. Beside the first of its commands it has the documents as
 /// they leave them, so that nobody makes these again.
-pub struct Run<D, J: Site> {
+pub struct Run<D, L: Life> {
     batch: Batch,
     made: Vec<Document>,
     cap: u32,
     place: usize,
-    order: Ordered<J>,
-    of: PhantomData<(D, J)>,
+    order: Ordered<L>,
+    of: PhantomData<(D, L)>,
 }
 
-impl<D, J: Site> Model for Run<D, J> {
+impl<D, L: Life> Model for Run<D, L> {
     ghost use Rattle.hub.specs.Runs as spec;
 
     ghost Value = { spec.Run };
@@ -42,23 +41,24 @@ impl<D, J: Site> Model for Run<D, J> {
     ghost view = { λ r. record { commands = r.batch; cap = r.cap; place = r.place } };
 
     ghost invariant = { λ r. spec.IsPart r.batch r.place r.order
-        × spec.AreMadeThere J.start r.order r.place r.batch r.made.items };
+        × spec.AreMadeThere L.start r.order r.place r.batch r.made.items };
 }
 
-impl<D, J: Site> Run<D, J> {
+impl<D, L: Life> Run<D, L> {
     // The run that a board has to take off next, for a batch of so many bytes, with the documents beside its first commands.
     pub(crate) fn by_board(
-        board: &Board<D, J>,
+        board: &Board<D, L>,
         batch: Batch,
         made: Vec<Document>,
         cap: u32,
-    ) -> Run<D, J>
+    ) -> Run<D, L>
         requires longest { IsLongest cap (untaken board.now.board) (length batch) }
         requires run { batch ≡ takens (next_run board.now.board (length batch)) }
-        requires made { AreMadeThere J.start board.now.board.order board.now.board.taken batch made.items }
+        requires made { AreMadeThere L.start board.now.board.order board.now.board.taken batch made.items }
         ensures { result ≡ record { commands = batch; cap = cap; place = board.now.board.taken } }
     {
-        let _count = board.ordered();
+        // its order has a length that fits
+        board.facts();
         Run {
             batch,
             made,
@@ -77,7 +77,7 @@ impl<D, J: Site> Run<D, J> {
     }
 
     /// The order with its commands, where it continues what a token names: as many commands as the order has before its own.
-    pub fn goes_on(&self, told: &Told<D, J>) -> Ordered<J>
+    pub fn goes_on(&self, told: &Told<D, L>) -> Ordered<L>
         requires { self.now.place ≡ length (commands_of told.now) }
         ensures next { IsPrefix (commands_of told.now ++ self.now.commands) (takens result) }
         ensures few { length (commands_of told.now) + length self.now.commands < 2 ^ 64 }
@@ -88,7 +88,7 @@ impl<D, J: Site> Run<D, J> {
 
     /// Ends a run that doesn't follow what a token names: the order has more commands before its own, or fewer. It is never written, so the
     /// caller has to fail the board; no clause says that it does.
-    pub fn apart(self, told: &Told<D, J>)
+    pub fn apart(self, told: &Told<D, L>)
         requires { self.place ≢ length (commands_of told.now) }
     {
         let Run {
@@ -117,9 +117,9 @@ impl<D, J: Site> Run<D, J> {
     }
 
     /// Element i is the document that command i leaves, where the run continues what a token names. Its last commands may have none.
-    pub fn made(&self, told: &Told<D, J>) -> &[Document]
+    pub fn made(&self, told: &Told<D, L>) -> &[Document]
         requires { self.now.place ≡ length (commands_of told.now) }
-        ensures { AreMade (fold J.start (commands_of told.now)) self.now.commands result.now }
+        ensures { AreMade (fold L.start (commands_of told.now)) self.now.commands result.now }
     {
         told.begins_order(&self.order);
         self.made.as_slice()
@@ -127,10 +127,10 @@ impl<D, J: Site> Run<D, J> {
 
     /// Ends a run that was committed, by the receipt of its commit, where it continues what a token names, and gives the documents as its
     /// first commands leave them, as `made` does.
-    pub fn committed(self, receipt: &Receipt<D>, told: &Told<D, J>) -> Vec<Document>
-        requires batch { receipt.now ≡ self.commands }
+    pub fn committed(self, receipt: &Receipt<D>, told: &Told<D, L>) -> Vec<Document>
+        requires batch { receipt.now.batch ≡ self.commands }
         requires place { self.place ≡ length (commands_of told.now) }
-        ensures { AreMade (fold J.start (commands_of told.now)) self.commands result.items }
+        ensures { AreMade (fold L.start (commands_of told.now)) self.commands result.items }
     {
         let Run {
             batch: _batch,
@@ -146,7 +146,7 @@ impl<D, J: Site> Run<D, J> {
     }
 
     /// Ends a run that has no command, and gives the token that there was none to take off for so many bytes.
-    pub fn nothing(self) -> Nothing<J>
+    pub fn nothing(self) -> Nothing<L>
         requires { length self.commands ≡ 0 }
         ensures { result ≡ self.cap }
     {
@@ -194,10 +194,9 @@ pub(crate) fn longest(entries: &[Entry], cap: u32) -> usize
     entries.len()
 }
 
-/// What was taken of these commands, copied, or `NoMemory`.
-pub(crate) fn copied(alloc: Global, entries: &[Entry]) -> Result<Vec<Taken>, Refusal>
+/// What was taken of these commands, copied. Refused as out of memory alone.
+pub(crate) fn copied(alloc: Global, entries: &[Entry]) -> Result<Vec<Taken>, AllocError>
     ensures run { IfOk result (λ run. run.items ≡ takens entries.now) }
-    ensures only { IsOkUnless result Refusal.NoMemory }
 {
     let mut run = Vec::new(alloc);
     for entry in entries {

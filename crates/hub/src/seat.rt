@@ -6,7 +6,7 @@ ghost use Rattle.hub.specs.Legal.{counted};
 ghost use Rattle.hub.specs.Placed.{IsPlaced, StandsFirst};
 
 use crate::ahead::Ahead;
-use published::{Ordered, Site, Told};
+use published::{Life, Ordered, Told};
 use revision::{Command, Reply};
 use std::marker::Model;
 use std::sync::ledger::{Book, Share};
@@ -17,13 +17,13 @@ pub(crate) const PLACES: usize = 64;
 /// A session's right to submit. Contracts see it as the number of commands that were taken from it: the sum over all seats is the
 /// length of the board's order. It is used at the board that gave it, by itself or behind its hub.
 #[derive(Drop)]
-pub struct Seat<J: Site> {
-    pub(crate) share: Share<J>,
+pub struct Seat<L: Life> {
+    pub(crate) share: Share<L>,
     pub(crate) place: usize,
-    pub(crate) ahead: Option<Vec<Ahead<J>>>,
+    pub(crate) ahead: Option<Vec<Ahead<L>>>,
 }
 
-impl<J: Site> Model for Seat<J> {
+impl<L: Life> Model for Seat<L> {
     ghost use Rattle.std.specs.Prelude.{◌≡◌, ◌<◌, ℕ};
 
     ghost Value = { ℕ };
@@ -33,16 +33,16 @@ impl<J: Site> Model for Seat<J> {
     ghost invariant = { λ s. (s.share.parts ≡ 1) × (s.place < 64) };
 }
 
-impl<J: Site> Seat<J> {
+impl<L: Life> Seat<L> {
     /// Gives the seat edits that are moved on already, the last one first, for the commands that it submits next. What it had is let go.
-    pub fn move_ahead(&mut self, ahead: Vec<Ahead<J>>)
+    pub fn move_ahead(&mut self, ahead: Vec<Ahead<L>>)
         ensures { self.new ≡ self.old }
     {
         self.ahead = Some(ahead);
     }
 
     // the next edit that is moved on already, where a command asks for it
-    pub(crate) fn ahead_for(&mut self, command: &Command) -> Option<Ahead<J>>
+    pub(crate) fn ahead_for(&mut self, command: &Command) -> Option<Ahead<L>>
         ensures { self.new ≡ self.old }
     {
         match &mut self.ahead {
@@ -61,11 +61,11 @@ impl<J: Site> Seat<J> {
 
 /// What seats have counted that are used no longer. Contracts see it as how many seats these are, and what they have counted together.
 #[derive(Drop)]
-pub struct Tally<J: Site> {
-    pub(crate) share: Share<J>,
+pub struct Tally<L: Life> {
+    pub(crate) share: Share<L>,
 }
 
-impl<J: Site> Model for Tally<J> {
+impl<L: Life> Model for Tally<L> {
     ghost use Rattle.hub.specs.Legal as spec;
 
     ghost Value = { spec.Tally };
@@ -73,9 +73,9 @@ impl<J: Site> Model for Tally<J> {
     ghost view = { λ t. record { seats = t.share.parts; counted = t.share.amount } };
 }
 
-impl<J: Site> Tally<J> {
+impl<L: Life> Tally<L> {
     /// Adds a seat, which is used no longer. It takes no memory.
-    pub fn add(&mut self, seat: Seat<J>)
+    pub fn add(&mut self, seat: Seat<L>)
         ensures { self.new ≡ record { seats = self.old.seats + 1; counted = self.old.counted + seat } }
     {
         self.share.merge(seat.share);
@@ -86,14 +86,14 @@ impl<J: Site> Tally<J> {
 /// one, and `at_turn` makes the same one with another turn. Contracts see the command too, which takes no memory. It has a token of the
 /// order up to that length, in which its command has its place.
 #[derive(Drop)]
-pub struct Ticket<J: Site> {
+pub struct Ticket<L: Life> {
     pub(crate) ticket: world::Ticket,
     pub(crate) place: usize,
     pub(crate) turn: usize,
-    pub(crate) order: Ordered<J>,
+    pub(crate) order: Ordered<L>,
 }
 
-impl<J: Site> Model for Ticket<J> {
+impl<L: Life> Model for Ticket<L> {
     ghost use Rattle.std.specs.Prelude.{◌<◌};
     ghost use Rattle.world.specs.Board as spec;
     ghost use Rattle.hub.specs.Placed.{IsPlaced};
@@ -102,13 +102,13 @@ impl<J: Site> Model for Ticket<J> {
 
     ghost view = { λ t. t.ticket };
 
-    ghost invariant = { λ t. (t.place < 64) × (t.turn < 8) × IsPlaced J.start t.order t.ticket };
+    ghost invariant = { λ t. (t.place < 64) × (t.turn < 8) × IsPlaced L.start t.order t.ticket };
 }
 
-impl<J: Site> Ticket<J> {
+impl<L: Life> Ticket<L> {
     /// The order up to its length, in which its command has its place.
-    pub fn order(&self) -> &Ordered<J>
-        ensures { IsPlaced J.start result.now self.now }
+    pub fn order(&self) -> &Ordered<L>
+        ensures { IsPlaced L.start result.now self.now }
     {
         &self.order
     }
@@ -128,11 +128,11 @@ impl<J: Site> Ticket<J> {
     }
 
     /// Where all of the order up to its length is published, its order is a prefix of what is. It takes no memory.
-    pub fn stands<D>(&self, told: &Told<D, J>)
+    pub fn stands<D>(&self, told: &Told<D, L>)
         requires { self.now.length ≤ length (commands_of told.now) }
-        ensures { StandsFirst J.start self.now (commands_of told.now) }
+        ensures { StandsFirst L.start self.now (commands_of told.now) }
     {
-        self.order.legal();
+        self.order.facts();
         told.covers(&self.order);
     }
 
@@ -151,7 +151,7 @@ impl<J: Site> Ticket<J> {
     }
 
     // the same ticket, whose seat is woken at this turn
-    pub(crate) fn at_turn(self, turn: usize) -> Ticket<J>
+    pub(crate) fn at_turn(self, turn: usize) -> Ticket<L>
         requires { turn < 8 }
         ensures { result ≡ self }
     {
@@ -171,7 +171,7 @@ impl<J: Site> Ticket<J> {
 }
 
 // takes the last of these edits off, where a command asks for it
-fn next_for<J: Site>(ahead: &mut Vec<Ahead<J>>, command: &Command) -> Option<Ahead<J>> {
+fn next_for<L: Life>(ahead: &mut Vec<Ahead<L>>, command: &Command) -> Option<Ahead<L>> {
     let is_next = match ahead.last() {
         Some(next) => next.is_like(command),
         None => false,
@@ -180,7 +180,7 @@ fn next_for<J: Site>(ahead: &mut Vec<Ahead<J>>, command: &Command) -> Option<Ahe
 }
 
 /// Counts a command on a share where it was taken.
-pub(crate) fn count<J: Site>(seats: &mut Book<J>, share: &mut Share<J>, reply: Reply)
+pub(crate) fn count<L: Life>(seats: &mut Book<L>, share: &mut Share<L>, reply: Reply)
     requires { share.old.parts ≡ 1 }
     ensures total { seats.new.total ≡ counted seats.old.total (reply_of (Ok reply)) }
     ensures amount { share.new.amount ≡ counted share.old.amount (reply_of (Ok reply)) }

@@ -3,8 +3,8 @@ ghost use Rattle.std.specs.Prelude.{◌≡◌, ◌≢◌, [], true};
 ghost use Rattle.hub.specs.Runs.{untaken};
 
 use crate::board::Board;
-use crate::kept::Kept;
-use published::{Site, Told};
+use crate::locked::Locked;
+use published::{Life, Told};
 use refusal::Refusal;
 use std::marker::{Model, PhantomData};
 use std::snapshot::Snapshot;
@@ -12,12 +12,12 @@ use std::snapshot::Snapshot;
 /// That a board had no command to take off whose batch has at most so many bytes. Only a run that was taken off empty gives one, by
 /// `Run::nothing`. Contracts see it as how many bytes that run's batch could have.
 #[derive(Drop)]
-pub struct Nothing<J: Site> {
+pub struct Nothing<L: Life> {
     cap: u32,
-    of: PhantomData<J>,
+    of: PhantomData<L>,
 }
 
-impl<J: Site> Model for Nothing<J> {
+impl<L: Life> Model for Nothing<L> {
     ghost use Rattle.std.specs.Prelude.{ℕ};
 
     ghost Value = { ℕ };
@@ -25,9 +25,9 @@ impl<J: Site> Model for Nothing<J> {
     ghost view = { λ n. n.cap };
 }
 
-impl<J: Site> Nothing<J> {
+impl<L: Life> Nothing<L> {
     // A run for so many bytes was taken off empty.
-    pub(crate) fn by_run(cap: u32) -> Nothing<J>
+    pub(crate) fn by_run(cap: u32) -> Nothing<L>
         ensures { result ≡ cap }
     {
         Nothing {
@@ -40,11 +40,11 @@ impl<J: Site> Nothing<J> {
 /// That a batch was settled. Only `Hub::settle` makes one, of the board as it then is. Contracts see it as the batches that were published
 /// up to what that board has settled; it takes no memory.
 #[derive(Drop)]
-pub struct Settled<D, J: Site> {
-    told: Snapshot<Told<D, J>>,
+pub struct Settled<D, L: Life> {
+    told: Snapshot<Told<D, L>>,
 }
 
-impl<D, J: Site> Model for Settled<D, J> {
+impl<D, L: Life> Model for Settled<D, L> {
     ghost use Rattle.std.specs.Prelude.{List};
     ghost use Rattle.revision.specs.Command.{Taken};
 
@@ -53,9 +53,9 @@ impl<D, J: Site> Model for Settled<D, J> {
     ghost view = { λ s. s.told.value };
 }
 
-impl<D, J: Site> Settled<D, J> {
+impl<D, L: Life> Settled<D, L> {
     // What this board has settled.
-    pub(crate) fn by_board(board: &Board<D, J>) -> Settled<D, J>
+    pub(crate) fn by_board(board: &Board<D, L>) -> Settled<D, L>
         ensures { result ≡ board.now.told }
     {
         Settled {
@@ -67,12 +67,12 @@ impl<D, J: Site> Settled<D, J> {
 /// That the hub was told that the store has failed, and why. Only `Hub::fail` makes one, of a board that knows it. Contracts see it as
 /// the refusal.
 #[derive(Drop)]
-pub struct Failed<J: Site> {
+pub struct Failed<L: Life> {
     refusal: Refusal,
-    of: PhantomData<J>,
+    of: PhantomData<L>,
 }
 
-impl<J: Site> Model for Failed<J> {
+impl<L: Life> Model for Failed<L> {
     ghost use Rattle.refusal.specs.declared.Refusal.{Refusal as Why};
 
     ghost Value = { Why };
@@ -80,9 +80,9 @@ impl<J: Site> Model for Failed<J> {
     ghost view = { λ f. f.refusal };
 }
 
-impl<J: Site> Failed<J> {
+impl<L: Life> Failed<L> {
     // Of a board that has failed, for this reason.
-    pub(crate) fn by_board<D>(board: &Board<D, J>, refusal: Refusal) -> Failed<J>
+    pub(crate) fn by_board<D>(board: &Board<D, L>, refusal: Refusal) -> Failed<L>
         requires { board.now.failed ≡ true }
         ensures { result ≡ refusal }
     {
@@ -104,13 +104,13 @@ impl<J: Site> Failed<J> {
 /// That the hub's end was called and all that was ordered had been taken off. Only `Hub::wait_work` makes one, of what lies under the
 /// hub's lock then.
 #[derive(Drop)]
-pub struct Idle<J: Site> {
-    of: PhantomData<J>,
+pub struct Idle<L: Life> {
+    of: PhantomData<L>,
 }
 
-impl<J: Site> Idle<J> {
+impl<L: Life> Idle<L> {
     // Of what lies under the hub's lock: the end was called, and nothing is left to take off.
-    pub(crate) fn by_kept<D>(kept: &Kept<D, J>) -> Idle<J>
+    pub(crate) fn by_locked<D>(kept: &Locked<D, L>) -> Idle<L>
         requires ended { kept.now.ended ≡ true }
         requires idle { untaken kept.now.board.board ≡ [] }
     {
@@ -121,13 +121,13 @@ impl<J: Site> Idle<J> {
 
 /// That a hub's board had a command that wasn't taken off. Only `Hub::wait_work` makes one, of what lies under the hub's lock then.
 #[derive(Drop)]
-pub struct Work<J: Site> {
-    of: PhantomData<J>,
+pub struct Work<L: Life> {
+    of: PhantomData<L>,
 }
 
-impl<J: Site> Work<J> {
+impl<L: Life> Work<L> {
     // Of a board that has one.
-    pub(crate) fn by_board<D>(board: &Board<D, J>) -> Work<J>
+    pub(crate) fn by_board<D>(board: &Board<D, L>) -> Work<L>
         requires { untaken board.now.board ≢ [] }
     {
         let _ = board;
@@ -137,13 +137,13 @@ impl<J: Site> Work<J> {
 
 /// That a hub's end was called. Only `Hub::end` makes one.
 #[derive(Drop)]
-pub struct Ended<J: Site> {
-    of: PhantomData<J>,
+pub struct Ended<L: Life> {
+    of: PhantomData<L>,
 }
 
-impl<J: Site> Ended<J> {
+impl<L: Life> Ended<L> {
     // Of what lies under the hub's lock: the end was called.
-    pub(crate) fn by_kept<D>(kept: &Kept<D, J>) -> Ended<J>
+    pub(crate) fn by_locked<D>(kept: &Locked<D, L>) -> Ended<L>
         requires { kept.now.ended ≡ true }
     {
         let _ = kept;
@@ -154,13 +154,13 @@ impl<J: Site> Ended<J> {
 /// That a board of the run had failed, or that its hub had ended: nothing is submitted from then on. Only a hub makes one, of what lies under
 /// its lock. It takes no memory.
 #[derive(Drop)]
-pub struct Stopped<J: Site> {
-    of: PhantomData<J>,
+pub struct Stopped<L: Life> {
+    of: PhantomData<L>,
 }
 
-impl<J: Site> Stopped<J> {
+impl<L: Life> Stopped<L> {
     // Of a board that has failed.
-    pub(crate) fn by_board<D>(board: &Board<D, J>) -> Stopped<J>
+    pub(crate) fn by_board<D>(board: &Board<D, L>) -> Stopped<L>
         requires { board.now.failed ≡ true }
     {
         let _ = board;
@@ -168,7 +168,7 @@ impl<J: Site> Stopped<J> {
     }
 
     // Of what lies under the hub's lock: the end was called.
-    pub(crate) fn by_kept<D>(kept: &Kept<D, J>) -> Stopped<J>
+    pub(crate) fn by_locked<D>(kept: &Locked<D, L>) -> Stopped<L>
         requires { kept.now.ended ≡ true }
     {
         let _ = kept;
@@ -176,13 +176,13 @@ impl<J: Site> Stopped<J> {
     }
 
     // Of a hub that was told that the store has failed.
-    pub(crate) fn by_failed(failed: &Failed<J>) -> Stopped<J> {
+    pub(crate) fn by_failed(failed: &Failed<L>) -> Stopped<L> {
         let _ = failed;
         Stopped { of: PhantomData }
     }
 
     /// A copy.
-    pub fn copy(&self) -> Stopped<J> {
+    pub fn copy(&self) -> Stopped<L> {
         Stopped { of: PhantomData }
     }
 

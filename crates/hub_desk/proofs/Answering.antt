@@ -1,8 +1,7 @@
 -- What a command is answered by its submission.
-use Rattle.std.proofs.Common.{◌≡◌, ◌∙◌, ℕ, List, Result, Ok, Err, true, refl, ap, ap₂, sym, subst, inl, inr}
+use Rattle.std.proofs.Common.{◌≡◌, ◌∙◌, ℕ, List, Result, Err, refl, ap, ap₂, sym, subst, inl, inr}
 use mathlib.Core.List.{IsPrefix}
 use Rattle.refusal.specs.declared.Refusal.{Refusal}
-use Rattle.refusal.specs.declared.Refusal.TheVariants.{StoreFailed}
 use Rattle.revision.specs.Command.{Command, Taken}
 use Rattle.revision.specs.State.{State}
 use Rattle.recovery.specs.Found.{commands_of}
@@ -13,13 +12,13 @@ use Rattle.hub.specs.Legal.{counted}
 use Rattle.hub.specs.Found.{IsSubmittedAfter}
 use Rattle.hub.specs.Given.{refusal_of}
 use Rattle.hub.specs.Placed.{StandsFirst}
-use Rattle.hub.specs.declared.not_submitted.NotSubmitted.{NotSubmitted}
-use Rattle.hub.specs.declared.not_submitted.NotSubmitted.TheVariants.{Stopped, ByBoard}
+use Rattle.hub.specs.declared.submit_error.SubmitError.{SubmitError}
+use Rattle.hub.specs.declared.submit_error.SubmitError.TheVariants.{Stopped, ByBoard}
 use Rattle.session.specs.declared.reply.Reply.{Reply}
 use Rattle.session.specs.Alone.{answered}
 use Rattle.session.specs.Exchange.{Answered}
 use Rattle.hub.specs.Submitted.{counted_by}
-use Rattle.hub_desk.specs.AtHub.{Desk, Submits, PassesAtHub}
+use Rattle.hub_desk.specs.AtHub.{Desk, PassesAtHub}
 use Rattle.hub_desk.specs.Tickets.{AnswersFor, noted, with_seat}
 use Rattle.hub_desk.proofs.Batches.{commands_begin}
 
@@ -33,58 +32,27 @@ stands_more start ticket old new begins stands = record {
   first = prefix_trans (takens stands.order) (commands_of old) (commands_of new) stands.first (commands_begin old new begins);
 }
 
-module _ {J : Type 0} (start : State) (old new : Desk) (command : Command) where
-  -- it was submitted
-  was_submitted : (ticket : Ticket) (count : ℕ) (before after : List Entry) → IsSubmittedAfter {J = J} start old.shown before command (Ok ticket) after
-      → IsPrefix old.told new.told → new.shown ≡ old.shown
-      → Submits start (with_seat old count before) command ticket (with_seat new (counted count ticket.reply) after)
-  was_submitted ticket count before after was told shown = record {
-    of_command = was.of_command;
-    given = was.given.0;
-    counts = refl;
-    told = told;
-    shown = shown;
-    finds = record { legal = was.legal; found = was.found; shows = was.begins };
-    placed = was.given.1;
-  }
-
-  -- so it is answered by its ticket,
-  pub answered_ok : (submitted : Result Ticket (NotSubmitted J)) (ticket : Ticket) (reply : Reply) → submitted ≡ Ok ticket → IsPrefix old.told new.told
-      → new.shown ≡ old.shown → answered ticket.reply ≡ Ok reply → StandsFirst start ticket (commands_of new.told)
-      → AnswersFor start old command submitted (Ok reply) new
-  answered_ok submitted ticket reply is told shown answer stands count before after was =
-      let this : IsSubmittedAfter {J = J} start old.shown before command (Ok ticket) after = subst (λ (s : Result Ticket (NotSubmitted J)). IsSubmittedAfter start old.shown before command s after) is was in
-      subst (λ (s : Result Ticket (NotSubmitted J)). PassesAtHub start (with_seat old count before) (Answered command (Ok reply)) (with_seat new (counted_by count s) after)) (sym is)
-      (record { ticket = ticket; submits = was_submitted ticket count before after this told shown; answer = answer; stands = stands })
-
-  -- or the hub was stopped before it was settled,
-  pub answered_stopped : (submitted : Result Ticket (NotSubmitted J)) (ticket : Ticket) (refusal : Refusal) → submitted ≡ Ok ticket → IsPrefix old.told new.told
-      → new.shown ≡ old.shown → (refusal ≡ StoreFailed) × (new.stopped ≡ true) → AnswersFor start old command submitted (Err refusal) new
-  answered_stopped submitted ticket refusal is told shown only count before after was =
-      let this : IsSubmittedAfter {J = J} start old.shown before command (Ok ticket) after = subst (λ (s : Result Ticket (NotSubmitted J)). IsSubmittedAfter start old.shown before command s after) is was in
-      subst (λ (s : Result Ticket (NotSubmitted J)). PassesAtHub start (with_seat old count before) (Answered command (Err refusal)) (with_seat new (counted_by count s) after)) (sym is)
-      (inr (inr (only.0, record { token = only.1; submits = inr (ticket, was_submitted ticket count before after this told shown) })))
-
-  by_why : (why : NotSubmitted J) (count : ℕ) (before after : List Entry) → IsSubmittedAfter {J = J} start old.shown before command (Err why) after
+module _ {L : Type 0} (start : State) (old new : Desk) (command : Command) where
+  by_why : (why : SubmitError L) (count : ℕ) (before after : List Entry) → IsSubmittedAfter {L = L} start old.shown before command (Err why) after
       → PassesAtHub start (with_seat old count before) (Answered command (Err (refusal_of why))) (with_seat (noted old why) count after)
   by_why (Stopped token) count before after was =
       inr (inr (refl, record { token = refl; submits = inl (refl, record { legal = was.legal; found = was.found; shows = was.begins }) }))
   by_why (ByBoard refusal) count before after was =
       inr (inl (record { refused = was.given; finds = record { legal = was.legal; found = was.found; shows = was.begins }; others = refl }))
 
-  -- or it wasn't submitted
-  pub answered_refused : (submitted : Result Ticket (NotSubmitted J)) (why : NotSubmitted J) (refusal : Refusal) → submitted ≡ Err why → refusal ≡ refusal_of why
+  -- It wasn't submitted.
+  pub answered_refused : (submitted : Result Ticket (SubmitError L)) (why : SubmitError L) (refusal : Refusal) → submitted ≡ Err why → refusal ≡ refusal_of why
       → new ≡ noted old why → AnswersFor start old command submitted (Err refusal) new
   answered_refused submitted why refusal is told leaves count before after was =
-      let this : IsSubmittedAfter {J = J} start old.shown before command (Err why) after = subst (λ (s : Result Ticket (NotSubmitted J)). IsSubmittedAfter start old.shown before command s after) is was in
-      subst (λ (s : Result Ticket (NotSubmitted J)). PassesAtHub start (with_seat old count before) (Answered command (Err refusal)) (with_seat new (counted_by count s) after)) (sym is)
+      let this : IsSubmittedAfter {L = L} start old.shown before command (Err why) after = subst (λ (s : Result Ticket (SubmitError L)). IsSubmittedAfter start old.shown before command s after) is was in
+      subst (λ (s : Result Ticket (SubmitError L)). PassesAtHub start (with_seat old count before) (Answered command (Err refusal)) (with_seat new (counted_by count s) after)) (sym is)
       (subst (λ (r : Refusal). PassesAtHub start (with_seat old count before) (Answered command (Err r)) (with_seat new count after)) (sym told)
       (subst (λ (d : Desk). PassesAtHub start (with_seat old count before) (Answered command (Err (refusal_of why))) (with_seat d count after)) (sym leaves)
       (by_why why count before after this)))
 
-module _ {J : Type 0} where
+module _ {L : Type 0} where
   -- A command that was submitted, and then answered by that.
-  pub asked_one : (start : State) (old mid new : Desk) (command : Command) (submitted : Result Ticket (NotSubmitted J)) (result : Result Reply Refusal)
+  pub asked_one : (start : State) (old mid new : Desk) (command : Command) (submitted : Result Ticket (SubmitError L)) (result : Result Reply Refusal)
       → IsSubmittedAfter start old.shown old.found command submitted mid.found → mid ≡ with_seat old (counted_by old.counted submitted) mid.found
       → new ≡ record mid { told = new.told; stopped = new.stopped } → AnswersFor start mid command submitted result new
       → PassesAtHub start old (Answered command result) new

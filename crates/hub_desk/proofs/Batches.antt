@@ -1,20 +1,15 @@
 -- Published batches, where some begin others, and what they make of a state.
-use Rattle.std.proofs.Common.{◌≡◌, ◌++◌, ◌&&◌, Bool, true, false, List, [], ◌∷◌, refl, sym, ap, subst, ◌∙◌, append_assoc}
+use Rattle.std.proofs.Common.{◌≡◌, ◌++◌, ◌&&◌, Bool, true, false, List, [], ◌∷◌, refl, sym, ap, subst, ◌∙◌}
 use mathlib.Core.List.{IsPrefix}
 use Rattle.revision.specs.Command.{Taken}
 use Rattle.revision.specs.State.{State, grows, grown, all_grow, fold}
 use Rattle.recovery.specs.Found.{commands_of}
+use Rattle.recovery.proofs.CallerLemmas.{commands-append}
 use Rattle.session.specs.Shelf.{IsLater}
-
--- the commands of batches behind others
-commands-joined : (front back : List (List Taken)) → commands_of (front ++ back) ≡ commands_of front ++ commands_of back
-commands-joined [] back = refl
-commands-joined (batch ∷ others) back =
-    ap (λ (l : List Taken). batch ++ l) (commands-joined others back) ∙ sym (append_assoc batch (commands_of others) (commands_of back))
 
 -- the commands of what begins others begin theirs
 pub commands_begin : (old new : List (List Taken)) → IsPrefix old new → IsPrefix (commands_of old) (commands_of new)
-commands_begin old new (back, is) = (commands_of back, sym (commands-joined old back) ∙ ap commands_of is)
+commands_begin old new (back, is) = (commands_of back, sym (commands-append old back) ∙ ap commands_of is)
 
 and_right : (a b : Bool) → (a && b) ≡ true → b ≡ true
 and_right true b h = h
@@ -30,6 +25,6 @@ grow_behind (first ∷ others) back state grow = grow_behind others back (grown 
 pub later_batches : (start : State) (old new : List (List Taken)) → IsPrefix old new → all_grow start (commands_of new) ≡ true
     → IsLater (fold start (commands_of old)) (fold start (commands_of new))
 later_batches start old new (back, is) grow =
-    let whole : commands_of new ≡ commands_of old ++ commands_of back = ap commands_of (sym is) ∙ commands-joined old back in
+    let whole : commands_of new ≡ commands_of old ++ commands_of back = ap commands_of (sym is) ∙ commands-append old back in
     let behind = grow_behind (commands_of old) (commands_of back) start (subst (λ (l : List Taken). all_grow start l ≡ true) whole grow) in
     (commands_of back, behind.0, ap (fold start) whole ∙ behind.1)

@@ -1,59 +1,28 @@
 -- What is found by a name after a document was set, and what a source has there.
 use Rattle.std.proofs.Common.{◌≡◌, ℕ, zero, suc, ◌+◌, Bool, true, false, cond, ◌&&◌, List, [], ◌∷◌, length, Option, Some, None, refl, sym, ap, ◌∙◌, subst, arith, inl, inr}
-use Rattle.std.specs.Prelude.{◌⊎◌, ◌==◌, nat_lt, nat_le, bytes_eq, slice_get, unwrap_or, is_none}
+use Rattle.std.specs.Prelude.{◌⊎◌, ◌==◌, nat_lt, nat_le, bytes_eq, slice_get, is_none}
 use Rattle.std.proofs.lemmas.Bool.{and_parts, eqb-true}
-use Rattle.std.proofs.lemmas.Bool.Decides.{same_from_decides}
 use Rattle.std.proofs.lemmas.Slice.Eq.{bytes_eq-Decides}
-use Rattle.std.proofs.lemmas.Map.Text.{is_eq-slice_cmp}
 use Rattle.std.proofs.lemmas.Option.{some_pair_parts}
-use Rattle.attributes.specs.Map.{empty, get}
-use Rattle.attributes.specs.Table.{is_name}
-use Rattle.attributes.proofs.CallerLemmas.{get-insert}
+use Rattle.attributes.specs.Map.{empty}
 use Rattle.revision.specs.Command.{Taken, edits}
 use Rattle.revision.specs.declared.step.Step.{Step}
-use Rattle.revision.specs.Window.{Window, nothing_taken, taken_as}
-use Rattle.revision.specs.Sources.{Sources, window_of, with_taken}
+use Rattle.revision.specs.Window.{Window, taken_as}
+use Rattle.revision.specs.Sources.{window_of, with_taken}
 use Rattle.revision.specs.Past.{Change, Past, suits, empty_past, newest, sources_at, with_step}
 use Rattle.revision.specs.State.{Limits, DocumentRecord, State, revision_of, units_of, sources_of, is_live, find, last_of_all, has_place, comes_next, keeps, begins, follows, continues_by_name, change_of, record_by_name, has_room, grows, set_document, grown}
 use Rattle.revision.proofs.CallerLemmas.{step_makes}
 use Rattle.world.specs.Law.{window_found}
+use Rattle.world.proofs.CallerLemmas.{window_of-with_taken}
 
 -- a window with a command
 abbrev pub noted : Taken → Window → Window
 noted taken window = taken_as taken.number taken.revision window
 
-bytes_turned : (a b : List ℕ) → bytes_eq a b ≡ bytes_eq b a
-bytes_turned a b = same_from_decides (bytes_eq a b) (bytes_eq b a) (bytes_eq-Decides a b)
-    ((λ e. sym ((bytes_eq-Decides b a).0 e)), (λ e. (bytes_eq-Decides b a).1 (sym e)))
-
--- a source's window has what was noted of it, and others are unchanged
-window_of-with_taken : (source by : List ℕ) (number revision : ℕ) (sources : Sources)
-    → window_of source (with_taken by number revision sources) ≡ cond (bytes_eq by source) (taken_as number revision (window_of source sources)) (window_of source sources)
-window_of-with_taken source by number revision sources =
-    ap (λ o. unwrap_or o nothing_taken) (get-insert sources by (taken_as number revision (window_of by sources)) source)
-    ∙ (by_test (is_name source by)
-    ∙ (ap (λ b. cond b (taken_as number revision (window_of by sources)) (window_of source sources)) (is_eq-slice_cmp source by ∙ bytes_turned source by)
-    ∙ own (bytes_eq by source) refl))
-  where
-    by_test : (b : Bool) → unwrap_or (cond b (Some (taken_as number revision (window_of by sources))) (get sources source)) nothing_taken
-        ≡ cond b (taken_as number revision (window_of by sources)) (window_of source sources)
-    by_test true = refl
-    by_test false = refl
-
-    own : (b : Bool) → bytes_eq by source ≡ b → cond b (taken_as number revision (window_of by sources)) (window_of source sources)
-        ≡ cond b (taken_as number revision (window_of source sources)) (window_of source sources)
-    own true same = ap (λ s. taken_as number revision (window_of s sources)) ((bytes_eq-Decides by source).0 same)
-    own false other = refl
-
 -- the sources of a document with one step more
 sources-more : (keep : ℕ) (past : Past) (step : Step) (change : Change) → sources_at (with_step keep past step change) (newest (with_step keep past step change))
     ≡ with_taken change.source change.number (newest past + 1) (sources_at past (newest past))
 sources-more keep past step change = ap (sources_at (with_step keep past step change)) (step_makes keep past step change).0 ∙ (step_makes keep past step change).2
-
-set_further : (number : ℕ) (document : Option DocumentRecord) (first : DocumentRecord) (others : List DocumentRecord)
-    → set_document (suc number) document (first ∷ others) ≡ first ∷ set_document number document others
-set_further number None first others = refl
-set_further number (Some document) first others = refl
 
 -- What is found of a name where a document is set: that one, where the one before it was found, or what was found before.
 find-changed : (name : List ℕ) (from number at : ℕ) (documents : List DocumentRecord) (found next : DocumentRecord) → at ≡ from + number

@@ -1,12 +1,9 @@
 -- A command that the rule of acceptance takes stands from then on as its revision, and one that it answers as a retry stands already.
-use Rattle.std.proofs.Common.{◌≡◌, ◌≤◌, ℕ, zero, suc, ◌+◌, Bool, true, false, cond, ◌&&◌, List, [], ◌∷◌, ◌++◌, length, Option, Some, None, Ok, refl, sym, ap, ◌∙◌, subst, arith, inl, inr}
+use Rattle.std.proofs.Common.{◌≡◌, ◌≤◌, ℕ, zero, suc, ◌+◌, Bool, true, false, cond, List, [], ◌∷◌, length, Option, Some, None, Ok, refl, sym, ap, ◌∙◌, subst, arith, inl, inr}
 use Rattle.std.specs.Prelude.{◌==◌, nat_lt, nat_le, bytes_eq, slice_get}
-use Rattle.std.proofs.lemmas.Bool.{and_parts, eqb-true}
 use Rattle.std.proofs.lemmas.Bool.Decides.{nat_tests}
 use Rattle.std.proofs.lemmas.List.{map-append}
 use Rattle.std.proofs.lemmas.Option.{some_pair_parts}
-use Rattle.std.proofs.lemmas.Slice.Eq.{bytes_eq-Decides}
-use mathlib.Core.List.{IsPrefix}
 use Rattle.attributes.specs.Map.{empty}
 use Rattle.delta.specs.Element.{Element}
 use Rattle.delta.specs.Operation.{Operation}
@@ -20,8 +17,8 @@ use Rattle.revision.specs.Late.{late}
 use Rattle.revision.specs.Parting.{parts_pair}
 use Rattle.revision.specs.Past.{Past, empty_past, newest, sources_at, with_step, undo_of, deltas_of, deltas_above}
 use Rattle.revision.specs.Sources.{Sources, window_of}
-use Rattle.revision.proofs.CallerLemmas.{none_outside}
-use Rattle.revision.specs.State.{Limits, DocumentRecord, State, revision_of, units_of, sources_of, is_live, find, last_of_all, has_place, reaches_past, weight_after, change_of, record_by_name, set_document, grown, all_grow, fold}
+use Rattle.revision.proofs.CallerLemmas.{none_outside, none-past, itself, not_again, number_next}
+use Rattle.revision.specs.State.{Limits, DocumentRecord, State, revision_of, units_of, sources_of, is_live, find, last_of_all, reaches_past, weight_after, change_of, record_by_name, set_document, grown, all_grow, fold}
 use Rattle.revision.specs.Acceptance.{Answer, Takes, Repeats, Refuses, Reply, TakenAt, AgainAt, Refused, take_within, take_on, creation, create_new, next_revision, revive, change, edit, undo, delete, if_live, by_retry, by_number, answer, answer_to}
 use Rattle.world.specs.World.{Entry, entry_of, takens}
 use Rattle.hub.specs.Placed.{PlacedBy}
@@ -34,6 +31,8 @@ use Rattle.hub_desk.specs.Standing.{Reaches, StandsIn}
 use Rattle.hub_desk.proofs.Batches.{grow_behind}
 use Rattle.hub_desk.proofs.Finding.{noted, window-changed}
 use Rattle.hub_desk.proofs.StandsOn.{StandsWhere, reaches-new, stands_later}
+use Rattle.world.proofs.CallerLemmas.{by_found}
+use Rattle.hub.proofs.CallerLemmas.{fold-more}
 
 -- what takes, or repeats, isn't refused first
 past-takes : (b : Bool) (refusal : Refusal) (next : Answer) (taken : Taken) → cond b (Refuses refusal) next ≡ Takes taken → (b ≡ false) × (next ≡ Takes taken)
@@ -43,16 +42,6 @@ past-takes false refusal next taken is = (refl, is)
 past-repeats : (b : Bool) (refusal : Refusal) (next : Answer) (revision : ℕ) → cond b (Refuses refusal) next ≡ Repeats revision → next ≡ Repeats revision
 past-repeats true refusal next revision is = absurd (cc (is))
 past-repeats false refusal next revision is = is
-
--- what takes isn't a retry
-anew-takes : (found : Option ℕ) (next : Answer) (taken : Taken) → by_retry found next ≡ Takes taken → next ≡ Takes taken
-anew-takes None next taken is = is
-anew-takes (Some revision) next taken is = absurd (cc (is))
-
--- a retry has the revision that its number made
-again-repeats : (found : Option ℕ) (next : Answer) (revision : ℕ) → (next ≡ Repeats revision → ⊥) → by_retry found next ≡ Repeats revision → found ≡ Some revision
-again-repeats None next revision never is = absurd (never is)
-again-repeats (Some made) next revision never is = cc (is)
 
 -- what takes, or repeats, is of a live document where that is asked
 live-takes : (found : DocumentRecord) (next : Answer) (taken : Taken) → if_live found next ≡ Takes taken → next ≡ Takes taken
@@ -162,25 +151,11 @@ module _ (state : State) (number : ℕ) (found : DocumentRecord) (command : Comm
       let second = past-repeats (revision_of found == last_of_all) RevisionsSpent _ revision first in
       on-repeats state.limits [] (sources_of found) (next_revision number found command Revives delta) revision second
 
-number-takes : (window : Window) (number : ℕ) (next : Answer) (taken : Taken) → by_number window number next ≡ Takes taken
-    → (number ≡ window.number + 1) × (next ≡ Takes taken)
-number-takes window number next taken is =
-    let first = anew-takes (revision_in number window) _ taken is in
-    let second = past-takes (nat_le number window.number) OldNumber _ taken first in
-    let third = past-takes (nat_lt (window.number + 1) number) Gap next taken second.1 in
-    (next_of window.number number second.0 third.0, third.1)
-  where
-    next_of : (n number : ℕ) → nat_le number n ≡ false → nat_lt (n + 1) number ≡ false → number ≡ n + 1
-    next_of n number old gap = grind (arith, nat_tests)
-
 number-repeats : (window : Window) (number : ℕ) (next : Answer) (revision : ℕ) → (next ≡ Repeats revision → ⊥) → by_number window number next ≡ Repeats revision
     → Reaches number revision window
 number-repeats window number next revision never is =
-    inl (again-repeats (revision_in number window) _ revision
+    inl (by_found (revision_in number window) _ revision
     (λ later. never (past-repeats (nat_lt (window.number + 1) number) Gap next revision (past-repeats (nat_le number window.number) OldNumber _ revision later))) is)
-
-bytes_same : (a : List ℕ) → bytes_eq a a ≡ true
-bytes_same a = (bytes_eq-Decides a a).1 refl
 
 -- a document that is found by its name, with its place
 found-place : (name : List ℕ) (from : ℕ) (documents : List DocumentRecord) (at : ℕ) (found : DocumentRecord) → find name from documents ≡ Some (at, found)
@@ -229,7 +204,7 @@ created-at : (name : List ℕ) (from : ℕ) (documents : List DocumentRecord) (n
     → find name from (set_document (length documents) (Some new) documents) ≡ Some (from + length documents, new)
 created-at name from [] new none same =
     let start : from ≡ from + 0 = omega arith in
-    ap (λ b. cond b (Some (from, new)) None) (ap (λ (n : List ℕ). bytes_eq n name) same ∙ bytes_same name) ∙ ap (λ n. Some (n, new)) start
+    ap (λ b. cond b (Some (from, new)) None) (ap (λ (n : List ℕ). bytes_eq n name) same ∙ itself name) ∙ ap (λ n. Some (n, new)) start
 created-at name from (first ∷ others) new none same = by_test (λ there. created-at name (from + 1) others new there same) (bytes_eq first.name name) none
   where
     by_test : (find name (from + 1) others ≡ None
@@ -240,10 +215,6 @@ created-at name from (first ∷ others) new none same = by_test (λ there. creat
     by_test more false there =
         let count : from + 1 + length others ≡ from + suc (length others) = omega arith in
         more there ∙ ap (λ n. Some (n, new)) count
-
-none-behind : (documents : List DocumentRecord) → slice_get documents (length documents) ≡ None
-none-behind [] = refl
-none-behind (first ∷ others) = none-behind others
 
 module _ (state : State) (command : Command) where
   -- where the command's source has it in its window in the document of its name
@@ -259,7 +230,7 @@ module _ (state : State) (command : Command) where
   window-is past taken source next =
       window-changed state.limits.keep past taken command.source next
       ∙ ap (λ b. cond b (noted taken (window_of command.source (sources_at past (newest past)))) (window_of command.source (sources_at past (newest past))))
-      (ap (λ (s : List ℕ). bytes_eq s command.source) source ∙ bytes_same command.source)
+      (ap (λ (s : List ℕ). bytes_eq s command.source) source ∙ itself command.source)
 
   -- a step of a document that is there
   stands-changed : (number : ℕ) (found : DocumentRecord) (step : Step) (delta : List Operation) → find command.name 0 state.documents ≡ Some (number, found)
@@ -280,7 +251,7 @@ module _ (state : State) (command : Command) where
       let after : DocumentRecord = record { name = command.name; past = with_step state.limits.keep empty_past Edits (change_of taken) } in
       stands-there taken (0 + length state.documents) after nothing_taken
       (ap (λ (d : Option DocumentRecord). find command.name 0 (set_document (length state.documents) (record_by_name state.limits.keep d taken (Some command.name)) state.documents))
-      (none-behind state.documents) ∙ created-at command.name 0 state.documents after none refl)
+      (none-past state.documents) ∙ created-at command.name 0 state.documents after none refl)
       (window-is empty_past taken refl refl) (first-reaches command.number le)
     where
       -- the number is the first one, or below the window
@@ -318,9 +289,9 @@ module _ (state : State) (command : Command) where
       (by_number (window_of command.source (sources_of found.1)) command.number (revive state found.0 found.1 command delta)) ≡ Takes taken
       → StandsIn (grown state taken) command taken.revision
   recreated-by found delta taken true some is =
-      absurd (cc (anew-takes (revision_in command.number (window_of command.source (sources_of found.1))) _ taken is))
+      absurd (cc (not_again (revision_in command.number (window_of command.source (sources_of found.1))) _ taken is))
   recreated-by found delta taken false some is =
-      let number = number-takes (window_of command.source (sources_of found.1)) command.number _ taken is in
+      let number = number_next (window_of command.source (sources_of found.1)) command.number _ taken is in
       changed-by found taken some number.0 (revive-takes state found.0 found.1 command delta taken number.1)
 
   taken-to : (action : Action) (there : Option (ℕ × DocumentRecord)) (taken : Taken) → find command.name 0 state.documents ≡ there
@@ -331,15 +302,15 @@ module _ (state : State) (command : Command) where
   taken-to (Create delta) (Some found) taken some is = recreated-by found delta taken (is_live found.1) some is
   taken-to (Edit base delta) None taken none is = absurd (cc (is))
   taken-to (Edit base delta) (Some found) taken some is =
-      let number = number-takes (window_of command.source (sources_of found.1)) command.number _ taken is in
+      let number = number_next (window_of command.source (sources_of found.1)) command.number _ taken is in
       changed-by found taken some number.0 (edit-takes state found.0 found.1 command base delta taken (live-takes found.1 _ taken number.1))
   taken-to Undo None taken none is = absurd (cc (is))
   taken-to Undo (Some found) taken some is =
-      let number = number-takes (window_of command.source (sources_of found.1)) command.number _ taken is in
+      let number = number_next (window_of command.source (sources_of found.1)) command.number _ taken is in
       changed-by found taken some number.0 (undo-takes state found.0 found.1 command taken (live-takes found.1 _ taken number.1))
   taken-to Delete None taken none is = absurd (cc (is))
   taken-to Delete (Some found) taken some is =
-      let number = number-takes (window_of command.source (sources_of found.1)) command.number _ taken is in
+      let number = number_next (window_of command.source (sources_of found.1)) command.number _ taken is in
       changed-by found taken some number.0 (delete-takes state found.0 found.1 command taken (live-takes found.1 _ taken number.1))
 
   stands_taken : (taken : Taken) → answer state command ≡ Takes taken → StandsIn (grown state taken) command taken.revision
@@ -350,7 +321,7 @@ module _ (state : State) (command : Command) where
       (by_number (window_of command.source (sources_of found.1)) command.number (revive state found.0 found.1 command delta)) ≡ Repeats revision
       → Reaches command.number revision (window_of command.source (sources_of found.1))
   created-again found delta revision true is =
-      inl (again-repeats (revision_in command.number (window_of command.source (sources_of found.1))) _ revision (λ never. cc (never)) is)
+      inl (by_found (revision_in command.number (window_of command.source (sources_of found.1))) _ revision (λ never. cc (never)) is)
   created-again found delta revision false is =
       number-repeats (window_of command.source (sources_of found.1)) command.number _ revision (revive-repeats state found.0 found.1 command delta revision) is
 
@@ -374,10 +345,6 @@ module _ (state : State) (command : Command) where
   stands_again : (revision : ℕ) → answer state command ≡ Repeats revision → StandsIn state command revision
   stands_again revision is = again-to command.action (find command.name 0 state.documents) revision is
 
-fold_more : (state : State) (commands : List Taken) (taken : Taken) → fold state (commands ++ taken ∷ []) ≡ grown (fold state commands) taken
-fold_more state [] taken = refl
-fold_more state (first ∷ others) taken = fold_more (grown state first) others taken
-
 -- what the order of a ticket makes has its command
 placed-there : (start : State) (order : List Entry) (command : Command) (due : Reply) (reply : Told) → PlacedBy start order command due → answered due ≡ Ok reply
     → StandsIn (fold start (takens order)) command (rev_of reply)
@@ -386,7 +353,7 @@ placed-there start order command (TakenAt revision) reply (before, taken, whole,
     let same : taken.revision ≡ rev_of reply = made ∙ ap (λ (r : Told). rev_of r) told in
     let state : fold start (takens order) ≡ grown (fold start (takens before)) taken =
     ap (λ (o : List Entry). fold start (takens o)) whole ∙ (ap (fold start) (map-append (λ (e : Entry). e.taken) before (entry_of command taken ∷ []))
-    ∙ fold_more start (takens before) taken) in
+    ∙ fold-more start (takens before) taken) in
     subst (λ (s : State). StandsIn s command (rev_of reply)) (sym state)
     (subst (λ (r : ℕ). StandsIn (grown (fold start (takens before)) taken) command r) same (stands_taken (fold start (takens before)) command taken takes))
 placed-there start order command (AgainAt revision) reply repeats answers =

@@ -1,5 +1,5 @@
 -- A command that stands in a state stands in what comes of it, and was taken.
-use Rattle.std.proofs.Common.{◌≡◌, ℕ, suc, ◌+◌, ◌≤◌, Bool, true, false, cond, ◌&&◌, List, [], ◌∷◌, Option, Some, None, refl, sym, ap, ◌∙◌, subst, arith, inl, inr}
+use Rattle.std.proofs.Common.{◌≡◌, ℕ, suc, ◌+◌, ◌≤◌, Bool, true, false, cond, List, [], ◌∷◌, Option, Some, None, refl, sym, ap, ◌∙◌, subst, arith, inl, inr}
 use Rattle.std.specs.Prelude.{◌⊎◌, ◌<◌, nat_le, nat_lt, bytes_eq, slice_get, IsSomeAnd, Any}
 use Rattle.std.proofs.lemmas.Bool.{and_parts, cases_lt}
 use Rattle.std.proofs.lemmas.Bool.Decides.{nat_tests}
@@ -9,7 +9,7 @@ use Rattle.delta.specs.Operation.{Operation}
 use Rattle.revision.specs.Command.{Action, Create, Edit, Undo, Delete, Command, Taken}
 use Rattle.revision.specs.Window.{Window, taken_as, taken_next, revision_in}
 use Rattle.revision.specs.Sources.{Sources, window_of}
-use Rattle.revision.proofs.CallerLemmas.{none_outside, shifts, one_revision}
+use Rattle.revision.proofs.CallerLemmas.{shifts, one_revision}
 use Rattle.revision.specs.State.{DocumentRecord, State, sources_of, is_live, find, grows, grown, all_grow, fold}
 use Rattle.revision.specs.Acceptance.{Answer, Repeats, Refuses, by_retry, by_number, if_live, revive, edit, undo, delete, answer_to}
 use Rattle.revision.specs.Agree.{DocumentsAgree, PlacesAgree}
@@ -17,6 +17,7 @@ use Rattle.world.specs.Law.{window_found, window_held}
 use Rattle.hub_desk.specs.Standing.{Reaches, StandsIn}
 use Rattle.hub_desk.specs.Laws.{lives, refusal_of_old, IsNotTakenAgain, StandsLater, StandsAlike, IsTakenOf, WasTakenAmong}
 use Rattle.hub_desk.proofs.Finding.{noted, Leaves, grown-leaves}
+use Rattle.world.proofs.CallerLemmas.{made_below, number_again}
 
 -- where the document is found
 abbrev pub StandsWhere : Command → ℕ → Option (ℕ × DocumentRecord) → Type 0
@@ -30,17 +31,8 @@ reached command revision (Some found) stands = stands
 some_same : (a b : ℕ) → ◌≡◌ {A = Option ℕ} (Some a) (Some b) → a ≡ b
 some_same a b e = cc
 
--- a number that made a revision isn't above the last one
-made-below : (window : Window) (number revision : ℕ) → revision_in number window ≡ Some revision → number ≤ window.number
-made-below window number revision is = elim (cases_lt window.number number) [
-  | inl above ↦
-      let none : revision_in number window ≡ None = none_outside window number (λ inside. absurd (omega (arith, above, inside.below))) in
-      absurd (cc)
-  | inr below ↦ below
-]
-
 pub reaches-below : (number revision : ℕ) (window : Window) → Reaches number revision window → number ≤ window.number
-reaches-below number revision window (inl is) = made-below window number revision is
+reaches-below number revision window (inl is) = made_below window number revision is
 reaches-below number revision window (inr old) = omega (arith, old.1)
 
 -- where a number that reaches made a revision, it is that one
@@ -136,10 +128,6 @@ by_number-old window number next none lower =
     ap (λ o. by_retry o (cond (nat_le number window.number) (Refuses OldNumber) (cond (nat_lt (window.number + 1) number) (Refuses Gap) next))) none
     ∙ first_case _ _ _ (is_old number window.number lower)
 
-by_number-again : (window : Window) (number revision : ℕ) (next : Answer) → revision_in number window ≡ Some revision → by_number window number next ≡ Repeats revision
-by_number-again window number revision next is =
-    ap (λ o. by_retry o (cond (nat_le number window.number) (Refuses OldNumber) (cond (nat_lt (window.number + 1) number) (Refuses Gap) next))) is
-
 -- where its document is found
 module _ (state : State) (command : Command) (found : ℕ × DocumentRecord) where
   answered-again : (action : Action) (revision : ℕ) → revision_in command.number (window_of command.source (sources_of found.1)) ≡ Some revision
@@ -148,13 +136,13 @@ module _ (state : State) (command : Command) (found : ℕ × DocumentRecord) whe
       both_cases (is_live found.1) (by_retry (revision_in command.number (window_of command.source (sources_of found.1))) (Refuses Exists))
       (by_number (window_of command.source (sources_of found.1)) command.number (revive state found.0 found.1 command delta)) (Repeats revision)
       (ap (λ o. by_retry o (Refuses Exists)) is)
-      (by_number-again (window_of command.source (sources_of found.1)) command.number revision (revive state found.0 found.1 command delta) is)
+      (number_again (window_of command.source (sources_of found.1)) command.number revision (revive state found.0 found.1 command delta) is)
   answered-again (Edit base delta) revision is =
-      by_number-again (window_of command.source (sources_of found.1)) command.number revision (if_live found.1 (edit state found.0 found.1 command base delta)) is
+      number_again (window_of command.source (sources_of found.1)) command.number revision (if_live found.1 (edit state found.0 found.1 command base delta)) is
   answered-again Undo revision is =
-      by_number-again (window_of command.source (sources_of found.1)) command.number revision (if_live found.1 (undo state found.0 found.1 command)) is
+      number_again (window_of command.source (sources_of found.1)) command.number revision (if_live found.1 (undo state found.0 found.1 command)) is
   answered-again Delete revision is =
-      by_number-again (window_of command.source (sources_of found.1)) command.number revision (if_live found.1 (delete state found.0 found.1 command)) is
+      number_again (window_of command.source (sources_of found.1)) command.number revision (if_live found.1 (delete state found.0 found.1 command)) is
 
   -- a creation, of a document that is live or deleted
   created-old : (delta : List Operation) (live : Bool) → revision_in command.number (window_of command.source (sources_of found.1)) ≡ None

@@ -14,11 +14,11 @@ use Rattle.session.specs.Exchange.{Exchange}
 use Rattle.session.specs.Replies.{Asks}
 use Rattle.session.specs.Ahead.{command_of, commands_of, exchanges_of}
 use Rattle.session.proofs.CallerLemmas.{asked_more}
-use Rattle.hub.specs.declared.not_submitted.NotSubmitted.{NotSubmitted}
+use Rattle.hub.specs.declared.submit_error.SubmitError.{SubmitError}
 use Rattle.hub_desk.specs.AtHub.{Desk, PassesAtHub}
 use Rattle.hub.specs.Found.{AreSubmittedAfter, IsSubmittedAfter}
 use Rattle.hub.specs.Submitted.{counted_by, counted_all}
-use Rattle.hub_desk.specs.Tickets.{AnswersFor, AnswersForAll, with_seat, last_by, last_of}
+use Rattle.hub_desk.specs.Tickets.{AnswersFor, AnswersForAll, with_seat}
 
 -- the command at a place
 pub command_at : (sent : List Sent) (i : ℕ) (one : Sent) → one ≡ get_or sent i one → one.command ≡ get_or (commands_of sent) i one.command
@@ -48,35 +48,35 @@ pub commands_long : (sent : List Sent) → length (commands_of sent) ≡ length 
 commands_long [] = refl
 commands_long (first ∷ others) = ap (λ n. suc n) (commands_long others)
 
-module _ {J : Type 0} where
+module _ {L : Type 0} where
   -- the next of those that are left is of the command there
-  next_of : (start : State) (told : List (List Taken)) (now : List Entry) (cs : List Command) (ts : List (Result Ticket (NotSubmitted J))) (last : List Entry) (i : ℕ)
-      (c : Command) (t : Result Ticket (NotSubmitted J)) → i < length cs → i < length ts → c ≡ get_or cs i c → t ≡ get_or ts i t
+  next_of : (start : State) (told : List (List Taken)) (now : List Entry) (cs : List Command) (ts : List (Result Ticket (SubmitError L))) (last : List Entry) (i : ℕ)
+      (c : Command) (t : Result Ticket (SubmitError L)) → i < length cs → i < length ts → c ≡ get_or cs i c → t ≡ get_or ts i t
       → AreSubmittedAfter start told now (drop i cs) (drop i ts) last
       → (next : List Entry) × IsSubmittedAfter start told now c t next × AreSubmittedAfter start told next (drop (suc i) cs) (drop (suc i) ts) last
   next_of start told now [] ts last i c t within ticked command_is is were = absurd (omega arith)
   next_of start told now (command ∷ commands) [] last i c t within ticked command_is is were = absurd (omega arith)
   next_of start told now (command ∷ commands) (first ∷ others) last zero c t within ticked command_is is (next, was, more) = (
     next,
-    subst (λ (x : Command). IsSubmittedAfter start told now x t next) (sym command_is) (subst (λ (x : Result Ticket (NotSubmitted J)). IsSubmittedAfter start told now command x next) (sym is) was),
+    subst (λ (x : Command). IsSubmittedAfter start told now x t next) (sym command_is) (subst (λ (x : Result Ticket (SubmitError L)). IsSubmittedAfter start told now command x next) (sym is) was),
     more,
   )
   next_of start told now (command ∷ commands) (first ∷ others) last (suc i) c t within ticked command_is is were =
       next_of start told now commands others last i c t (omega arith) (omega arith) command_is is were
 
   -- what is counted with the next
-  counted_suc : (count : ℕ) (ts : List (Result Ticket (NotSubmitted J))) (i : ℕ) (t : Result Ticket (NotSubmitted J)) → i < length ts → t ≡ get_or ts i t
+  counted_suc : (count : ℕ) (ts : List (Result Ticket (SubmitError L))) (i : ℕ) (t : Result Ticket (SubmitError L)) → i < length ts → t ≡ get_or ts i t
       → counted_all count (take (suc i) ts) ≡ counted_by (counted_all count (take i ts)) t
   counted_suc count [] i t within is = absurd (omega arith)
   counted_suc count (first ∷ others) zero t within is = ap (counted_by count) (sym is)
   counted_suc count (first ∷ others) (suc i) t within is = counted_suc (counted_by count first) others i t (omega arith) is
 
-  pub counted_next : (count : ℕ) (ts : List (Result Ticket (NotSubmitted J))) (i : ℕ) (t : Result Ticket (NotSubmitted J)) → i < length ts → t ≡ get_or ts i t
+  pub counted_next : (count : ℕ) (ts : List (Result Ticket (SubmitError L))) (i : ℕ) (t : Result Ticket (SubmitError L)) → i < length ts → t ≡ get_or ts i t
       → counted_all count (take (i + 1) ts) ≡ counted_by (counted_all count (take i ts)) t
   counted_next count ts i t within is = rw add-one (counted_suc count ts i t within is)
 
   -- All were submitted, and then answered: what comes of it is what comes of asking each alone.
-  pub asked_all : (start : State) (old mid new : Desk) (cs : List Command) (exchanges : List Exchange) (ts ts' : List (Result Ticket (NotSubmitted J)))
+  pub asked_all : (start : State) (old mid new : Desk) (cs : List Command) (exchanges : List Exchange) (ts ts' : List (Result Ticket (SubmitError L)))
       → AreSubmittedAfter start old.shown old.found cs ts mid.found → mid ≡ with_seat old (counted_all old.counted ts) mid.found
       → new ≡ record mid { told = new.told; stopped = new.stopped } → ts' ≡ ts → AnswersForAll start mid cs ts' exchanges new
       → Asks (PassesAtHub start) old exchanges new
@@ -87,19 +87,19 @@ module _ {J : Type 0} where
       let e2 : with_seat new (counted_all old.counted ts') mid.found ≡ new = ap₂ (with_seat new) (ap (counted_all old.counted) same ∙ sym n) (sym f) in
       let these : AreSubmittedAfter start mid.shown old.found cs ts' mid.found =
       subst (λ (s : List (List Taken)). AreSubmittedAfter start s old.found cs ts' mid.found) (sym (ap (λ (d : Desk). d.shown) counts))
-      (subst (λ (l : List (Result Ticket (NotSubmitted J))). AreSubmittedAfter start old.shown old.found cs l mid.found) (sym same) were) in
+      (subst (λ (l : List (Result Ticket (SubmitError L))). AreSubmittedAfter start old.shown old.found cs l mid.found) (sym same) were) in
       subst (λ (d : Desk). Asks (PassesAtHub start) d exchanges new) e1
       (subst (λ (d : Desk). Asks (PassesAtHub start) (with_seat mid old.counted old.found) exchanges d) e2 (answers old.counted old.found these))
 
   -- The first of them were answered, and the others were submitted behind what these found.
-  abbrev pub AnswersSoFar : State → Desk → List Command → List (Result Ticket (NotSubmitted J)) → ℕ → List Exchange → Desk → Type 0
+  abbrev pub AnswersSoFar : State → Desk → List Command → List (Result Ticket (SubmitError L)) → ℕ → List Exchange → Desk → Type 0
   AnswersSoFar start first cs ts i asked now =
       (count : ℕ) (before : List Entry) → AreSubmittedAfter start first.shown before cs ts first.found
       → (mid : List Entry) × AreSubmittedAfter start first.shown mid (drop i cs) (drop i ts) first.found
       × Asks (PassesAtHub start) (with_seat first count before) asked (with_seat now (counted_all count (take i ts)) mid)
 
   -- The next was answered by its submission.
-  pub answered_more : (start : State) (first now new : Desk) (sent : List Sent) (cs : List Command) (ts : List (Result Ticket (NotSubmitted J))) (i : ℕ) (asked item : Sent) (t : Result Ticket (NotSubmitted J)) (answer : Result Reply Refusal)
+  pub answered_more : (start : State) (first now new : Desk) (sent : List Sent) (cs : List Command) (ts : List (Result Ticket (SubmitError L))) (i : ℕ) (asked item : Sent) (t : Result Ticket (SubmitError L)) (answer : Result Reply Refusal)
       → i < length sent → i < length ts → asked ≡ get_or sent i asked → item ≡ get_or sent i item → t ≡ get_or ts i t → commands_of sent ≡ cs
       → now.shown ≡ first.shown → AnswersSoFar start first cs ts i (exchanges_of (take i sent)) now → AnswersFor start now asked.command t answer new
       → AnswersSoFar start first cs ts (i + 1) (exchanges_of (take (i + 1) (set sent i (record { command = item.command; answer = answer })))) new
@@ -119,26 +119,15 @@ module _ {J : Type 0} where
             (asked_more (PassesAtHub start) (with_seat first count before) (with_seat now k mid) (with_seat new (counted_by k t) one.0) sent i asked item answer within asked_is is there.2 (answers k mid one.0 this)).1,
       )
 
-  -- the last ticket, with the next looked at
-  last_suc : (last : Ticket) (ts : List (Result Ticket (NotSubmitted J))) (i : ℕ) (t : Result Ticket (NotSubmitted J)) → i < length ts → t ≡ get_or ts i t
-      → last_of last (drop i ts) ≡ last_of (last_by last t) (drop (suc i) ts)
-  last_suc last [] i t within is = absurd (omega arith)
-  last_suc last (first ∷ others) zero t within is = ap (λ (x : Result Ticket (NotSubmitted J)). last_of (last_by last x) others) (sym is)
-  last_suc last (first ∷ others) (suc i) t within is = last_suc last others i t (omega arith) is
-
-  pub last_next : (last : Ticket) (ts : List (Result Ticket (NotSubmitted J))) (i : ℕ) (t : Result Ticket (NotSubmitted J)) → i < length ts → t ≡ get_or ts i t
-      → last_of (last_by last t) (drop (i + 1) ts) ≡ last_of last (drop i ts)
-  last_next last ts i t within is = rw add-one (sym (last_suc last ts i t within is))
-
   -- All were answered.
-  pub answered_whole : (start : State) (first now : Desk) (sent : List Sent) (cs : List Command) (ts : List (Result Ticket (NotSubmitted J))) (i : ℕ) → length sent ≤ i → length ts ≤ i
+  pub answered_whole : (start : State) (first now : Desk) (sent : List Sent) (cs : List Command) (ts : List (Result Ticket (SubmitError L))) (i : ℕ) → length sent ≤ i → length ts ≤ i
       → commands_of sent ≡ cs → AnswersSoFar start first cs ts i (exchanges_of (take i sent)) now → AnswersForAll start first cs ts (exchanges_of sent) now
   answered_whole start first now sent cs ts i all ticked commands so_far count before were =
       let there = so_far count before were in
       let long : length cs ≡ length sent = ap (λ (l : List Command). length l) (sym commands) ∙ commands_long sent in
-      let none : AreSubmittedAfter {J = J} start first.shown there.0 [] [] first.found =
-      subst (λ (l : List Command). AreSubmittedAfter {J = J} start first.shown there.0 l [] first.found) (drop_all i cs (omega (arith, all, long)))
-      (subst (λ (l : List (Result Ticket (NotSubmitted J))). AreSubmittedAfter start first.shown there.0 (drop i cs) l first.found) (drop_all i ts ticked) there.1) in
+      let none : AreSubmittedAfter {L = L} start first.shown there.0 [] [] first.found =
+      subst (λ (l : List Command). AreSubmittedAfter {L = L} start first.shown there.0 l [] first.found) (drop_all i cs (omega (arith, all, long)))
+      (subst (λ (l : List (Result Ticket (SubmitError L))). AreSubmittedAfter start first.shown there.0 (drop i cs) l first.found) (drop_all i ts ticked) there.1) in
       subst (λ (f : List Entry). Asks (PassesAtHub start) (with_seat first count before) (exchanges_of sent) (with_seat now (counted_all count ts) f)) (sym none)
       (subst (λ (l : List Sent). Asks (PassesAtHub start) (with_seat first count before) (exchanges_of l) (with_seat now (counted_all count ts) there.0)) (take_whole sent i all)
-      (subst (λ (l : List (Result Ticket (NotSubmitted J))). Asks (PassesAtHub start) (with_seat first count before) (exchanges_of (take i sent)) (with_seat now (counted_all count l) there.0)) (take_whole ts i ticked) there.2))
+      (subst (λ (l : List (Result Ticket (SubmitError L))). Asks (PassesAtHub start) (with_seat first count before) (exchanges_of (take i sent)) (with_seat now (counted_all count l) there.0)) (take_whole ts i ticked) there.2))

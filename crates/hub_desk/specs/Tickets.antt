@@ -7,8 +7,8 @@ use Rattle.world.specs.Board.{Ticket}
 use Rattle.world.specs.World.{Entry}
 use Rattle.hub.specs.Found.{AreSubmittedAfter, IsSubmittedAfter}
 use Rattle.hub.specs.Submitted.{counted_all, counted_by}
-use Rattle.hub.specs.declared.not_submitted.NotSubmitted.{NotSubmitted}
-use Rattle.hub.specs.declared.not_submitted.NotSubmitted.TheVariants.{Stopped, ByBoard}
+use Rattle.hub.specs.declared.submit_error.SubmitError.{SubmitError}
+use Rattle.hub.specs.declared.submit_error.SubmitError.TheVariants.{Stopped, ByBoard}
 use Rattle.session.specs.declared.reply.Reply.{Reply}
 use Rattle.session.specs.Exchange.{Exchange, Answered}
 use Rattle.session.specs.Replies.{Asks}
@@ -18,30 +18,30 @@ use Rattle.hub_desk.specs.AtHub.{Desk, PassesAtHub}
 abbrev pub with_seat : Desk → ℕ → List Entry → Desk
 with_seat desk count found = record desk { counted = count; found = found }
 
-module _ {J : Type 0} where
+module _ {L : Type 0} where
   -- the last ticket of them, or this one where there is none
-  abbrev pub last_by : Ticket → Result Ticket (NotSubmitted J) → Ticket
+  abbrev pub last_by : Ticket → Result Ticket (SubmitError L) → Ticket
   last_by ticket (Ok next) = next
   last_by ticket (Err why) = ticket
 
-  abbrev pub last_of : Ticket → List (Result Ticket (NotSubmitted J)) → Ticket
+  abbrev pub last_of : Ticket → List (Result Ticket (SubmitError L)) → Ticket
   last_of ticket [] = ticket
   last_of ticket (first ∷ others) = last_of (last_by ticket first) others
 
   -- the desk once it has noted why a command wasn't submitted
-  abbrev pub noted : Desk → NotSubmitted J → Desk
+  abbrev pub noted : Desk → SubmitError L → Desk
   noted desk (Stopped token) = record desk { stopped = true }
   noted desk (ByBoard refusal) = desk
 
   -- What is answered by a submission of this command, however many commands the seat had counted before it, and whatever was found of
   -- the order by then.
-  abbrev pub AnswersFor : State → Desk → Command → Result Ticket (NotSubmitted J) → Result Reply Refusal → Desk → Type 0
+  abbrev pub AnswersFor : State → Desk → Command → Result Ticket (SubmitError L) → Result Reply Refusal → Desk → Type 0
   AnswersFor start old command submitted result new =
       (count : ℕ) (before after : List Entry) → IsSubmittedAfter start old.shown before command submitted after
       → PassesAtHub start (with_seat old count before) (Answered command result) (with_seat new (counted_by count submitted) after)
 
   -- What commands were answered by their submissions, where the last one found all that this desk has found.
-  abbrev pub AnswersForAll : State → Desk → List Command → List (Result Ticket (NotSubmitted J)) → List Exchange → Desk → Type 0
+  abbrev pub AnswersForAll : State → Desk → List Command → List (Result Ticket (SubmitError L)) → List Exchange → Desk → Type 0
   AnswersForAll start old commands submitted asked new =
       (count : ℕ) (before : List Entry) → AreSubmittedAfter start old.shown before commands submitted old.found
       → Asks (PassesAtHub start) (with_seat old count before) asked (with_seat new (counted_all count submitted) old.found)

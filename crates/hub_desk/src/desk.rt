@@ -17,8 +17,8 @@ ghost use Rattle.hub_desk.specs.AtHub.{PassesAtHub};
 ghost use Rattle.hub_desk.specs.Tickets.{AnswersFor, AnswersForAll, last_by, last_of, noted, with_seat};
 
 use crate::counters::Counters;
-use hub::{Ahead, Found, Hub, NotSubmitted, Seat, Stopped, Ticket};
-use published::{Ordered, Site, Told};
+use hub::{Ahead, Found, Hub, Seat, Stopped, SubmitError, Ticket};
+use published::{Life, Ordered, Told};
 use refusal::Refusal;
 use revision::{Command, LateEdit, State};
 use session::{Desk, Reply, Sent};
@@ -36,18 +36,18 @@ const LATE: usize = 64;
 /// told of, those that it has shown, how many commands its seat has counted, whether it has the hub's token that it is stopped, and what its
 /// commands have found of the run's order.
 #[derive(Drop)]
-pub struct HubDesk<'a, D, J: Site, R> {
+pub struct HubDesk<'a, D, L: Life, R> {
     rt: &'a R,
-    hub: &'a Hub<D, J>,
-    seat: Seat<J>,
-    viewer: Viewer<D, J>,
-    shown: Told<D, J>,
-    found: Found<J>,
-    stopped: Option<Stopped<J>>,
+    hub: &'a Hub<D, L>,
+    seat: Seat<L>,
+    viewer: Viewer<D, L>,
+    shown: Told<D, L>,
+    found: Found<L>,
+    stopped: Option<Stopped<L>>,
     counters: Option<&'a Counters>,
 }
 
-impl<'a, D, J: Site, R> Model for HubDesk<'a, D, J, R> {
+impl<'a, D, L: Life, R> Model for HubDesk<'a, D, L, R> {
     ghost use Rattle.std.specs.Prelude.{is_some};
     ghost use mathlib.Core.List.{IsPrefix};
     ghost use Rattle.hub_desk.specs.AtHub as spec;
@@ -59,16 +59,16 @@ impl<'a, D, J: Site, R> Model for HubDesk<'a, D, J, R> {
     ghost invariant = { λ d. IsPrefix d.shown d.viewer };
 }
 
-impl<'a, D, J: Site, R> HubDesk<'a, D, J, R> {
+impl<'a, D, L: Life, R> HubDesk<'a, D, L, R> {
     /// A desk at a hub, by one of its seats and a viewer of the same run, whose answers are counted where there are counters. It takes no
     /// memory, and waits for nobody.
     pub fn new(
         rt: &'a R,
-        hub: &'a Hub<D, J>,
-        seat: Seat<J>,
-        viewer: Viewer<D, J>,
+        hub: &'a Hub<D, L>,
+        seat: Seat<L>,
+        viewer: Viewer<D, L>,
         counters: Option<&'a Counters>,
-    ) -> HubDesk<'a, D, J, R>
+    ) -> HubDesk<'a, D, L, R>
         ensures { result ≡ record { told = viewer; shown = viewer; counted = seat; stopped = false; found = [] } }
     {
         let shown = viewer.told();
@@ -85,7 +85,7 @@ impl<'a, D, J: Site, R> HubDesk<'a, D, J, R> {
     }
 
     /// Gives the seat and the viewer back.
-    pub fn into_parts(self) -> (Seat<J>, Viewer<D, J>)
+    pub fn into_parts(self) -> (Seat<L>, Viewer<D, L>)
         ensures seat { result.0 ≡ self.entry.counted }
         ensures viewer { result.1 ≡ self.entry.told }
     {
@@ -110,8 +110,8 @@ impl<'a, D, J: Site, R> HubDesk<'a, D, J, R> {
     }
 
     // Whether what the viewer was told of holds a ticket's length. Where it does, the ticket's order is a prefix of that.
-    fn holds(&self, ticket: &Ticket<J>) -> bool
-        ensures { IsTrue result → StandsFirst J.start ticket.now (commands_of self.now.told) }
+    fn holds(&self, ticket: &Ticket<L>) -> bool
+        ensures { IsTrue result → StandsFirst L.start ticket.now (commands_of self.now.told) }
     {
         let told = self.viewer.told();
         if ticket.length() as u64 > told.len() {
@@ -122,7 +122,7 @@ impl<'a, D, J: Site, R> HubDesk<'a, D, J, R> {
     }
 
     // Notes that the hub is stopped, and gives the refusal that the session gets.
-    fn stop(&mut self, token: Stopped<J>) -> Refusal
+    fn stop(&mut self, token: Stopped<L>) -> Refusal
         ensures refusal { result ≡ Refusal.StoreFailed }
         ensures noted { self.new ≡ record self.old { stopped = true } }
     {
@@ -132,20 +132,20 @@ impl<'a, D, J: Site, R> HubDesk<'a, D, J, R> {
     }
 
     // Notes why a command wasn't submitted, and gives the refusal that the session gets.
-    fn refused(&mut self, why: &NotSubmitted<J>) -> Refusal
+    fn refused(&mut self, why: &SubmitError<L>) -> Refusal
         ensures refusal { result ≡ refusal_of why.now }
         ensures noted { self.new ≡ noted self.old why.now }
     {
         match why {
-            NotSubmitted::Stopped(token) => self.stop(token.copy()),
-            NotSubmitted::ByBoard(refusal) => *refusal,
+            SubmitError::Stopped(token) => self.stop(token.copy()),
+            SubmitError::ByBoard(refusal) => *refusal,
         }
     }
 }
 
-impl<D, J: Site, R: Wait> HubDesk<'_, D, J, R> {
+impl<D, L: Life, R: Wait> HubDesk<'_, D, L, R> {
     /// What its commands have found is a prefix of the life's order, and of what the token has after it. It takes no memory.
-    pub fn join(&self, ordered: &mut Ordered<J>)
+    pub fn join(&self, ordered: &mut Ordered<L>)
         ensures found { IsPrefix self.now.found ordered.new }
         ensures before { IsPrefix ordered.old ordered.new }
     {
@@ -153,10 +153,10 @@ impl<D, J: Site, R: Wait> HubDesk<'_, D, J, R> {
     }
 
     // Waits until a ticket is settled, and tells the viewer. Refused with `StoreFailed` alone, and then the desk has the hub's token.
-    fn await_ticket(&mut self, ticket: &Ticket<J>) -> Result<(), Refusal>
+    fn await_ticket(&mut self, ticket: &Ticket<L>) -> Result<(), Refusal>
         ensures kept { IsPrefix self.old.told self.new.told }
         ensures others { self.new ≡ record self.old { told = self.new.told; stopped = self.new.stopped } }
-        ensures stands { OnOk result (StandsFirst J.start ticket.now (commands_of self.new.told)) }
+        ensures stands { OnOk result (StandsFirst L.start ticket.now (commands_of self.new.told)) }
         ensures only { IfErr result (λ e. (e ≡ Refusal.StoreFailed) × (self.new.stopped ≡ true)) }
     {
         match self.hub.wait_ack(self.rt, ticket) {
@@ -170,7 +170,7 @@ impl<D, J: Site, R: Wait> HubDesk<'_, D, J, R> {
 
     // An edit that is late by many revisions, moved on past what the view shows. None where the command is no such edit, where nothing is
     // shown, and where memory runs out. The deltas are shared inside the view, and the edit is moved outside of it.
-    fn moved_on(&mut self, alloc: Global, command: &Command) -> Option<Ahead<J>>
+    fn moved_on(&mut self, alloc: Global, command: &Command) -> Option<Ahead<L>>
         ensures { self.new ≡ self.old }
     {
         let looked = self.viewer.peek(
@@ -205,8 +205,8 @@ impl<D, J: Site, R: Wait> HubDesk<'_, D, J, R> {
 
     // Submits a command, and waits for nothing but the board. What it gives, a ticket or a refusal, is by the order that it finds, which
     // begins with what was found before, and with what is shown.
-    fn submit(&mut self, alloc: Global, command: &Command) -> Result<Ticket<J>, NotSubmitted<J>>
-        ensures after { IsSubmittedAfter J.start self.old.shown self.old.found command.now result self.new.found }
+    fn submit(&mut self, alloc: Global, command: &Command) -> Result<Ticket<L>, SubmitError<L>>
+        ensures after { IsSubmittedAfter L.start self.old.shown self.old.found command.now result self.new.found }
         ensures counts { self.new ≡ with_seat self.old (counted_by self.old.counted result) self.new.found }
     {
         self.move_on(alloc, &[command]);
@@ -226,13 +226,12 @@ impl<D, J: Site, R: Wait> HubDesk<'_, D, J, R> {
         &mut self,
         alloc: Global,
         sent: &[Sent],
-    ) -> Result<Vec<Result<Ticket<J>, NotSubmitted<J>>>, Refusal>
-        ensures after { IfOk result (λ tickets. AreSubmittedAfter J.start self.old.shown self.old.found (ahead.commands_of sent.now) tickets.items
+    ) -> Result<Vec<Result<Ticket<L>, SubmitError<L>>>, AllocError>
+        ensures after { IfOk result (λ tickets. AreSubmittedAfter L.start self.old.shown self.old.found (ahead.commands_of sent.now) tickets.items
             self.new.found) }
         ensures as_many { IfOk result (λ tickets. vec_len tickets ≡ length sent.now) }
         ensures counts { IfOk result (λ tickets. self.new
             ≡ with_seat self.old (counted_all self.old.counted tickets.items) self.new.found) }
-        ensures only { IfErr result (λ e. e ≡ Refusal.NoMemory) }
         ensures unchanged { OnErr result (self.new ≡ self.old) }
     {
         let commands = commands_of(alloc, sent)?;
@@ -252,12 +251,12 @@ impl<D, J: Site, R: Wait> HubDesk<'_, D, J, R> {
     // more. Refused with `StoreFailed` alone, and then the desk has the hub's token.
     fn await_among(
         &mut self,
-        ticket: &Ticket<J>,
-        tickets: &[Result<Ticket<J>, NotSubmitted<J>>],
+        ticket: &Ticket<L>,
+        tickets: &[Result<Ticket<L>, SubmitError<L>>],
     ) -> Result<(), Refusal>
         ensures kept { IsPrefix self.old.told self.new.told }
         ensures others { self.new ≡ record self.old { told = self.new.told; stopped = self.new.stopped } }
-        ensures stands { OnOk result (StandsFirst J.start ticket.now (commands_of self.new.told)) }
+        ensures stands { OnOk result (StandsFirst L.start ticket.now (commands_of self.new.told)) }
         ensures only { IfErr result (λ e. (e ≡ Refusal.StoreFailed) × (self.new.stopped ≡ true)) }
     {
         if self.holds(ticket) {
@@ -274,11 +273,11 @@ impl<D, J: Site, R: Wait> HubDesk<'_, D, J, R> {
     fn answer_by(
         &mut self,
         command: &Command,
-        submitted: &Result<Ticket<J>, NotSubmitted<J>>,
-        tickets: &[Result<Ticket<J>, NotSubmitted<J>>],
+        submitted: &Result<Ticket<L>, SubmitError<L>>,
+        tickets: &[Result<Ticket<L>, SubmitError<L>>],
     ) -> Result<Reply, Refusal>
         ensures others { self.new ≡ record self.old { told = self.new.told; stopped = self.new.stopped } }
-        ensures answer { AnswersFor J.start self.old command.now submitted.now result self.new }
+        ensures answer { AnswersFor L.start self.old command.now submitted.now result self.new }
     {
         let _ = command;
         match submitted {
@@ -292,11 +291,11 @@ impl<D, J: Site, R: Wait> HubDesk<'_, D, J, R> {
 
     // Answers commands in order by their submissions. The seat has counted all of them already, and what they found of the order was found;
     // by the answers it counts and finds that one after another.
-    fn answer_all(&mut self, sent: &mut Vec<Sent>, tickets: &[Result<Ticket<J>, NotSubmitted<J>>])
+    fn answer_all(&mut self, sent: &mut Vec<Sent>, tickets: &[Result<Ticket<L>, SubmitError<L>>])
         requires as_many { length tickets.now ≡ vec_len sent.old }
         ensures commands { ahead.commands_of sent.new.items ≡ ahead.commands_of sent.old.items }
         ensures others { self.new ≡ record self.old { told = self.new.told; stopped = self.new.stopped } }
-        ensures answered { AnswersForAll J.start self.old (ahead.commands_of sent.old.items) tickets.now (ahead.exchanges_of sent.new.items)
+        ensures answered { AnswersForAll L.start self.old (ahead.commands_of sent.old.items) tickets.now (ahead.exchanges_of sent.new.items)
             self.new }
     {
         for i in 0..sent.len() {
@@ -307,14 +306,14 @@ impl<D, J: Site, R: Wait> HubDesk<'_, D, J, R> {
     }
 }
 
-impl<D, J: Site, R: Wait> Desk for HubDesk<'_, D, J, R> {
+impl<D, L: Life, R: Wait> Desk for HubDesk<'_, D, L, R> {
     ghost use Rattle.recovery.specs.Found.{commands_of};
     ghost use Rattle.revision.specs.State.{fold};
     ghost use Rattle.hub_desk.specs.AtHub.{PassesAtHub};
 
-    ghost does = { λ old exchange new. PassesAtHub J.start old exchange new };
+    ghost does = { λ old exchange new. PassesAtHub L.start old exchange new };
 
-    ghost reached = { λ desk. fold J.start (commands_of desk.shown) };
+    ghost reached = { λ desk. fold L.start (commands_of desk.shown) };
 
     fn ask(&mut self, alloc: Global, command: &Command) -> Result<Reply, Refusal> {
         let submitted = self.submit(alloc, command);
@@ -335,7 +334,7 @@ impl<D, J: Site, R: Wait> Desk for HubDesk<'_, D, J, R> {
         }
         match self.submit_all(alloc, sent) {
             Ok(tickets) => self.answer_all(sent, &tickets),
-            Err(refusal) => refuse_all(sent, refusal),
+            Err(no_memory) => refuse_all(sent, no_memory.into()),
         }
     }
 
@@ -347,7 +346,7 @@ impl<D, J: Site, R: Wait> Desk for HubDesk<'_, D, J, R> {
 }
 
 // What a session is answered by a ticket.
-fn reply_of<J: Site>(ticket: &Ticket<J>) -> Reply
+fn reply_of<L: Life>(ticket: &Ticket<L>) -> Reply
     ensures { answered ticket.now.reply ≡ Ok result }
 {
     match ticket.reply() {
@@ -357,10 +356,10 @@ fn reply_of<J: Site>(ticket: &Ticket<J>) -> Reply
 }
 
 // The last of tickets that were submitted one after another, or the first one where there is no further one.
-fn last_ticket<'t, J: Site>(
-    first: &'t Ticket<J>,
-    tickets: &'t [Result<Ticket<J>, NotSubmitted<J>>],
-) -> &'t Ticket<J>
+fn last_ticket<'t, L: Life>(
+    first: &'t Ticket<L>,
+    tickets: &'t [Result<Ticket<L>, SubmitError<L>>],
+) -> &'t Ticket<L>
     ensures { result.now ≡ last_of first.now tickets.now }
 {
     let mut last = first;
@@ -371,10 +370,10 @@ fn last_ticket<'t, J: Site>(
 }
 
 // The ticket of a submission, or the one before where it was refused.
-fn later_ticket<'t, J: Site>(
-    last: &'t Ticket<J>,
-    submitted: &'t Result<Ticket<J>, NotSubmitted<J>>,
-) -> &'t Ticket<J>
+fn later_ticket<'t, L: Life>(
+    last: &'t Ticket<L>,
+    submitted: &'t Result<Ticket<L>, SubmitError<L>>,
+) -> &'t Ticket<L>
     ensures { result.now ≡ last_by last.now submitted.now }
 {
     match submitted {

@@ -20,7 +20,7 @@
 //! ghost use Rattle.hub_desk.specs.AtHub.{Acknowledges, Refuses};
 //!
 //! use hub_desk::HubDesk;
-//! use published::Site;
+//! use published::Life;
 //! use refusal::Refusal;
 //! use revision::Command;
 //! use session::{Desk, Reply};
@@ -28,13 +28,13 @@
 //! use std::sync::Wait;
 //!
 //! /// Answers a command at a hub once it is settled: what the desk shows from then on has it.
-//! pub fn answer<D, J: Site, R: Wait>(
+//! pub fn answer<D, L: Life, R: Wait>(
 //!     alloc: Global,
-//!     desk: &mut HubDesk<'_, D, J, R>,
+//!     desk: &mut HubDesk<'_, D, L, R>,
 //!     command: &Command,
 //! ) -> Result<Reply, Refusal>
-//!     ensures ok { IfOk result (λ reply. Acknowledges J.start desk.old command.now reply desk.new) }
-//!     ensures err { IfErr result (λ e. Refuses J.start desk.old command.now e desk.new) }
+//!     ensures ok { IfOk result (λ reply. Acknowledges L.start desk.old command.now reply desk.new) }
+//!     ensures err { IfErr result (λ e. Refuses L.start desk.old command.now e desk.new) }
 //! {
 //!     desk.ask(alloc, command)
 //! }

@@ -8,7 +8,7 @@ use crate::rows::{Gives, Life, Row, SHAPE, SMALL, given, stands};
 use disk::{Disk, MemDisk};
 use fixtures::{new_store, open_store};
 use hub::Board;
-use published::{Opened, Site};
+use published::{Life, Opened};
 use recovery::{Pick, Shape, Store};
 use refusal::Refusal;
 use revision::Reply::{Again, Taken};
@@ -96,25 +96,25 @@ const RUNS: [(Shape, &[Row], u64, u64); 5] = [
 ];
 
 // What each row gives, at a board of a store, with one seat and without commands. The store comes back.
-fn lived<J: Site, R: Abort + AllocGlobal>(
+fn lived<L: Life, R: Abort + AllocGlobal>(
     rt: &R,
     store: Store<MemDisk>,
     opened: Opened,
     blank: Blank,
     rows: &[Row],
 ) -> Store<MemDisk>
-    requires book { opened ≡ J.book }
-    requires name { blank.name ≡ J.name }
-    requires parts { blank.parts ≡ J.parts }
+    requires book { opened ≡ L.book }
+    requires name { blank.name ≡ L.name }
+    requires parts { blank.parts ≡ L.parts }
     requires seats { blank.parts ≡ 2 }
-    requires start { state_of store ≡ J.start }
+    requires start { state_of store ≡ L.start }
 {
     let alloc = rt.alloc();
     let state = store.state().copy(alloc).expect(rt, "memory");
-    let (log, told, order) = opened.named::<MemDisk, J>(store.state());
+    let (log, told, order) = opened.named::<MemDisk, L>(store.state());
     let mut board = Board::new(alloc, &store, state, told.copy(), order, blank, 1);
     let seat = board.seat().expect(rt, "a seat");
-    let mut life = Life::new(rt, board, seat, store, Publishing::new(log, told));
+    let mut life = Life::new(rt, board, seat, Publishing::new(store, log, told));
     for row in rows {
         assert_eq!(rt; given(rt, &mut life, &row.0), row.1);
     }

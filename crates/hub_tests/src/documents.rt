@@ -8,9 +8,9 @@ use attributes::Attrs;
 use delta::{Builder, Delta, Op, OpRef};
 use disk::MemDisk;
 use document::Document;
-use fixtures::{commit, new_store};
+use fixtures::new_store;
 use hub::{Board, Seat};
-use published::{Opened, Site};
+use published::{Life, Opened};
 use recovery::Store;
 use refusal::Refusal;
 use revision::{Command, Name};
@@ -49,10 +49,10 @@ fn command(alloc: Global, name: &str, number: u64, text: &str) -> Result<Command
     }
 }
 
-fn ordered<J: Site>(
+fn ordered<L: Life>(
     rt: &(impl Abort + AllocGlobal),
-    board: &mut Board<MemDisk, J>,
-    seat: &mut Seat<J>,
+    board: &mut Board<MemDisk, L>,
+    seat: &mut Seat<L>,
     asked: &(&str, u64, &str),
 ) {
     let command = command(rt.alloc(), asked.0, asked.1, asked.2).expect(rt, "a command");
@@ -79,11 +79,10 @@ fn are_texts(rt: &(impl Abort + AllocGlobal), documents: &[Document], wanted: &[
 }
 
 // The next run has the documents of these texts, and gives them out once it is committed.
-fn hands_out<J: Site>(
+fn hands_out<L: Life>(
     rt: &(impl Abort + AllocGlobal),
-    board: &mut Board<MemDisk, J>,
-    store: &mut Store<MemDisk>,
-    publishing: &mut Publishing<J>,
+    board: &mut Board<MemDisk, L>,
+    publishing: &mut Publishing<L>,
     wanted: &[&str],
 ) {
     let run = board.take(rt.alloc(), CAP).expect(rt, "memory");
@@ -91,40 +90,33 @@ fn hands_out<J: Site>(
         panic!(rt; "it isn't the next part of the order");
     }
     are_texts(rt, run.made(publishing.told()), wanted);
-    let ordered = run.goes_on(publishing.told());
-    match commit(rt.alloc(), store, run.batch()) {
-        Ok(receipt) => {
-            let made = run.committed(&receipt, publishing.told());
-            are_texts(rt, made.as_slice(), wanted);
-            publishing.add(&receipt, &ordered);
-        }
-        Err(refusal) => panic!(rt; "{refusal}"),
-    }
+    let (_receipt, made) = publishing.write(rt, run);
+    are_texts(rt, made.as_slice(), wanted);
 }
 
-fn handed_out<J: Site, R: Abort + AllocGlobal>(
+fn handed_out<L: Life, R: Abort + AllocGlobal>(
     rt: &R,
-    mut store: Store<MemDisk>,
+    store: Store<MemDisk>,
     opened: Opened,
     blank: Blank,
 )
-    requires book { opened ≡ J.book }
-    requires name { blank.name ≡ J.name }
-    requires parts { blank.parts ≡ J.parts }
+    requires book { opened ≡ L.book }
+    requires name { blank.name ≡ L.name }
+    requires parts { blank.parts ≡ L.parts }
     requires seats { blank.parts ≡ 2 }
-    requires start { state_of store ≡ J.start }
+    requires start { state_of store ≡ L.start }
 {
     let alloc = rt.alloc();
     let state = store.state().copy(alloc).expect(rt, "memory");
-    let (log, told, order) = opened.named::<MemDisk, J>(store.state());
+    let (log, told, order) = opened.named::<MemDisk, L>(store.state());
     let mut board = Board::new(alloc, &store, state, told.copy(), order, blank, 1);
     let mut seat = board.seat().expect(rt, "a seat");
-    let mut publishing = Publishing::new(log, told);
+    let mut publishing = Publishing::new(store, log, told);
     for asked in &COMMANDS {
         ordered(rt, &mut board, &mut seat, asked);
     }
     for wanted in &RUNS {
-        hands_out(rt, &mut board, &mut store, &mut publishing, *wanted);
+        hands_out(rt, &mut board, &mut publishing, *wanted);
     }
 }
 

@@ -1,9 +1,9 @@
 //! The life of a board as rows: what is done, and what that gives.
 use crate::publishing::Publishing;
 use disk::MemDisk;
-use fixtures::{command, command_behind, commit, wide_command};
+use fixtures::{command, command_behind, wide_command};
 use hub::{Board, Seat, Ticket};
-use published::{Site, Told};
+use published::{Life, Told};
 use recovery::{Receipt, Shape, Store};
 use refusal::Refusal;
 use revision::{Command, Reply, State};
@@ -73,33 +73,30 @@ pub enum Gives {
 
 pub type Row = (Step, Gives);
 
-/// A board with its one seat, the store of its batches, and what was given out so far.
+/// A board with its one seat, the store of its batches with what is published of it, and what was given out so far.
 #[derive(Drop)]
-pub struct Life<J: Site> {
-    board: Board<MemDisk, J>,
-    seat: Seat<J>,
-    store: Store<MemDisk>,
-    publishing: Publishing<J>,
-    tickets: Vec<Ticket<J>>,
+pub struct Life<L: Life> {
+    board: Board<MemDisk, L>,
+    seat: Seat<L>,
+    publishing: Publishing<L>,
+    tickets: Vec<Ticket<L>>,
     batches: Vec<Receipt<MemDisk>>,
-    tokens: Vec<Told<MemDisk, J>>,
+    tokens: Vec<Told<MemDisk, L>>,
 }
 
-impl<J: Site> Life<J> {
-    /// A board with a seat, the store under it, and what is published of it.
+impl<L: Life> Life<L> {
+    /// A board with a seat, and the store under it with what is published of it.
     pub fn new(
         rt: &(impl Abort + AllocGlobal),
-        board: Board<MemDisk, J>,
-        seat: Seat<J>,
-        store: Store<MemDisk>,
-        publishing: Publishing<J>,
-    ) -> Life<J> {
+        board: Board<MemDisk, L>,
+        seat: Seat<L>,
+        publishing: Publishing<L>,
+    ) -> Life<L> {
         let mut tokens = Vec::new(rt.alloc());
         assert!(rt; tokens.push(publishing.told().copy()).is_ok());
         Life {
             board,
             seat,
-            store,
             publishing,
             tickets: Vec::new(rt.alloc()),
             batches: Vec::new(rt.alloc()),
@@ -112,19 +109,18 @@ impl<J: Site> Life<J> {
         let Life {
             board: _,
             seat: _,
-            store,
-            publishing: _,
+            publishing,
             tickets: _,
             batches: _,
             tokens: _,
         } = self;
-        store
+        publishing.into_store()
     }
 }
 
-fn submitted<J: Site>(
+fn submitted<L: Life>(
     rt: &(impl Abort + AllocGlobal),
-    life: &mut Life<J>,
+    life: &mut Life<L>,
     command: Result<Command, Refusal>,
 ) -> Gives {
     let command = command.expect(rt, "a command");
@@ -146,7 +142,7 @@ pub fn stands(state: &State) -> Gives {
     }
 }
 
-fn committed<J: Site>(rt: &(impl Abort + AllocGlobal), life: &mut Life<J>) -> Gives {
+fn committed<L: Life>(rt: &(impl Abort + AllocGlobal), life: &mut Life<L>) -> Gives {
     let run = life.board.take(rt.alloc(), CAP).expect(rt, "memory");
     let count = run.len();
     if count == 0 {
@@ -157,20 +153,13 @@ fn committed<J: Site>(rt: &(impl Abort + AllocGlobal), life: &mut Life<J>) -> Gi
         run.apart(life.publishing.told());
         return Gives::Nothing;
     }
-    let ordered = run.goes_on(life.publishing.told());
-    match commit(rt.alloc(), &mut life.store, run.batch()) {
-        Ok(receipt) => {
-            let _made = run.committed(&receipt, life.publishing.told());
-            life.publishing.add(&receipt, &ordered);
-            assert!(rt; life.tokens.push(life.publishing.told().copy()).is_ok());
-            assert!(rt; life.batches.push(receipt).is_ok());
-            Gives::Committed(count)
-        }
-        Err(refusal) => panic!(rt; "{refusal}"),
-    }
+    let (receipt, _made) = life.publishing.write(rt, run);
+    assert!(rt; life.tokens.push(life.publishing.told().copy()).is_ok());
+    assert!(rt; life.batches.push(receipt).is_ok());
+    Gives::Committed(count)
 }
 
-fn settled<J: Site>(life: &mut Life<J>, batch: usize, token: usize) -> Gives {
+fn settled<L: Life>(life: &mut Life<L>, batch: usize, token: usize) -> Gives {
     let Some(receipt) = life.batches.get(batch) else {
         return Gives::Nothing;
     };
@@ -183,7 +172,7 @@ fn settled<J: Site>(life: &mut Life<J>, batch: usize, token: usize) -> Gives {
     }
 }
 
-fn acknowledged<J: Site>(life: &Life<J>, at: usize) -> Gives {
+fn acknowledged<L: Life>(life: &Life<L>, at: usize) -> Gives {
     let Some(ticket) = life.tickets.get(at) else {
         return Gives::Nothing;
     };
@@ -195,7 +184,7 @@ fn acknowledged<J: Site>(life: &Life<J>, at: usize) -> Gives {
 }
 
 /// Does a step.
-pub fn given<J: Site>(rt: &(impl Abort + AllocGlobal), life: &mut Life<J>, step: &Step) -> Gives {
+pub fn given<L: Life>(rt: &(impl Abort + AllocGlobal), life: &mut Life<L>, step: &Step) -> Gives {
     match *step {
         Step::Submit(number, letters) => {
             submitted(rt, life, command(rt.alloc(), number, letters))

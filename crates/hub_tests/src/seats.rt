@@ -6,7 +6,7 @@ use crate::rows::SHAPE;
 use disk::MemDisk;
 use fixtures::new_store;
 use hub::{Board, Seat};
-use published::{Opened, Site};
+use published::{Life, Opened};
 use recovery::Store;
 use refusal::Refusal;
 use std::marker::Brand;
@@ -14,29 +14,29 @@ use std::process::Abort;
 use std::sync::ledger::Blank;
 
 // a seat of the board
-fn seat_of<J: Site, R: Abort>(rt: &R, board: &mut Board<MemDisk, J>) -> Seat<J> {
+fn seat_of<L: Life, R: Abort>(rt: &R, board: &mut Board<MemDisk, L>) -> Seat<L> {
     board.seat().expect(rt, "a seat")
 }
 
 // none is left to give
-fn none_is_left<J: Site, R: Abort>(rt: &R, board: &mut Board<MemDisk, J>) {
+fn none_is_left<L: Life, R: Abort>(rt: &R, board: &mut Board<MemDisk, L>) {
     assert!(rt; matches!(board.seat(), Err(Refusal::NoSeat)));
 }
 
-fn two_seats<J: Site, R: Abort + AllocGlobal>(
+fn two_seats<L: Life, R: Abort + AllocGlobal>(
     rt: &R,
     store: Store<MemDisk>,
     opened: Opened,
     blank: Blank,
 )
-    requires book { opened ≡ J.book }
-    requires name { blank.name ≡ J.name }
-    requires parts { blank.parts ≡ J.parts }
+    requires book { opened ≡ L.book }
+    requires name { blank.name ≡ L.name }
+    requires parts { blank.parts ≡ L.parts }
     requires seats { blank.parts ≡ 3 }
-    requires start { state_of store ≡ J.start }
+    requires start { state_of store ≡ L.start }
 {
     let state = store.state().copy(rt.alloc()).expect(rt, "memory");
-    let (_log, told, order) = opened.named::<MemDisk, J>(store.state());
+    let (_log, told, order) = opened.named::<MemDisk, L>(store.state());
     let mut board = Board::new(rt.alloc(), &store, state, told, order, blank, 2);
     let _ = seat_of(rt, &mut board);
     let _ = seat_of(rt, &mut board);

@@ -5,9 +5,9 @@ ghost use Rattle.recovery.specs.Open.{state_of};
 use crate::publishing::Publishing;
 use crate::rows::{CAP, SHAPE};
 use disk::MemDisk;
-use fixtures::{command, commit, new_store};
+use fixtures::{command, new_store};
 use hub::{Board, Closer, Hub, Seat, Ticket, Writer};
-use published::{Opened, Site};
+use published::{Life, Opened};
 use recovery::{Receipt, Shape, Store};
 use refusal::Refusal;
 use std::alloc::Global;
@@ -18,10 +18,10 @@ use std::sync::ledger::Blank;
 use std::thread::{Threads, join};
 
 // Waits until a ticket is acknowledged, and counts the commands that the token holds.
-fn acknowledged<J: Site, R: Wait>(
+fn acknowledged<L: Life, R: Wait>(
     rt: &R,
-    hub: &Hub<MemDisk, J>,
-    ticket: &Ticket<J>,
+    hub: &Hub<MemDisk, L>,
+    ticket: &Ticket<L>,
 ) -> Result<u64, Refusal> {
     let told = match hub.wait_ack(rt, ticket) {
         Ok(told) => told,
@@ -38,11 +38,11 @@ fn acknowledged<J: Site, R: Wait>(
 }
 
 // Submits a command of this number and length, and waits for it.
-fn submitted_one<J: Site, R: Wait>(
+fn submitted_one<L: Life, R: Wait>(
     rt: &R,
     alloc: Global,
-    hub: &Hub<MemDisk, J>,
-    seat: &mut Seat<J>,
+    hub: &Hub<MemDisk, L>,
+    seat: &mut Seat<L>,
     edit: &(u64, u32),
 ) -> Result<u64, Refusal> {
     let command = command(alloc, edit.0, edit.1)?;
@@ -54,11 +54,11 @@ fn submitted_one<J: Site, R: Wait>(
 
 // Submits commands of these numbers and lengths, each after the one before was acknowledged, and counts the commands that the last
 // token holds.
-fn submitted<J: Site, R: Wait>(
+fn submitted<L: Life, R: Wait>(
     rt: &R,
     alloc: Global,
-    hub: &Hub<MemDisk, J>,
-    seat: &mut Seat<J>,
+    hub: &Hub<MemDisk, L>,
+    seat: &mut Seat<L>,
     edits: &[(u64, u32)],
 ) -> Result<u64, Refusal> {
     let mut held = 0;
@@ -69,12 +69,12 @@ fn submitted<J: Site, R: Wait>(
 }
 
 // Submits them, and then ends the hub.
-fn submitted_all<J: Site, R: Wait>(
+fn submitted_all<L: Life, R: Wait>(
     rt: &R,
     alloc: Global,
-    hub: &Hub<MemDisk, J>,
-    closer: &mut Closer<J>,
-    seat: &mut Seat<J>,
+    hub: &Hub<MemDisk, L>,
+    closer: &mut Closer<L>,
+    seat: &mut Seat<L>,
     edits: &[(u64, u32)],
 ) -> Result<u64, Refusal> {
     let answer = submitted(rt, alloc, hub, seat, edits);
@@ -82,15 +82,14 @@ fn submitted_all<J: Site, R: Wait>(
     answer
 }
 
-// Commits the next run and publishes it, and gives the store back with the receipt.
-fn committed<J: Site, R: Wait>(
+// Commits the next run and publishes it, and gives what publishes back with the receipt.
+fn committed<L: Life, R: Wait>(
     rt: &R,
     alloc: Global,
-    hub: &Hub<MemDisk, J>,
-    writer: &mut Writer<J>,
-    mut store: Store<MemDisk>,
-    publishing: &mut Publishing<J>,
-) -> Result<(Store<MemDisk>, Receipt<MemDisk>), Refusal> {
+    hub: &Hub<MemDisk, L>,
+    writer: &mut Writer<L>,
+    publishing: Publishing<L>,
+) -> Result<(Publishing<L>, Receipt<MemDisk>), Refusal> {
     let run = hub.take(rt, alloc, writer, CAP)?;
     if run.len() == 0 {
         run.nothing();
@@ -100,26 +99,15 @@ fn committed<J: Site, R: Wait>(
         run.apart(publishing.told());
         return Err(Refusal::Stranger);
     }
-    let ordered = run.goes_on(publishing.told());
-    match commit(alloc, &mut store, run.batch()) {
-        Ok(receipt) => {
-            let _made = run.committed(&receipt, publishing.told());
-            publishing.add(&receipt, &ordered);
-            Ok((store, receipt))
-        }
-        Err(refusal) => {
-            let _ = run.unwritten(store);
-            Err(refusal)
-        }
-    }
+    publishing.write_or_end(alloc, run)
 }
 
 // Settles a batch by the token of all that is published.
-fn settled<J: Site, R: Wait>(
+fn settled<L: Life, R: Wait>(
     rt: &R,
-    hub: &Hub<MemDisk, J>,
-    writer: &mut Writer<J>,
-    publishing: &Publishing<J>,
+    hub: &Hub<MemDisk, L>,
+    writer: &mut Writer<L>,
+    publishing: &Publishing<L>,
     receipt: &Receipt<MemDisk>,
 ) -> Result<(), Refusal> {
     match hub.settle(rt, writer, receipt, publishing.told().copy()) {
@@ -129,66 +117,65 @@ fn settled<J: Site, R: Wait>(
 }
 
 // Writes what was ordered until the hub's end, and counts the batches.
-fn written<J: Site, R: Wait>(
+fn written<L: Life, R: Wait>(
     rt: &R,
     alloc: Global,
-    hub: &Hub<MemDisk, J>,
-    writer: &mut Writer<J>,
-    mut store: Store<MemDisk>,
-    publishing: &mut Publishing<J>,
+    hub: &Hub<MemDisk, L>,
+    writer: &mut Writer<L>,
+    publishing: Publishing<L>,
 ) -> Result<u64, Refusal> {
+    let mut publishing = publishing;
     let mut batches: u64 = 0;
     for _ in rt.forever() {
         if let Err(_idle) = hub.wait_work(rt, writer) {
             return Ok(batches);
         }
-        let (after, receipt) = committed(rt, alloc, hub, writer, store, publishing)?;
-        store = after;
-        settled(rt, hub, writer, publishing, &receipt)?;
+        let (after, receipt) = committed(rt, alloc, hub, writer, publishing)?;
+        publishing = after;
+        settled(rt, hub, writer, &publishing, &receipt)?;
         batches = batches.saturating_add(1);
     }
     unreachable!()
 }
 
 // And tells the hub where the store failed.
-fn written_or_failed<J: Site, R: Wait>(
+fn written_or_failed<L: Life, R: Wait>(
     rt: &R,
     alloc: Global,
-    hub: &Hub<MemDisk, J>,
-    writer: &mut Writer<J>,
-    store: Store<MemDisk>,
-    publishing: &mut Publishing<J>,
+    hub: &Hub<MemDisk, L>,
+    writer: &mut Writer<L>,
+    publishing: Publishing<L>,
 ) -> Result<u64, Refusal> {
-    match written(rt, alloc, hub, writer, store, publishing) {
+    match written(rt, alloc, hub, writer, publishing) {
         Ok(batches) => Ok(batches),
         Err(refusal) => Err(hub.fail(rt, writer, refusal).refusal()),
     }
 }
 
-fn both<J: Site + Send + Sync, R: Threads + Wait + Abort + AllocGlobal + Sync>(
+fn both<L: Life + Send + Sync, R: Threads + Wait + Abort + AllocGlobal + Sync>(
     rt: &R,
     store: Store<MemDisk>,
     opened: Opened,
     blank: Blank,
     edits: &[(u64, u32)],
 ) -> (Result<u64, Refusal>, Result<u64, Refusal>)
-    requires book { opened ≡ J.book }
-    requires name { blank.name ≡ J.name }
-    requires parts { blank.parts ≡ J.parts }
+    requires book { opened ≡ L.book }
+    requires name { blank.name ≡ L.name }
+    requires parts { blank.parts ≡ L.parts }
     requires seats { blank.parts ≡ 65 }
-    requires start { state_of store ≡ J.start }
+    requires start { state_of store ≡ L.start }
 {
     let alloc = rt.alloc();
     let state = store.state().copy(alloc).expect(rt, "memory");
-    let (log, told, order) = opened.named::<_, J>(store.state());
+    let (log, told, order) = opened.named::<_, L>(store.state());
     let board = Board::new(alloc, &store, state, told.copy(), order, blank, 64);
-    let mut publishing = Publishing::new(log, told);
+    let publishing = Publishing::new(store, log, told);
     let (hub, mut writer, mut closer) = Hub::new(board);
     let mut seat = hub.seat(rt, &mut closer).expect(rt, "a seat");
     join(
         rt,
         || submitted_all(rt, alloc, &hub, &mut closer, &mut seat, edits),
-        || written_or_failed(rt, alloc, &hub, &mut writer, store, &mut publishing),
+        || written_or_failed(rt, alloc, &hub, &mut writer, publishing),
     )
 }
 

@@ -1,10 +1,9 @@
 -- States that agree match, and so do both readings of a store that ran.
-use Rattle.std.proofs.Common.{◌≡◌, ℕ, ◌+◌, ◌-◌, ◌≤◌, max, Option, Some, None, List, length, drop, map, sym, ◌∙◌, ap, subst, arith}
+use Rattle.std.proofs.Common.{◌≡◌, ℕ, ◌-◌, Option, Some, None, List, map, sym, ◌∙◌, ap, subst, arith}
 use Rattle.std.specs.Prelude.{slice_get}
 use Rattle.std.proofs.lemmas.List.{drop-map}
-use Rattle.delta.specs.Operation.{Operation}
 use Rattle.revision.specs.Past.{Past, Change, Content, newest, deltas_above, from_floor}
-use Rattle.revision.specs.State.{Limits, DocumentRecord, State, revision_of}
+use Rattle.revision.specs.State.{Limits, DocumentRecord, State}
 use Rattle.revision.specs.Agree.{Agree, PlacesAgree, DocumentsAgree}
 use Rattle.history.specs.declared.pick.Pick.{Pick}
 use Rattle.history.specs.declared.pick.Pick.TheVariants.{Newer, Older}

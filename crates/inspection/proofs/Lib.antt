@@ -3,3 +3,4 @@ mod Told
 mod Agreeing
 mod Weights
 mod Places
+mod Memory

@@ -1,22 +1,15 @@
 -- Lines of documents.
-use Rattle.std.proofs.Common.{◌≡◌, ◌++◌, ◌+◌, ◌<◌, List, ℕ, [], ◌∷◌, Option, Some, length, map, take, drop, get_or, refl, sym, ap, subst, ◌∙◌, append-nil}
-use Rattle.std.specs.Prelude.{slice_get, option_map}
+use Rattle.std.proofs.Common.{◌≡◌, ◌++◌, ◌+◌, ◌<◌, List, ℕ, [], ◌∷◌, Option, length, map, take, drop, get_or, sym, ap, subst, ◌∙◌, append-nil}
 use Rattle.std.specs.List.{flat_map}
 use Rattle.std.proofs.lemmas.Grind.{flat_map-append}
 use Rattle.std.proofs.lemmas.List.{map-append, map_push, take-append-drop, take_more}
-use Rattle.std.proofs.lemmas.Option.{slice_get_read, slice_get-map}
 use Rattle.std.specs.Io.KnownBytes.{Appends}
 use Rattle.session.specs.Output.{AppendsFront}
 use Rattle.session.proofs.CallerLemmas.{appends-both}
 use Rattle.revision.specs.State.{DocumentRecord}
 use Rattle.revision.specs.Pending.{PendingDocument, record_of}
 use Rattle.inspection.proofs.Fronts.{front-of, front-behind, front-longer}
-
--- the document at a place is there
-pub record_at_place : (documents : List PendingDocument) (number : ℕ) (document : PendingDocument) → number < length documents → document ≡ get_or documents number document
-    → slice_get (map record_of documents) number ≡ Some (record_of document)
-record_at_place documents number document inside is =
-    slice_get-map record_of documents number ∙ ap (λ o. option_map record_of o) (slice_get_read documents (length documents) number document refl inside is)
+pub use Rattle.revision.proofs.CallerLemmas.{record_at_place}
 
 module _ (line : DocumentRecord → List ℕ) where
   lines-last : (documents : List DocumentRecord) (last : DocumentRecord) → flat_map line (documents ++ last ∷ []) ≡ flat_map line documents ++ line last

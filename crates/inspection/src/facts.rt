@@ -1,12 +1,11 @@
 //! The facts of a store, as lines.
-ghost use Rattle.std.specs.Prelude.{◌≡◌, ◌⊎◌, ◌≤◌, ◌++◌, true, length, OnOk, OnErr, IfOk, IfErr, IsErrOf};
+ghost use Rattle.std.specs.Prelude.{◌≡◌, ◌⊎◌, true, OnOk, IfOk, IfErr, IsErrOf};
 ghost use Rattle.std.specs.String.{string_bytes};
 ghost use Rattle.std.specs.Io.KnownBytes.{Appends};
 ghost use Rattle.session.specs.Output.{AppendsFront};
-ghost use Rattle.revision.specs.Pending.{record_of};
 ghost use Rattle.inspection.specs.Filled as spec;
 
-use crate::failure::Failure;
+use crate::failure::InspectionError;
 use disk::Disk;
 use recovery::{Shape, Store};
 use refusal::Refusal;
@@ -21,14 +20,14 @@ pub fn info<D: Disk, O: Output>(
     alloc: Global,
     store: &Store<D>,
     output: &mut O,
-) -> Result<(), Failure>
+) -> Result<(), InspectionError>
     ensures told { OnOk result (Appends (O.contents output.old) (O.contents output.new) (spec.info_of store.now)) }
-    ensures only { IfErr result (λ e. (e ≡ Failure.Stream) ⊎ (e ≡ Failure.Refused Refusal.NoMemory)) }
-    ensures front { IsErrOf result Failure.Stream
+    ensures only { IfErr result (λ e. (e ≡ InspectionError.Stream) ⊎ (e ≡ InspectionError.Refused Refusal.NoMemory)) }
+    ensures front { IsErrOf result InspectionError.Stream
         → AppendsFront (O.contents output.old) (O.contents output.new) (spec.info_of store.now) }
     // It is the output that fails where a write fails, and where memory runs out it is unchanged.
-    ensures cause { IsErrOf result Failure.Stream → O.has_failed output.new ≡ true }
-    ensures no_memory { IsErrOf result (Failure.Refused Refusal.NoMemory) → output.new ≡ output.old }
+    ensures cause { IsErrOf result InspectionError.Stream → O.has_failed output.new ≡ true }
+    ensures no_memory { IsErrOf result (InspectionError.Refused Refusal.NoMemory) → output.new ≡ output.old }
 {
     let text = info_text(alloc, store)?;
     output.put(text.as_bytes())?;

@@ -1,33 +1,33 @@
 //! Why lines about a store end before their end.
 ghost use Rattle.std.specs.Prelude.{◌≡◌};
-ghost use Rattle.inspection.specs.declared.failure.Failure.TheVariants.{Refused, Stream};
+ghost use Rattle.inspection.specs.declared.failure.InspectionError.TheVariants.{Refused, Stream};
 ghost use Rattle.refusal.specs.declared.Refusal.TheVariants as refusal;
 
 use refusal::Refusal;
-use session::WriteFailed;
+use session::WriteError;
 use std::alloc::AllocError;
 
 /// Why lines about a store end before their end.
 #[derive(Debug, Drop)]
-pub enum Failure {
+pub enum InspectionError {
     /// Memory ran out.
     Refused(Refusal),
     /// A write failed.
     Stream,
 }
 
-impl From<AllocError> for Failure {
+impl From<AllocError> for InspectionError {
     ghost from_gives = { λ _ failure. failure ≡ Refused refusal.NoMemory };
 
-    fn from(_error: AllocError) -> Failure {
-        Failure::Refused(Refusal::NoMemory)
+    fn from(_error: AllocError) -> InspectionError {
+        InspectionError::Refused(Refusal::NoMemory)
     }
 }
 
-impl From<WriteFailed> for Failure {
+impl From<WriteError> for InspectionError {
     ghost from_gives = { λ _ failure. failure ≡ Stream };
 
-    fn from(_failed: WriteFailed) -> Failure {
-        Failure::Stream
+    fn from(_failed: WriteError) -> InspectionError {
+        InspectionError::Stream
     }
 }

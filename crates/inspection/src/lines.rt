@@ -8,7 +8,7 @@ ghost use Rattle.revision.specs.State.{revision_of};
 ghost use Rattle.session.specs.Output.{AppendsFront};
 ghost use Rattle.inspection.specs.Filled as spec;
 
-use crate::failure::Failure;
+use crate::failure::InspectionError;
 use crate::weighing::weight_in;
 use refusal::Refusal;
 use revision::{DocState, Limits, State};
@@ -18,15 +18,19 @@ use std::alloc::{AllocError, Global};
 /// Writes one line for each document, in order of creation: name, revision, floor, `live` or `deleted`, its weight and what is left
 /// of the limit, how many sources it has and how many more it may have. Ends where a write fails (`Stream`), or with `NoMemory`, and then
 /// a prefix of the lines is written.
-pub fn documents<O: Output>(alloc: Global, state: &State, output: &mut O) -> Result<(), Failure>
+pub fn documents<O: Output>(
+    alloc: Global,
+    state: &State,
+    output: &mut O,
+) -> Result<(), InspectionError>
     ensures told { OnOk result (Appends (O.contents output.old) (O.contents output.new)
         (spec.lines_of state.now.limits state.now.documents)) }
-    ensures only { IfErr result (λ e. (e ≡ Failure.Stream) ⊎ (e ≡ Failure.Refused Refusal.NoMemory)) }
+    ensures only { IfErr result (λ e. (e ≡ InspectionError.Stream) ⊎ (e ≡ InspectionError.Refused Refusal.NoMemory)) }
     ensures front { OnErr result (AppendsFront (O.contents output.old) (O.contents output.new)
         (spec.lines_of state.now.limits state.now.documents)) }
     // It is the output that fails where a write fails, and where memory runs out no write has failed.
-    ensures cause { IsErrOf result Failure.Stream → O.has_failed output.new ≡ true }
-    ensures no_memory { IsErrOf result (Failure.Refused Refusal.NoMemory)
+    ensures cause { IsErrOf result InspectionError.Stream → O.has_failed output.new ≡ true }
+    ensures no_memory { IsErrOf result (InspectionError.Refused Refusal.NoMemory)
         → O.has_failed output.new ≡ O.has_failed output.old }
 {
     let limits = state.limits();

@@ -1,20 +1,18 @@
 //! Whether two states match.
-ghost use Rattle.std.specs.Prelude.{◌≡◌, ◌≢◌, ◌↔◌, ◌-◌, ◌^◌, ◌≤◌, true, false, min, Ok, IfOk, IfErr, IsTrue};
+ghost use Rattle.std.specs.Prelude.{◌≡◌, ◌≢◌, ◌↔◌, ◌-◌, ◌^◌, ◌≤◌, true, false, min, Ok, IfOk, IsTrue};
 ghost use Rattle.revision.specs.Past.{newest, sources_at as spec_sources_at};
 ghost use Rattle.revision.specs.Pending.{record_of};
 ghost use Rattle.inspection.specs.Matching.{DocumentsMatch, Match, PastsMatch, changes_in};
 
 use delta::Delta;
 use document::Document;
-use refusal::Refusal;
 use revision::{DocState, Limits, Name, Sources, State};
-use std::alloc::Global;
+use std::alloc::{AllocError, Global};
 
 /// Whether two states match. Refused as out of memory alone.
-pub(crate) fn states_match(alloc: Global, one: &State, other: &State) -> Result<bool, Refusal>
+pub(crate) fn states_match(alloc: Global, one: &State, other: &State) -> Result<bool, AllocError>
     ensures alike { result ≡ Ok true → Match one.now other.now }
     ensures differ { result ≡ Ok false → ¬ (Match one.now other.now) }
-    ensures only { IfErr result (λ e. e ≡ Refusal.NoMemory) }
 {
     let (documents, others) = (one.documents(), other.documents());
     if !same_limits(one.limits(), other.limits()) {
@@ -43,10 +41,9 @@ pub fn changes_in(state: &State) -> u64
     count
 }
 
-fn documents_match(alloc: Global, one: &DocState, other: &DocState) -> Result<bool, Refusal>
+fn documents_match(alloc: Global, one: &DocState, other: &DocState) -> Result<bool, AllocError>
     ensures alike { result ≡ Ok true → DocumentsMatch (record_of one.now) (record_of other.now) }
     ensures differ { result ≡ Ok false → ¬ (DocumentsMatch (record_of one.now) (record_of other.now)) }
-    ensures only { IfErr result (λ e. e ≡ Refusal.NoMemory) }
 {
     if !same_name(one.name(), other.name()) || one.revision() != other.revision() {
         return Ok(false);
@@ -61,14 +58,18 @@ fn documents_match(alloc: Global, one: &DocState, other: &DocState) -> Result<bo
 }
 
 // Whether the pasts of two documents match from a revision on that both hold.
-fn pasts_match(alloc: Global, one: &DocState, other: &DocState, floor: u64) -> Result<bool, Refusal>
+fn pasts_match(
+    alloc: Global,
+    one: &DocState,
+    other: &DocState,
+    floor: u64,
+) -> Result<bool, AllocError>
     requires held { one.now.past.past.floor ≤ floor }
     requires there { floor ≤ newest one.now.past.past }
     requires held_too { other.now.past.past.floor ≤ floor }
     requires there_too { floor ≤ newest other.now.past.past }
     ensures alike { result ≡ Ok true → PastsMatch floor one.now.past.past other.now.past.past }
     ensures differ { result ≡ Ok false → ¬ (PastsMatch floor one.now.past.past other.now.past.past) }
-    ensures only { IfErr result (λ e. e ≡ Refusal.NoMemory) }
 {
     if !same_deltas(one.since(floor), other.since(floor)) {
         return Ok(false);
@@ -84,21 +85,19 @@ fn pasts_match(alloc: Global, one: &DocState, other: &DocState, floor: u64) -> R
 }
 
 // The sources of a document at a revision that it holds.
-fn sources_at(alloc: Global, document: &DocState, revision: u64) -> Result<Sources, Refusal>
+fn sources_at(alloc: Global, document: &DocState, revision: u64) -> Result<Sources, AllocError>
     requires held { document.now.past.past.floor ≤ revision }
     requires there { revision ≤ newest document.now.past.past }
     ensures sources { IfOk result (λ sources. sources ≡ spec_sources_at document.now.past.past revision) }
-    ensures only { IfErr result (λ e. e ≡ Refusal.NoMemory) }
 {
     let replay = document.replay_to(alloc, revision)?;
     Ok(replay.sources)
 }
 
 // Whether the same stands in two documents.
-fn same_units(alloc: Global, one: &Document, other: &Document) -> Result<bool, Refusal>
+fn same_units(alloc: Global, one: &Document, other: &Document) -> Result<bool, AllocError>
     ensures same { result ≡ Ok true → one.now ≡ other.now }
     ensures differ { result ≡ Ok false → one.now ≢ other.now }
-    ensures only { IfErr result (λ e. e ≡ Refusal.NoMemory) }
 {
     let one = one.as_delta(alloc)?;
     let other = other.as_delta(alloc)?;

@@ -1,8 +1,8 @@
 -- Reading of entries one behind the other, as a loop does it.
 use Rattle.std.proofs.Common.{◌≡◌, ℕ, suc, ◌-◌, ◌+◌, ◌≤◌, ◌<◌, Option, Some, None, List, [], ◌∷◌, ◌++◌, refl, sym, ap, ◌∙◌, append_assoc, arith}
 use Rattle.std.proofs.lemmas.List.{append-nil}
-use Rattle.journal.specs.declared.batch.unread.Unread.{Unread}
-use Rattle.journal.specs.declared.batch.unread.Unread.TheVariants.{Malformed, NoMemory}
+use Rattle.journal.specs.declared.batch.read_error.ReadError.{ReadError}
+use Rattle.journal.specs.declared.batch.read_error.ReadError.TheVariants.{Malformed, NoMemory}
 use Rattle.revision.specs.Command.{Taken}
 use Rattle.journal.specs.steps.Reading.{◌>>=◌, Fails}
 use Rattle.journal.specs.steps.BatchReading.{entry_at, entries_at}
@@ -24,7 +24,7 @@ module _ (front : List Taken) (count done : ℕ) (bytes : List ℕ) (total : Opt
       let step : behind front (entries_at (count - done) bytes) ≡ behind (front ++ first ∷ []) (entries_at (count - (done + 1)) after) = rw (left, read) (behind-cons front first (entries_at (count - (done + 1)) after)) in
       sym step ∙ so_far
 
-  pub none_more : (why : Unread) → done < count → Fails why (entry_at bytes) → Fails why total
+  pub none_more : (why : ReadError) → done < count → Fails why (entry_at bytes) → Fails why total
   unfolding entries_at
   none_more NoMemory more read = tt
   none_more Malformed more read =

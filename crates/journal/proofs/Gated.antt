@@ -1,10 +1,11 @@
 -- The four calls of a write behind a gate, one after another.
 use Rattle.std.proofs.Common.{◌≡◌, inl, inr, ℕ, ◌+◌, ◌≤◌, ◌<◌, List, [], ◌∷◌, ◌++◌, length, take, drop, get_or, refl, sym, ◌∙◌, ap, subst, arith, take-append-drop}
 use Rattle.std.proofs.lemmas.List.{drop_more}
-use Rattle.disk.specs.Device.{State, History, overwritten, SameOutside, IsWrite, IsSync, IsAtMostOneStep, NoStep, OneStep}
+use Rattle.disk.specs.Device.{History, overwritten, SameOutside, IsWrite, IsSync, IsAtMostOneStep}
 use Rattle.disk.specs.Crash.{Leaves}
 use Rattle.disk.proofs.CallerLemmas.{length_overwritten, begins, goes_on_first_write, goes_on_sync}
 use Rattle.journal.specs.Area.{IsGated}
+pub use Rattle.disk.proofs.CallerLemmas.{one_told as one_more}
 
 -- A run that has come to rest: a crash at any moment of it left P, a read gives these bytes, and no range is unsynced.
 pub record Rests (P : List ℕ → Type 0) (old new : History) (bytes : List ℕ) : Type 0 where
@@ -31,11 +32,6 @@ rests_sync bytes leaves wrote time seen synced = record { leaves = goes_on_sync 
 rests_next : {P : List ℕ → Type 0} {old mid written new : History} {bytes : List ℕ} (at : ℕ) (put : List ℕ) → Rests P old mid bytes → Leaves P old written → written.now.seen ≡ overwritten mid.now.seen at put
     → IsAtMostOneStep IsSync written new → new.now.seen ≡ written.now.seen → new.now.unsynced ≡ [] → Rests P old new (overwritten bytes at put)
 rests_next {bytes = bytes} at put rests leaves wrote time seen synced = rests_sync (overwritten bytes at put) leaves (wrote ∙ ap (λ (l : List ℕ). overwritten l at put) rests.seen) time seen synced
-
--- a call is one moment more at most
-pub one_more : {Step : State → State → Type 0} {old new : History} → IsAtMostOneStep Step old new → length new.past ≤ length old.past + 1
-one_more {old = old} {new = new} (NoStep same) = let past : length new.past ≡ length old.past = ap (λ (h : History). length h.past) same in omega (arith, past)
-one_more {old = old} {new = new} (OneStep more step) = let past : length new.past ≡ length (old.now ∷ old.past) = ap (λ (l : List State). length l) more in omega (arith, past)
 
 -- bytes that agree but for one place are the old ones with a byte put there
 pub one_byte : (at : ℕ) (old new : List ℕ) → at < length old → SameOutside at 1 old new → new ≡ overwritten old at (get_or new at 0 ∷ [])

@@ -27,7 +27,3 @@ is_normal-drop (op ∷ ops) (suc i) lt = is_normal-drop ops i (omega arith)
 -- one more may stand
 pub normal_more : (ops : List Operation) (i : ℕ) (whole : Bool) → i < length ops → whole ≡ is_normal (drop i ops) → begins_normal (drop i ops) ≡ true → whole ≡ is_normal (drop (i + 1) ops)
 normal_more ops i whole lt so_far stands = rw add-one (so_far ∙ is_normal-drop ops i lt ∙ ap (λ b. b && is_normal (drop (suc i) ops)) stands)
-
--- one may not
-pub normal_none : (ops : List Operation) (i : ℕ) (whole : Bool) → i < length ops → whole ≡ is_normal (drop i ops) → begins_normal (drop i ops) ≡ false → whole ≡ false
-normal_none ops i whole lt so_far stands = so_far ∙ is_normal-drop ops i lt ∙ ap (λ b. b && is_normal (drop (suc i) ops)) stands

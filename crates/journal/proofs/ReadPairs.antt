@@ -47,16 +47,16 @@ above_takes last bytes x fit e =
 
 -- ---- order
 
-less : (o : Ordering) → is_lt o ≡ true → o ≡ Less
+pub less : (o : Ordering) → is_lt o ≡ true → o ≡ Less
 less Less h = refl
 less Equal h = absurd cc
 less Greater h = absurd cc
 
-from_T : (b : Bool) → T b → b ≡ true
+pub from_T : (b : Bool) → T b → b ≡ true
 from_T true h = refl
 from_T false h = absurd h
 
-lower : (a b c : List ℕ) → is_lt (by_bytes a b) ≡ true → is_lt (by_bytes b c) ≡ true → is_lt (by_bytes a c) ≡ true
+pub lower : (a b c : List ℕ) → is_lt (by_bytes a b) ≡ true → is_lt (by_bytes b c) ≡ true → is_lt (by_bytes a c) ≡ true
 lower a b c p q = ap is_lt (nat_list_cmp_total.trans a b c (less _ p) (less _ q))
 
 module _ {X : Type 0} where

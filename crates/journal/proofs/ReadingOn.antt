@@ -1,8 +1,8 @@
 -- Reading of pairs and of operations one behind the other, as a loop does it.
 use Rattle.std.proofs.Common.{◌≡◌, ℕ, suc, ◌-◌, ◌+◌, ◌≤◌, ◌<◌, Option, Some, None, List, [], ◌∷◌, ◌++◌, refl, sym, ◌∙◌, arith}
 use Rattle.attributes.specs.Map.{Map, insert}
-use Rattle.journal.specs.declared.batch.unread.Unread.{Unread}
-use Rattle.journal.specs.declared.batch.unread.Unread.TheVariants.{Malformed, NoMemory}
+use Rattle.journal.specs.declared.batch.read_error.ReadError.{ReadError}
+use Rattle.journal.specs.declared.batch.read_error.ReadError.TheVariants.{Malformed, NoMemory}
 use Rattle.journal.specs.steps.Reading.{Fails}
 use Rattle.delta.specs.Operation.{Operation}
 use Rattle.journal.specs.steps.DeltaReading.{pair_at, pairs_at, operation_at, operations_at}
@@ -16,7 +16,7 @@ module _ {X : Type 0} (read : List ℕ → Option (X × List ℕ)) (count done :
       let step : pairs_at read (count - done) last front bytes ≡ pairs_at read (count - (done + 1)) name (insert front name x) after = rw (left, found) refl in
       sym step ∙ so_far
 
-  pub pairs-none_more : (why : Unread) → done < count → Fails why (pair_at read last bytes) → Fails why total
+  pub pairs-none_more : (why : ReadError) → done < count → Fails why (pair_at read last bytes) → Fails why total
   unfolding pairs_at
   pairs-none_more NoMemory more found = tt
   pairs-none_more Malformed more found =
@@ -39,7 +39,7 @@ module _ (count done : ℕ) (front : List Operation) (bytes : List ℕ) (total :
       let step : operations_at (count - done) front bytes ≡ operations_at (count - (done + 1)) (front ++ first ∷ []) after = rw (left, found) refl in
       sym step ∙ so_far
 
-  pub operations-none_more : (why : Unread) → done < count → Fails why (operation_at bytes) → Fails why total
+  pub operations-none_more : (why : ReadError) → done < count → Fails why (operation_at bytes) → Fails why total
   unfolding operations_at
   operations-none_more NoMemory more found = tt
   operations-none_more Malformed more found =

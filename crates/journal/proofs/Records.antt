@@ -22,15 +22,6 @@ holds_first body others bytes holds = record {
   holds = record { gate = holds.gate; behind = holds.behind; split = refl; closed = holds.closed; each = holds.each.1 };
 }
 
-pub first_holds : (body : List ℕ) (others : List (List ℕ)) (bytes rest : List ℕ) → IsBody body → bytes ≡ open_record body ++ rest → HoldsBodies others rest → HoldsBodies (body ∷ others) bytes
-first_holds body others bytes rest is_body split holds = record {
-  gate = holds.gate;
-  behind = holds.behind;
-  split = split ∙ ap (λ (l : List ℕ). open_record body ++ l) holds.split ∙ sym (append_assoc (open_record body) (open_records others) (holds.gate ∷ holds.behind));
-  closed = holds.closed;
-  each = (is_body, holds.each);
-}
-
 -- some byte has to be there, for the gate
 pub holds_some : (bodies : List (List ℕ)) (bytes : List ℕ) → HoldsBodies bodies bytes → 0 < length bytes
 holds_some bodies bytes holds = omega (arith, ap length holds.split, length-append (open_records bodies) (holds.gate ∷ holds.behind))

@@ -36,18 +36,18 @@ module _ (width : Width) (limit : ℕ) (is : IsNumber width limit) where
 
 -- ---- names
 
-is_name_byte_ascii : (b : ℕ) → is_name_byte b ≡ true → b < 128
+pub is_name_byte_ascii : (b : ℕ) → is_name_byte b ≡ true → b < 128
 is_name_byte_ascii b e = grind (arith, nat_tests)
 
-is_name_ascii : (text : List ℕ) → list_all is_name_byte text ≡ true → (i : ℕ) → get_or text i 0 < 128
+pub is_name_ascii : (text : List ℕ) → list_all is_name_byte text ≡ true → (i : ℕ) → get_or text i 0 < 128
 is_name_ascii [] e i = omega arith
 is_name_ascii (b ∷ bytes) e zero = is_name_byte_ascii b (and_parts (is_name_byte b) (list_all is_name_byte bytes) e).0
 is_name_ascii (b ∷ bytes) e (suc i) = is_name_ascii bytes (and_parts (is_name_byte b) (list_all is_name_byte bytes) e).1 i
 
-is_utf8-is_name : (longest : ℕ) (text : List ℕ) → is_name longest text ≡ true → is_utf8 text ≡ true
+pub is_utf8-is_name : (longest : ℕ) (text : List ℕ) → is_name longest text ≡ true → is_utf8 text ≡ true
 is_utf8-is_name longest text e = is_utf8-from_IsUtf8 text (IsUtf8-from_ascii text (is_name_ascii text (and_parts _ (list_all is_name_byte text) e).1))
 
-is_name-short : (longest : ℕ) (text : List ℕ) → is_name longest text ≡ true → length text ≤ longest
+pub is_name-short : (longest : ℕ) (text : List ℕ) → is_name longest text ≡ true → length text ≤ longest
 is_name-short longest text e = leb-true _ _ (and_parts _ _ (and_parts _ (list_all is_name_byte text) e).0).1
 
 pub name_takes : (is_valid : List ℕ → Bool) (bytes : List ℕ) (x : List ℕ × List ℕ) → IsBytes bytes → name_at is_valid bytes ≡ Some x → Takes bytes (text16 x.0) x.1 × (is_valid x.0 ≡ true)

@@ -1,5 +1,5 @@
 //! An area of a device that holds records, one behind another.
-ghost use Rattle.std.specs.Prelude.{◌≡◌, ◌↔◌, ◌+◌, ◌^◌, ◌<◌, ◌≤◌, ℕ, List, [], ◌++◌, length, OnOk, OnErr, IsErrOf, IsTrue};
+ghost use Rattle.std.specs.Prelude.{◌≡◌, ◌↔◌, ◌+◌, ◌^◌, ◌<◌, ◌≤◌, ℕ, List, [], length, OnOk, OnErr, IsErrOf, IsTrue};
 ghost use Rattle.disk.specs.Crash.{LeavesOnly};
 ghost use Rattle.disk.specs.Calls.{HasOnlyWritten, CountsFaultsAs};
 ghost use Rattle.disk.specs.Counted.{calls_of, syncs_of};

@@ -4,8 +4,8 @@
 //! there is none.
 
 mod fields;
+mod read_error;
 mod reading;
-mod unread;
 mod writing;
 
 pub use fields::{

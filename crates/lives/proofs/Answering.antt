@@ -8,10 +8,11 @@ use Rattle.std.proofs.lemmas.Option.{slice_get-get_or}
 use Rattle.disk.specs.declared.device.Disk.{Ghosts}
 use Rattle.disk.specs.Crash.{LeavesOnly, MayLeaveNow}
 use Rattle.disk.proofs.CallerLemmas.{leaves_map}
+use Rattle.refusal.specs.Refusal.{IsOneOf}
 use Rattle.refusal.specs.declared.Refusal.{Refusal}
 use Rattle.refusal.specs.declared.Refusal.TheVariants.{JournalFull, StillNeeded, NoMemory, Fault}
 use Rattle.revision.specs.Command.{Taken, Command}
-use Rattle.revision.specs.State.{State, grown, fold}
+use Rattle.revision.specs.State.{State, fold}
 use Rattle.revision.specs.Acceptance.{answer}
 use Rattle.world.specs.Board.{Board, Ticket, submitted, next_run, taken_more, settled_more}
 use Rattle.world.specs.World.{Entry, entry_of, takens}
@@ -30,7 +31,8 @@ use Rattle.lives.specs.declared.calls.Answer.{Answer}
 use Rattle.lives.specs.declared.calls.Answer.TheVariants.{Submitted, Turned, Acked, Put, Retired, Refused}
 use Rattle.flusher.specs.declared.flusher.Flusher.{Flusher}
 use Rattle.flusher.specs.Flushers.{IsUsedUp, cap_of}
-use Rattle.flusher.specs.Holding.{store_of}
+use Rattle.flusher.specs.Writing.{IsUnpublished, IsWriteRefused}
+use Rattle.flusher.specs.Holding.{store_of, HasNoRoom, waiting_of}
 use Rattle.flusher.specs.Standing.{Standing, IsEven, IsCalm}
 use Rattle.flusher.proofs.CallerLemmas.{same_batch}
 use Rattle.lives.specs.Run.{IsFirst, batches_of, RunGoes}
@@ -39,14 +41,12 @@ use Rattle.lives.proofs.Beginnings.{is_first}
 use Rattle.lives.proofs.Evens.{all_batches, takens_length}
 use Rattle.lives.proofs.Running.{run_none}
 use Rattle.lives.proofs.Steps.{run_submitted, run_store, settled_by}
-
-limits_of_fold : (state : State) (commands : List Taken) → (fold state commands).limits ≡ state.limits
-limits_of_fold state [] = refl
-limits_of_fold state (first ∷ others) = limits_of_fold (grown state first) others
+use Rattle.revision.proofs.CallerLemmas.{limits-fold}
+pub use Rattle.recovery.proofs.CallerLemmas.{on_ok}
 
 -- the cap stays what it was at the start
 pub same_cap : (start state : State) (commands : List Taken) → state ≡ fold start commands → cap_of state ≡ cap_of start
-same_cap start state commands is = ap cap_of is ∙ ap (λ l. min (l.width + 4) (2 ^ 32 - 1)) (limits_of_fold start commands)
+same_cap start state commands is = ap cap_of is ∙ ap (λ l. min (l.width + 4) (2 ^ 32 - 1)) (limits-fold start commands)
 
 module _ {D : Type 0} {disk : Ghosts D} where
   pub submit_goes : {A E : Type 0} (T : Type 0) (start : State) (here : Standing D disk) (old board : Outer) (command : Command) (result : Result A E) → IsCalm start here
@@ -56,12 +56,6 @@ module _ {D : Type 0} {disk : Ghosts D} where
   submit_goes T start here old board command (Err e) calm ok err same knows =
       subst (λ (k : List (List Taken)). RunGoes start here (record here { board = board.board; known = k })) (sym knows)
       (subst (λ (b : Board Entry). RunGoes start here (record here { board = b })) (sym (ap (λ (b : Outer). b.board) err.0 ∙ same)) (run_none start here calm))
-
-  pub submit_calm : {A E : Type 0} (start : State) (here : Standing D disk) (board : Outer) (command : Command) (result : Result A E) → IsCalm start here
-      → OnOk result (board.board ≡ submitted (entry_of command) here.board command) → board.told ≡ here.known
-      → OnOk result (IsCalm start (record here { board = board.board; known = board.told }))
-  submit_calm start here board command (Ok a) calm ok knows = (run_submitted start here board.board board.told command calm ok knows).0
-  submit_calm start here board command (Err e) calm ok knows = tt
 
   -- the store alone changes, by equations
   pub run_store_by : (start : State) (here : Standing D disk) (told committed waiting : List (List Taken)) (store : Store D disk) → IsCalm start here → state_of store ≡ state_of here.store
@@ -93,7 +87,7 @@ module _ {D : Type 0} {disk : Ghosts D} where
   first_now start old new goes works is_open content left =
       is_first new.board.settled start (takens new.board.order) (batches_of new) new.board.taken content (batches_in new goes.even) (goes.lasts works is_open content left)
 
-before_more : {A : Type 0} (xs more : List A) (at : ℕ) (x : A) → slice_get xs at ≡ Some x → slice_get (xs ++ more) at ≡ Some x
+pub before_more : {A : Type 0} (xs more : List A) (at : ℕ) (x : A) → slice_get xs at ≡ Some x → slice_get (xs ++ more) at ≡ Some x
 before_more [] more at x is = absurd (let no : ⊥ = cc in no)
 before_more (y ∷ ys) more zero x is = is
 before_more (y ∷ ys) more (suc at) x is = before_more ys more at x is
@@ -121,8 +115,8 @@ module _ {D : Type 0} {disk : Ghosts D} where
       let enough : ticket.length ≤ here.board.board.settled = grind (arith, nat_tests, gives.0) in
       (ticket, ap (λ (b : Between D disk). slice_get b.tickets at) same ∙ is, omega (arith, enough, ap (λ (b : Between D disk). b.board.board.settled) same))
 
-module _ {D J : Type 0} where
-  held_later : (settled later : ℕ) (tickets out l : List Ticket) (call : Call) (reply : Answer D J) → settled ≤ later → out ≡ tickets ++ l → IsHeld settled tickets call reply → IsHeld later out call reply
+module _ {D L : Type 0} where
+  held_later : (settled later : ℕ) (tickets out l : List Ticket) (call : Call) (reply : Answer D L) → settled ≤ later → out ≡ tickets ++ l → IsHeld settled tickets call reply → IsHeld later out call reply
   held_later settled later tickets out l (Ack at) (Acked (Some told)) le more held = (held.0, ap (λ (t : List Ticket). slice_get t at) more ∙ before_more tickets l at held.0 held.1, omega (arith, held.2, le))
   held_later settled later tickets out l (Ack at) (Acked None) le more held = tt
   held_later settled later tickets out l (Ack at) (Submitted n) le more held = tt
@@ -136,7 +130,7 @@ module _ {D J : Type 0} where
   held_later settled later tickets out l Retire reply le more held = tt
 
   -- what is held stays held
-  pub all_later : (settled later : ℕ) (tickets out l : List Ticket) (calls : List Call) (answers : List (Answer D J)) → settled ≤ later → out ≡ tickets ++ l → AreHeld settled tickets calls answers
+  pub all_later : (settled later : ℕ) (tickets out l : List Ticket) (calls : List Call) (answers : List (Answer D L)) → settled ≤ later → out ≡ tickets ++ l → AreHeld settled tickets calls answers
       → AreHeld later out calls answers
   all_later settled later tickets out l [] [] le more held = tt
   all_later settled later tickets out l [] (reply ∷ answers) le more held = absurd held
@@ -144,15 +138,15 @@ module _ {D J : Type 0} where
   all_later settled later tickets out l (call ∷ calls) (reply ∷ answers) le more held =
       (held_later settled later tickets out l call reply le more held.0, all_later settled later tickets out l calls answers le more held.1)
 
-  at_the_end : (settled : ℕ) (tickets : List Ticket) (calls : List Call) (answers : List (Answer D J)) (call : Call) (reply : Answer D J) → AreHeld settled tickets calls answers
+  at_the_end : (settled : ℕ) (tickets : List Ticket) (calls : List Call) (answers : List (Answer D L)) (call : Call) (reply : Answer D L) → AreHeld settled tickets calls answers
       → IsHeld settled tickets call reply → AreHeld settled tickets (calls ++ call ∷ []) (answers ++ reply ∷ [])
   at_the_end settled tickets [] [] call reply held last = (last, tt)
   at_the_end settled tickets [] (other ∷ answers) call reply held last = absurd held
   at_the_end settled tickets (first ∷ calls) [] call reply held last = absurd held
   at_the_end settled tickets (first ∷ calls) (other ∷ answers) call reply held last = (held.0, at_the_end settled tickets calls answers call reply held.1 last)
 
-module _ {D J : Type 0} {disk : Ghosts D} where
-  grows_by : (cap : ℕ) (here : Between D disk) (call : Call) (reply : Answer D J) (after : Between D disk) → Gives cap here call reply after
+module _ {D L : Type 0} {disk : Ghosts D} where
+  grows_by : (cap : ℕ) (here : Between D disk) (call : Call) (reply : Answer D L) (after : Between D disk) → Gives cap here call reply after
       → Grows here.board.board here.tickets after.board.board after.tickets
   grows_by cap here (Submit command) (Submitted at) after gives = record {
     settled = omega (arith, ap (λ (b : Outer). b.board.settled) gives.0, settled_by (entry_of command) here.board.board (answer here.board.board.state command));
@@ -191,7 +185,7 @@ module _ {D J : Type 0} {disk : Ghosts D} where
   grows_by cap here Retire (Acked told) after gives = absurd gives
   grows_by cap here Retire Put after gives = absurd gives
 
-  gives_held : (cap : ℕ) (here : Between D disk) (call : Call) (reply : Answer D J) (after : Between D disk) → Gives cap here call reply after
+  gives_held : (cap : ℕ) (here : Between D disk) (call : Call) (reply : Answer D L) (after : Between D disk) → Gives cap here call reply after
       → IsHeld after.board.board.settled after.tickets call reply
   gives_held cap here (Ack at) (Acked (Some told)) after gives = ack_holds here after at told (slice_get here.tickets at) refl gives.0 gives.1
   gives_held cap here (Ack at) (Acked None) after gives = tt
@@ -206,7 +200,7 @@ module _ {D J : Type 0} {disk : Ghosts D} where
   gives_held cap here Retire reply after gives = tt
 
   -- each acknowledgement of an answered run is held by what is settled at its end
-  pub answered_held : (cap : ℕ) (start : Between D disk) (calls : List Call) (answers : List (Answer D J)) (here : Between D disk) → Answered cap start calls answers here
+  pub answered_held : (cap : ℕ) (start : Between D disk) (calls : List Call) (answers : List (Answer D L)) (here : Between D disk) → Answered cap start calls answers here
       → AreHeld here.board.board.settled here.tickets calls answers
   answered_held cap start _ _ _ Begins = tt
   answered_held cap start _ _ _ (Follows calls answers here call reply after before gives works opens) =
@@ -216,14 +210,14 @@ module _ {D J : Type 0} {disk : Ghosts D} where
       (gives_held cap here call reply after gives)
 
   -- none is answered yet
-  pub begins_at : (cap : ℕ) (board : Outer) (store : Store D disk) (answers : List (Answer D J)) (tickets : List Ticket) → answers ≡ [] → tickets ≡ []
+  pub begins_at : (cap : ℕ) (board : Outer) (store : Store D disk) (answers : List (Answer D L)) (tickets : List Ticket) → answers ≡ [] → tickets ≡ []
       → Answered cap (record { board = board; tickets = []; store = store }) [] answers (record { board = board; tickets = tickets; store = store })
   begins_at cap board store answers tickets none nothing =
-      subst (λ (a : List (Answer D J)). Answered {D = D} {J = J} cap (record { board = board; tickets = []; store = store }) [] a (record { board = board; tickets = tickets; store = store })) (sym none)
-      (subst (λ (t : List Ticket). Answered {D = D} {J = J} cap (record { board = board; tickets = []; store = store }) [] [] (record { board = board; tickets = t; store = store })) (sym nothing) Begins)
+      subst (λ (a : List (Answer D L)). Answered {D = D} {L = L} cap (record { board = board; tickets = []; store = store }) [] a (record { board = board; tickets = tickets; store = store })) (sym none)
+      (subst (λ (t : List Ticket). Answered {D = D} {L = L} cap (record { board = board; tickets = []; store = store }) [] [] (record { board = board; tickets = t; store = store })) (sym nothing) Begins)
 
   -- one call more is answered
-  pub one_more : (cap : ℕ) (start : Between D disk) (all : List Call) (at : ℕ) (call : Call) (answers : List (Answer D J)) (here : Between D disk) (reply : Answer D J) (after : Between D disk)
+  pub one_more : (cap : ℕ) (start : Between D disk) (all : List Call) (at : ℕ) (call : Call) (answers : List (Answer D L)) (here : Between D disk) (reply : Answer D L) (after : Between D disk)
       (d : Call) → at < length all → call ≡ get_or all at d → Answered cap start (take at all) answers here → Gives cap here call reply after
       → has_failed after.store ≡ false → (IsOpen here.store → IsOpen after.store)
       → Answered cap start (take (at + 1) all) (answers ++ reply ∷ []) after
@@ -233,34 +227,34 @@ module _ {D J : Type 0} {disk : Ghosts D} where
       (Follows (take at all) answers here call reply after before gives works opens)
 
   -- what a milestone gives, by its answer
-  pub gives_put : (cap : ℕ) (here : Between D disk) (document revision : ℕ) (reply : Answer D J) (store : Store D disk)
+  pub gives_put : (cap : ℕ) (here : Between D disk) (document revision : ℕ) (reply : Answer D L) (store : Store D disk)
       → ((reply ≡ Put) × IsTaken (PutsMilestone document revision) here.store store)
       ⊎ ((refusal : Refusal) × (reply ≡ Refused refusal) × IsUnchanged here.store store × IsWhy (PutsMilestone document revision) refusal here.store)
       → Gives cap here (Milestone document revision) reply (record here { store = store })
   gives_put cap here document revision reply store (inl put) =
-      subst (λ (a : Answer D J). Gives cap here (Milestone document revision) a (record here { store = store })) (sym put.0) (refl, refl, put.1)
+      subst (λ (a : Answer D L). Gives cap here (Milestone document revision) a (record here { store = store })) (sym put.0) (refl, refl, put.1)
   gives_put cap here document revision reply store (inr (refusal, is, same, why)) =
-      subst (λ (a : Answer D J). Gives cap here (Milestone document revision) a (record here { store = store })) (sym is) (refl, refl, same, why)
+      subst (λ (a : Answer D L). Gives cap here (Milestone document revision) a (record here { store = store })) (sym is) (refl, refl, same, why)
 
   -- and what a retirement gives
-  pub gives_retired : (cap : ℕ) (here : Between D disk) (reply : Answer D J) (store : Store D disk)
+  pub gives_retired : (cap : ℕ) (here : Between D disk) (reply : Answer D L) (store : Store D disk)
       → ((reply ≡ Retired) × IsTaken Retires here.store store)
       ⊎ ((refusal : Refusal) × (reply ≡ Refused refusal) × IsUnchanged here.store store × IsWhy Retires refusal here.store)
       → Gives cap here Retire reply (record here { store = store })
   gives_retired cap here reply store (inl retired) =
-      subst (λ (a : Answer D J). Gives cap here Retire a (record here { store = store })) (sym retired.0) (refl, refl, retired.1)
+      subst (λ (a : Answer D L). Gives cap here Retire a (record here { store = store })) (sym retired.0) (refl, refl, retired.1)
   gives_retired cap here reply store (inr (refusal, is, same, why)) =
-      subst (λ (a : Answer D J). Gives cap here Retire a (record here { store = store })) (sym is) (refl, refl, same, why)
+      subst (λ (a : Answer D L). Gives cap here Retire a (record here { store = store })) (sym is) (refl, refl, same, why)
 
   -- the same of all that they may answer
-  pub puts : {E : Type 0} (cap : ℕ) (here : Between D disk) (document revision : ℕ) (result : Result (Answer D J) E) (store : Store D disk)
+  pub puts : {E : Type 0} (cap : ℕ) (here : Between D disk) (document revision : ℕ) (result : Result (Answer D L) E) (store : Store D disk)
       → IfOk result (λ reply. ((reply ≡ Put) × IsTaken (PutsMilestone document revision) here.store store)
       ⊎ ((refusal : Refusal) × (reply ≡ Refused refusal) × IsUnchanged here.store store × IsWhy (PutsMilestone document revision) refusal here.store))
       → IfOk result (λ reply. Gives cap here (Milestone document revision) reply (record here { store = store }))
   puts cap here document revision (Ok reply) store answers = gives_put cap here document revision reply store answers
   puts cap here document revision (Err e) store answers = tt
 
-  pub retires : {E : Type 0} (cap : ℕ) (here : Between D disk) (result : Result (Answer D J) E) (store : Store D disk)
+  pub retires : {E : Type 0} (cap : ℕ) (here : Between D disk) (result : Result (Answer D L) E) (store : Store D disk)
       → IfOk result (λ reply. ((reply ≡ Retired) × IsTaken Retires here.store store)
       ⊎ ((refusal : Refusal) × (reply ≡ Refused refusal) × IsUnchanged here.store store × IsWhy Retires refusal here.store))
       → IfOk result (λ reply. Gives cap here Retire reply (record here { store = store }))
@@ -268,18 +262,13 @@ module _ {D J : Type 0} {disk : Ghosts D} where
   retires cap here (Err e) store answers = tt
 
   -- what a call gives, by the case of the call
-  pub gives_one : (cap : ℕ) (here : Between D disk) (call known : Call) (reply : Answer D J) (after : Between D disk) → call ≡ known
+  pub gives_one : (cap : ℕ) (here : Between D disk) (call known : Call) (reply : Answer D L) (after : Between D disk) → call ≡ known
       → Gives cap here known reply after → Gives cap here call reply after
   gives_one cap here call known reply after is gives = subst (λ (c : Call). Gives cap here c reply after) (sym is) gives
 
-  pub gives_of : {E : Type 0} (cap : ℕ) (here : Between D disk) (call known : Call) (result : Result (Answer D J) E) (after : Between D disk) → call ≡ known
+  pub gives_of : {E : Type 0} (cap : ℕ) (here : Between D disk) (call known : Call) (result : Result (Answer D L) E) (after : Between D disk) → call ≡ known
       → IfOk result (λ reply. Gives cap here known reply after) → IfOk result (λ reply. Gives cap here call reply after)
   gives_of cap here call known result after is gives = subst (λ (c : Call). IfOk result (λ reply. Gives cap here c reply after)) (sym is) gives
-
--- what holds always holds of an Ok
-pub on_ok : {A E T : Type 0} (result : Result A E) → T → OnOk result T
-on_ok (Ok a) holds = holds
-on_ok (Err e) holds = tt
 
 -- what holds always holds of an Err
 pub on_err : {A E T : Type 0} (result : Result A E) → T → OnErr result T
@@ -378,61 +367,56 @@ not_full refusal is memory = cc
 not_needed : (refusal : Refusal) → refusal ≡ StillNeeded → refusal ≢ NoMemory
 not_needed refusal is memory = cc
 
-module _ {D J : Type 0} {disk : Ghosts D} where
+module _ {D L : Type 0} {disk : Ghosts D} where
   -- Why a turn is refused whose write is: by the run that was held.
-  pub turn_refused : (cap : ℕ) (board : Outer) (store mid : Store D disk) (new : Flusher D J disk) (waiting : List (List Taken)) (run : List Taken) (refusal : Refusal) → waiting ≡ run ∷ [] → mid ≡ store
+  pub turn_refused : (cap : ℕ) (board : Outer) (store : Store D disk) (held new : Flusher D L disk) (run : List Taken) (refusal : Refusal) → waiting_of held ≡ run ∷ [] → store_of held ≡ store
       → run ≡ takens (next_run board.board (length run)) → IsLongest cap (untaken board.board) (length run) → 1 ≤ length run
-      → (refusal ≡ JournalFull → (batch : List Taken) × (waiting ≡ batch ∷ []) × (has_room mid batch ≡ false) × (has_room (store_of new) batch ≡ false))
-      → (refusal ≡ StillNeeded → (batch : List Taken) × (waiting ≡ batch ∷ []) × (has_room mid batch ≡ false))
-      → ((refusal ≡ JournalFull) ⊎ (refusal ≡ StillNeeded) → IsUsedUp mid)
-      → (refusal ≢ NoMemory → state_of (store_of new) ≡ state_of mid)
-      → ((refusal ≡ JournalFull) ⊎ (refusal ≡ StillNeeded)) ⊎ ((refusal ≡ NoMemory) ⊎ (refusal ≡ Fault))
+      → IsUnpublished refusal held new → IsWriteRefused refusal held new
       → ((refusal ≡ NoMemory) ⊎ (refusal ≡ Fault)) ⊎ IsTurnRefused cap board store refusal new
-  turn_refused cap board store mid new waiting run refusal waits same is longest some full needed used stays only = by_case only
+  turn_refused cap board store held new run refusal waits same is longest some left why = by_case why.only
     where
-      no_room : (batch : List Taken) → waiting ≡ batch ∷ [] → has_room mid batch ≡ false → has_room store (takens (next_run board.board (length run))) ≡ false
-      no_room batch held none =
-          ap (has_room store) (sym is) ∙ ap (λ (s : Store D disk). has_room s run) (sym same) ∙ ap (has_room mid) (same_batch waiting run batch waits held) ∙ none
+      no_room : HasNoRoom held → has_room store (takens (next_run board.board (length run))) ≡ false
+      no_room full =
+          ap (has_room store) (sym is) ∙ ap (λ (s : Store D disk). has_room s run) (sym same)
+          ∙ ap (has_room (store_of held)) (same_batch (waiting_of held) run full.0 waits full.1) ∙ full.2
 
       used_up : (refusal ≡ JournalFull) ⊎ (refusal ≡ StillNeeded) → IsUsedUp store
-      used_up told = subst (λ (s : Store D disk). IsUsedUp s) same (used told)
+      used_up told = subst (λ (s : Store D disk). IsUsedUp s) same (why.used_up told)
 
       still : refusal ≢ NoMemory → state_of (store_of new) ≡ state_of store
-      still other = stays other ∙ ap state_of same
+      still other = (left.still other).state ∙ ap state_of same
 
-      by_case : ((refusal ≡ JournalFull) ⊎ (refusal ≡ StillNeeded)) ⊎ ((refusal ≡ NoMemory) ⊎ (refusal ≡ Fault))
+      by_case : IsOneOf refusal (JournalFull ∷ StillNeeded ∷ NoMemory ∷ Fault ∷ [])
           → ((refusal ≡ NoMemory) ⊎ (refusal ≡ Fault)) ⊎ IsTurnRefused cap board store refusal new
-      by_case (inl (inl is_full)) =
-          let p = full is_full in
+      by_case (inl is_full) =
           inr (
             length run,
             longest,
             some,
             record {
               why = inl is_full;
-              no_room = no_room p.0 p.1 p.2;
+              no_room = no_room (why.full is_full).0;
               last = used_up (inl is_full);
               state = still (not_full refusal is_full);
             },
           )
-      by_case (inl (inr is_needed)) =
-          let p = needed is_needed in
+      by_case (inr (inl is_needed)) =
           inr (
             length run,
             longest,
             some,
             record {
               why = inr is_needed;
-              no_room = no_room p.0 p.1 p.2;
+              no_room = no_room (why.needed is_needed).0;
               last = used_up (inr is_needed);
               state = still (not_needed refusal is_needed);
             },
           )
-      by_case (inr known) = inl known
+      by_case (inr (inr known)) = inl known
 
-module _ {D J : Type 0} {disk : Ghosts D} where
+module _ {D L : Type 0} {disk : Ghosts D} where
   -- where a call was refused that isn't an answer
-  pub stops_there : (cap : ℕ) (start here : Between D disk) (calls : List Call) (at : ℕ) (answers : List (Answer D J)) (call d : Call) (refusal : Refusal) (after : Flusher D J disk) → at < length calls
+  pub stops_there : (cap : ℕ) (start here : Between D disk) (calls : List Call) (at : ℕ) (answers : List (Answer D L)) (call d : Call) (refusal : Refusal) (after : Flusher D L disk) → at < length calls
       → call ≡ get_or calls at d → length answers ≡ at → Answered cap start (take (length answers) calls) answers here
       → ((refusal ≡ NoMemory) ⊎ (refusal ≡ Fault)) ⊎ ((call ≡ Turn) × IsTurnRefused cap here.board here.store refusal after) → Stops cap start calls answers refusal after
   stops_there cap start here calls at answers call d refusal after inside is same answered (inl known) = inl known
@@ -443,9 +427,9 @@ module _ {D J : Type 0} {disk : Ghosts D} where
     refused = turns.1;
   })
 
-module _ {D J : Type 0} {disk : Ghosts D} where
+module _ {D L : Type 0} {disk : Ghosts D} where
   -- a turn that is refused as the state of its store says is so by the start's
-  pub stops_turn : (cap other : ℕ) (board : Outer) (store : Store D disk) (call : Call) (refusal : Refusal) (after : Flusher D J disk) → call ≡ Turn → cap ≡ other
+  pub stops_turn : (cap other : ℕ) (board : Outer) (store : Store D disk) (call : Call) (refusal : Refusal) (after : Flusher D L disk) → call ≡ Turn → cap ≡ other
       → ((refusal ≡ NoMemory) ⊎ (refusal ≡ Fault)) ⊎ IsTurnRefused cap board store refusal after
       → ((refusal ≡ NoMemory) ⊎ (refusal ≡ Fault)) ⊎ ((call ≡ Turn) × IsTurnRefused other board store refusal after)
   stops_turn cap other board store call refusal after is same (inl known) = inl known

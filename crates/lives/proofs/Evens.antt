@@ -1,12 +1,13 @@
 -- The parts of an order: what is settled of it, and what is taken off beyond that.
 use Rattle.std.proofs.Common.{◌≡◌, ◌≤◌, ℕ, ◌+◌, ◌-◌, List, [], ◌∷◌, ◌++◌, length, take, drop, sym, ◌∙◌, ap, arith, append-nil, length-take, length-drop}
-use Rattle.std.proofs.lemmas.List.{take-append-le, drop-append-le, length-take-le, length-map, take-map, drop-map}
+use Rattle.std.proofs.lemmas.List.{take-append-le, drop-append-le, length-take-le, take-map, drop-map}
 use Rattle.std.proofs.Math.Seq.{take-add}
 use Rattle.revision.specs.Command.{Taken}
 use Rattle.recovery.specs.Found.{commands_of}
 use Rattle.world.specs.World.{Entry, takens}
 use Rattle.flusher.specs.Batches.{AreParts}
 use Rattle.flusher.proofs.CallerLemmas.{commands-append}
+pub use Rattle.published.proofs.CallerLemmas.{takens_long as takens_length}
 
 module _ (order : List Taken) (settled taken : ℕ) (ordered : settled ≤ taken) (within : taken ≤ length order) where
   -- as many commands were published as are settled
@@ -56,6 +57,3 @@ module _ (order : List Taken) (settled taken : ℕ) (ordered : settled ≤ taken
 -- the run that comes next, as what was taken of its entries
 pub run_taken : (entries : List Entry) (taken count : ℕ) → takens (take count (drop taken entries)) ≡ take count (drop taken (takens entries))
 run_taken entries taken count = sym (take-map (λ (e : Entry). e.taken) count (drop taken entries)) ∙ ap (take count) (sym (drop-map (λ (e : Entry). e.taken) taken entries))
-
-pub takens_length : (entries : List Entry) → length (takens entries) ≡ length entries
-takens_length entries = length-map entries (λ (e : Entry). e.taken)

@@ -6,7 +6,7 @@ use Rattle.std.proofs.lemmas.List.{take-append-le, length-take, get_or-take, len
 use Rattle.std.proofs.lemmas.List.Elements.{All-nil, All-append, All-weaker, All-take, All-map}
 use Rattle.disk.specs.declared.device.Disk.{Ghosts}
 use Rattle.revision.specs.Command.{Taken, Command}
-use Rattle.revision.specs.State.{DocumentRecord, State, grown, fold, find}
+use Rattle.revision.specs.State.{DocumentRecord, State, fold, find}
 use Rattle.revision.specs.Agree.{DocumentsAgree, PlacesAgree, Agree}
 use Rattle.world.specs.Board.{Board, Ticket}
 use Rattle.world.specs.World.{Entry, takens, is_of, last_sent}
@@ -15,12 +15,13 @@ use Rattle.revision.specs.Window.{revision_in}
 use Rattle.world.specs.Law.{IsSent, revision_named, window_found, window_held, HasTaken}
 use Rattle.lives.specs.declared.calls.Call.{Call}
 use Rattle.lives.specs.Schedule.{at_rest, schedule, acked, commands_in, AreNumbered, IsAllSettled}
-use Rattle.lives.specs.Lives.{counted_from, Life, Opens, Drives, Lives, First, Crashed, IsPromised, AllLives, OneLife, LivesGoOn, RunGoesOn}
+use Rattle.lives.specs.Lives.{counted_from, DrivenLife, Opens, Drives, Lives, First, Crashed, IsPromised, AllLives, OneLife, LivesGoOn, RunGoesOn}
 use Rattle.world.specs.steps.Showing.{grown_shown, fold_shown}
 use Rattle.world.specs.steps.Placing.{window_in, AllPlaced, after}
 use Rattle.world.specs.steps.Holding.{Stands, Counts, WasSent, StandsSettled, IsConsistent}
 use Rattle.world.proofs.CallerLemmas.{shown-fold, fold_shown-append, placed-take, stands-take, begun-holds, run-holds, acks-stay, acks-one_revision, taken-once, nothing-taken_back, taken-is_again, state-is_fold}
 use Rattle.lives.proofs.Scheduling.{run_is_schedule}
+use Rattle.revision.proofs.CallerLemmas.{limits-fold}
 
 -- a board with everything settled
 abbrev settled_board : State → List Entry → ℕ → State → Board Entry
@@ -122,10 +123,6 @@ all-shown [] (y ∷ ys) same = absurd (same 0)
 all-shown (x ∷ xs) [] same = absurd (same 0)
 all-shown (x ∷ xs) (y ∷ ys) same = λ i. one-shown x y (same 0) i ∷ all-shown xs ys (λ number. same (suc number)) i
 
-limits_of_fold : (state : State) (commands : List Taken) → (fold state commands).limits ≡ state.limits
-limits_of_fold state [] = refl
-limits_of_fold state (first ∷ others) = limits_of_fold (grown state first) others
-
 -- what is settled and shown
 shown_length : (order : List Entry) (settled : ℕ) → settled ≤ length order → length (takens (take settled order)) ≡ settled
 shown_length order settled within = length-map (take settled order) (λ (e : Entry). e.taken) ∙ length-take-le settled order within
@@ -151,7 +148,7 @@ cut board tickets given asked composed heard left next holds within enough agree
     record {
       placed = placed-take left (all_shown board.start) board.order holds.placed;
       state = all-shown next.documents (fold board.start (takens (take left board.order))).documents agrees.documents ∙ shown-fold board.start (takens (take left board.order));
-      limits = agrees.limits ∙ limits_of_fold board.start (takens (take left board.order));
+      limits = agrees.limits ∙ limits-fold board.start (takens (take left board.order));
       counts = counts_at_rest (take left board.order) left lefts;
       shown = ap (λ (n : ℕ). takens (take n (take left board.order))) (sym (shown_length (take left board.order) left lefts));
       sent = All-take (WasSent asked) left board.order holds.sent;
@@ -201,17 +198,17 @@ record LifeHolds (start : State) (board : Board Entry) (acks : List Ticket) (sen
   pub composed : List (ℕ × ℕ)
   pub holds : IsConsistent (at_rest board tickets acks sent composed)
 
-life_holds : (D J : Type 0) (disk : Ghosts D) (start : State) (board : Board Entry) (acks : List Ticket) (sent : List Command) → Life D J disk start board acks sent → LifeHolds start board acks sent
-life_holds D J disk start _ _ _ Opens = record {
+life_holds : (D L : Type 0) (disk : Ghosts D) (start : State) (board : Board Entry) (acks : List Ticket) (sent : List Command) → DrivenLife D L disk start board acks sent → LifeHolds start board acks sent
+life_holds D L disk start _ _ _ Opens = record {
   began = refl;
   settled = record { taken = refl; within = omega arith };
   tickets = [];
   composed = [];
   holds = begun-holds start;
 }
-life_holds D J disk start _ _ _ (Drives board acks sent cap begin here calls answers before from none numbered answered) =
-    let life = life_holds D J disk start board acks sent before in
-    let goes = run_is_schedule D J disk cap begin here calls answers (subst IsAllSettled (sym from) life.settled) none numbered answered in
+life_holds D L disk start _ _ _ (Drives board acks sent cap begin here calls answers before from none numbered answered) =
+    let life = life_holds D L disk start board acks sent before in
+    let goes = run_is_schedule D L disk cap begin here calls answers (subst IsAllSettled (sym from) life.settled) none numbered answered in
     let there = goes.goes life.tickets acks sent life.composed in
     record {
       began = goes.start ∙ (ap (λ (b : Board Entry). b.start) from ∙ life.began);
@@ -222,30 +219,30 @@ life_holds D J disk start _ _ _ (Drives board acks sent cap begin here calls ans
           (subst (λ (b : Board Entry). IsConsistent (at_rest b life.tickets acks sent life.composed)) (sym from) life.holds));
     }
 
-lives_hold : (D J : Type 0) (disk : Ghosts D) (start : State) (stand : List Entry) (acks : List Ticket) (sent : List Command) (now : State) → Lives D J disk start stand acks sent now
+lives_hold : (D L : Type 0) (disk : Ghosts D) (start : State) (stand : List Entry) (acks : List Ticket) (sent : List Command) (now : State) → Lives D L disk start stand acks sent now
     → IsConsistent (at_rest (settled_board start stand (length stand) now) [] acks sent [])
-lives_hold D J disk start _ _ _ _ First = begun-holds start
-lives_hold D J disk start _ _ _ _ (Crashed stand acks sent now board given asked heard left next before life within enough agrees) =
-    let here = life_holds D J disk now board given asked life in
+lives_hold D L disk start _ _ _ _ First = begun-holds start
+lives_hold D L disk start _ _ _ _ (Crashed stand acks sent now board given asked heard left next before life within enough agrees) =
+    let here = life_holds D L disk now board given asked life in
     let agreed = subst (λ (s : State). Agree next (fold s (takens (take left board.order)))) (sym here.began) agrees in
     let left_over = cut board here.tickets given asked here.composed heard left next here.holds within enough agreed in
-    let all = joined start now stand acks sent (settled_board board.start (take left board.order) left next) [] (take heard given) asked [] (lives_hold D J disk start stand acks sent now before) here.began left_over in
+    let all = joined start now stand acks sent (settled_board board.start (take left board.order) left next) [] (take heard given) asked [] (lives_hold D L disk start stand acks sent now before) here.began left_over in
     subst (λ (n : ℕ). IsConsistent (at_rest (settled_board start (stand ++ take left board.order) n next) [] (acks ++ counted_from (length stand) (take heard given)) (sent ++ asked) []))
     (ap (λ (n : ℕ). length stand + n) (sym (length-take-le left board.order within)) ∙ sym (length-append stand (take left board.order))) all
 
-pub all_lives : (D J : Type 0) (disk : Ghosts D) → AllLives D J disk
-all_lives D J disk start now stand acks sent board given asked lives life =
-    let here = life_holds D J disk now board given asked life in
+pub all_lives : (D L : Type 0) (disk : Ghosts D) → AllLives D L disk
+all_lives D L disk start now stand acks sent board given asked lives life =
+    let here = life_holds D L disk now board given asked life in
     promises (settled_board start (stand ++ board.order) (length stand + board.settled) board.state) [] (acks ++ counted_from (length stand) given) (sent ++ asked) []
-    (joined start now stand acks sent board here.tickets given asked here.composed (lives_hold D J disk start stand acks sent now lives) here.began here.holds)
+    (joined start now stand acks sent board here.tickets given asked here.composed (lives_hold D L disk start stand acks sent now lives) here.began here.holds)
 
-pub one_life : (D J : Type 0) (disk : Ghosts D) → OneLife D J disk
-one_life D J disk start board given asked life =
-    let here = life_holds D J disk start board given asked life in
+pub one_life : (D L : Type 0) (disk : Ghosts D) → OneLife D L disk
+one_life D L disk start board given asked life =
+    let here = life_holds D L disk start board given asked life in
     subst (λ (s : State). IsPromised s board.order board.settled board.state given asked) here.began (promises board here.tickets given asked here.composed here.holds)
 
-pub lives_go_on : (D J : Type 0) (disk : Ghosts D) → LivesGoOn D J disk
-lives_go_on D J disk start now next stand acks sent board given asked heard least batches content lives life enough first opened =
+pub lives_go_on : (D L : Type 0) (disk : Ghosts D) → LivesGoOn D L disk
+lives_go_on D L disk start now next stand acks sent board given asked heard least batches content lives life enough first opened =
     let within : first.count ≤ length board.order = omega (arith, first.within, length-map board.order (λ (e : Entry). e.taken)) in
     let agrees = subst (λ (l : List Taken). Agree next (fold now l)) (take-map (λ (e : Entry). e.taken) first.count board.order) (opened (fold now (take first.count (takens board.order))) first.found) in (
       first.count,
@@ -259,12 +256,12 @@ numbered-take zero calls numbered = tt
 numbered-take (suc n) [] numbered = tt
 numbered-take (suc n) (call ∷ calls) numbered = (numbered.0, numbered-take n calls numbered.1)
 
-pub run_goes_on : (D J : Type 0) (disk : Ghosts D) → RunGoesOn D J disk
-run_goes_on D J disk start cap begin after calls answers acks sent life none numbered answered =
+pub run_goes_on : (D L : Type 0) (disk : Ghosts D) → RunGoesOn D L disk
+run_goes_on D L disk start cap begin after calls answers acks sent life none numbered answered =
     let last = answered.last in
     record {
       last = last.board.board;
-      life = subst (λ (t : List Ticket). Life D J disk start last.board.board (acks ++ acked t (take (length answers) calls) answers) (sent ++ commands_in (take (length answers) calls))) (sym answered.tickets)
+      life = subst (λ (t : List Ticket). DrivenLife D L disk start last.board.board (acks ++ acked t (take (length answers) calls) answers) (sent ++ commands_in (take (length answers) calls))) (sym answered.tickets)
           (Drives begin.board.board acks sent cap begin last (take (length answers) calls) answers life refl none (numbered-take (length answers) calls numbered) answered.answered);
       order = answered.order;
       settled = answered.settled;

@@ -18,6 +18,7 @@ use Rattle.hub.specs.Runs.{IsLongest, untaken}
 use Rattle.lives.specs.Driving.{Between, AckGives, Gives, Answered, Begins, Follows}
 use Rattle.lives.specs.Schedule.{at_rest, command_of, commands_in, IsNumbered, AreNumbered, events_of, schedule, acked_by, acked, IsAllSettled, IsSchedule, RunIsSchedule, FirstIsSchedule}
 use Rattle.lives.proofs.Resting.{run-append, submit_rests, turn_rests, ack_rests, ack_waits, ack_missing, compose_rests}
+use Rattle.lives.proofs.Answering.{before_more}
 
 -- worlds at rest with equal parts
 same_rest : (board after : Board Entry) (tickets out acks more : List Ticket) (sent later : List Command) (composed : List (ℕ × ℕ)) → board ≡ after → tickets ≡ out → acks ≡ more → sent ≡ later
@@ -29,11 +30,6 @@ behind : {A : Type 0} (earlier items : List A) (at : ℕ) → slice_get (earlier
 behind [] items at = ap (slice_get items) (let none : 0 + at ≡ at = omega arith in none)
 behind (first ∷ others) items at =
     ap (slice_get (first ∷ (others ++ items))) (let next : length (first ∷ others) + at ≡ suc (length others + at) = omega arith in next) ∙ behind others items at
-
-before_more : {A : Type 0} (xs more : List A) (at : ℕ) (x : A) → slice_get xs at ≡ Some x → slice_get (xs ++ more) at ≡ Some x
-before_more [] more at x is = absurd (let no : ⊥ = cc in no)
-before_more (y ∷ ys) more zero x is = is
-before_more (y ∷ ys) more (suc at) x is = before_more ys more at x is
 
 submitted_settled : (entry : Taken → Entry) (board : Board Entry) (a : Outcome) → IsAllSettled board → IsAllSettled (submitted_by entry board a)
 submitted_settled entry board (Takes taken) rest = record { taken = rest.taken; within = omega (arith, rest.within, length-append board.order (entry taken ∷ [])) }
@@ -53,42 +49,42 @@ long_enough : (cap : ℕ) (board : Board Entry) (count : ℕ) → IsAllSettled b
 long_enough cap board count rest longest =
     omega (arith, longest.within, rest.taken, rest.within, length-map (drop board.taken board.order) (λ (e : Entry). e.taken), length-drop {A = Entry} board.taken board.order)
 
-module _ {D J : Type 0} where
+module _ {D L : Type 0} where
   -- an acknowledgement that gave a token named a ticket
-  abbrev IsFound : List Ticket → Call → Answer D J → Type 0
+  abbrev IsFound : List Ticket → Call → Answer D L → Type 0
   IsFound tickets (Ack at) (Acked (Some told)) = (ticket : Ticket) × (slice_get tickets at ≡ Some ticket)
   IsFound tickets call reply = Unit {0}
 
-  abbrev AreFound : List Ticket → List Call → List (Answer D J) → Type 0
+  abbrev AreFound : List Ticket → List Call → List (Answer D L) → Type 0
   AreFound tickets [] answers = Unit {0}
   AreFound tickets (call ∷ calls) [] = Unit {0}
   AreFound tickets (call ∷ calls) (reply ∷ answers) = IsFound tickets call reply × AreFound tickets calls answers
 
 -- an acknowledgement, by the ticket that it names and what it gave
-ack_world : (D J : Type 0) (here : Behind) (tickets : List Ticket) (at : ℕ) (found : Option Ticket) (told : Option (List (List Taken))) → slice_get tickets at ≡ found → AckGives here found told
+ack_world : (D L : Type 0) (here : Behind) (tickets : List Ticket) (at : ℕ) (found : Option Ticket) (told : Option (List (List Taken))) → slice_get tickets at ≡ found → AckGives here found told
     → (earlier acks : List Ticket) (sent : List Command) (composed : List (ℕ × ℕ))
     → run (at_rest here.board (earlier ++ tickets) acks sent composed) (Acknowledges (length earlier + at) ∷ [])
-    ≡ at_rest here.board (earlier ++ tickets) (acks ++ acked_by {D = D} {J = J} tickets (Ack at) (Acked told)) sent composed
-ack_world D J here tickets at None None is gives earlier acks sent composed =
+    ≡ at_rest here.board (earlier ++ tickets) (acks ++ acked_by {D = D} {L = L} tickets (Ack at) (Acked told)) sent composed
+ack_world D L here tickets at None None is gives earlier acks sent composed =
     ack_missing here.board (earlier ++ tickets) acks sent composed (length earlier + at) (behind earlier tickets at ∙ is)
     ∙ ap (λ (l : List Ticket). at_rest here.board (earlier ++ tickets) l sent composed) (sym (append-nil acks))
-ack_world D J here tickets at None (Some told) is gives earlier acks sent composed = absurd (let no : ⊥ = cc in no)
-ack_world D J here tickets at (Some ticket) None is gives earlier acks sent composed =
+ack_world D L here tickets at None (Some told) is gives earlier acks sent composed = absurd (let no : ⊥ = cc in no)
+ack_world D L here tickets at (Some ticket) None is gives earlier acks sent composed =
     ack_waits here.board (earlier ++ tickets) acks sent composed (length earlier + at) ticket (behind earlier tickets at ∙ is) gives
     ∙ ap (λ (l : List Ticket). at_rest here.board (earlier ++ tickets) l sent composed) (sym (append-nil acks))
-ack_world D J here tickets at (Some ticket) (Some told) is gives earlier acks sent composed =
+ack_world D L here tickets at (Some ticket) (Some told) is gives earlier acks sent composed =
     ack_rests here.board (earlier ++ tickets) acks sent composed (length earlier + at) ticket (behind earlier tickets at ∙ is) gives.0
     ∙ ap (λ (o : Option Ticket). at_rest here.board (earlier ++ tickets) (acks ++ option_to_list o) sent composed) (sym is)
 
-ack_found : (D J : Type 0) (here : Behind) (tickets out : List Ticket) (at : ℕ) (found : Option Ticket) (told : Option (List (List Taken))) → slice_get tickets at ≡ found → AckGives here found told → out ≡ tickets
-    → IsFound {D = D} {J = J} out (Ack at) (Acked told)
-ack_found D J here tickets out at found None is gives same = tt
-ack_found D J here tickets out at None (Some told) is gives same = absurd (let no : ⊥ = cc in no)
-ack_found D J here tickets out at (Some ticket) (Some told) is gives same = (ticket, ap (λ (l : List Ticket). slice_get l at) same ∙ is)
+ack_found : (D L : Type 0) (here : Behind) (tickets out : List Ticket) (at : ℕ) (found : Option Ticket) (told : Option (List (List Taken))) → slice_get tickets at ≡ found → AckGives here found told → out ≡ tickets
+    → IsFound {D = D} {L = L} out (Ack at) (Acked told)
+ack_found D L here tickets out at found None is gives same = tt
+ack_found D L here tickets out at None (Some told) is gives same = absurd (let no : ⊥ = cc in no)
+ack_found D L here tickets out at (Some ticket) (Some told) is gives same = (ticket, ap (λ (l : List Ticket). slice_get l at) same ∙ is)
 
-module _ {D J : Type 0} where
+module _ {D L : Type 0} where
   -- What a call makes of a world at rest.
-  record Rests (board after : Board Entry) (tickets out : List Ticket) (call : Call) (reply : Answer D J) : Type 0 where
+  record Rests (board after : Board Entry) (tickets out : List Ticket) (call : Call) (reply : Answer D L) : Type 0 where
     pub start : after.start ≡ board.start
     pub settled : IsAllSettled after
     pub tickets_more : (l : List Ticket) × (out ≡ tickets ++ l)
@@ -99,7 +95,7 @@ module _ {D J : Type 0} where
         ≡ at_rest after (earlier ++ out) (acks ++ acked_by tickets call reply) (sent ++ command_of call) more)
 
   -- a call that changes nothing and is no event
-  still : (board after : Board Entry) (tickets out : List Ticket) (call : Call) (reply : Answer D J) → IsAllSettled board → after ≡ board → out ≡ tickets
+  still : (board after : Board Entry) (tickets out : List Ticket) (call : Call) (reply : Answer D L) → IsAllSettled board → after ≡ board → out ≡ tickets
       → ((t : List Ticket) → acked_by t call reply ≡ []) → ((t : List Ticket) → IsFound t call reply) → command_of call ≡ [] → ((n : ℕ) → events_of n call reply ≡ []) → Rests board after tickets out call reply
   still board after tickets out call reply rest b t acks found sends events = record {
     start = ap (λ (x : Board Entry). x.start) b;
@@ -115,7 +111,7 @@ module _ {D J : Type 0} where
     );
   }
 
-  submit_case : (board after : Board Entry) (tickets out : List Ticket) (command : Command) (reply : Answer D J) → is_numbered command ≡ true → IsAllSettled board
+  submit_case : (board after : Board Entry) (tickets out : List Ticket) (command : Command) (reply : Answer D L) → is_numbered command ≡ true → IsAllSettled board
       → after ≡ submitted (entry_of command) board command → out ≡ tickets ++ option_to_list (ticket_of board command)
       → Rests board after tickets out (Submit command) reply
   submit_case board after tickets out command reply numbered rest b t = record {
@@ -159,12 +155,12 @@ module _ {D J : Type 0} where
     start = ap (λ (x : Board Entry). x.start) b;
     settled = subst IsAllSettled (sym b) rest;
     tickets_more = ([], t ∙ sym (append-nil tickets));
-    acks = ap (λ (l : List Ticket). acked_by {D = D} {J = J} l (Ack at) (Acked told)) t;
-    found = ack_found D J here tickets out at (slice_get tickets at) told refl gives t;
+    acks = ap (λ (l : List Ticket). acked_by {D = D} {L = L} l (Ack at) (Acked told)) t;
+    found = ack_found D L here tickets out at (slice_get tickets at) told refl gives t;
     goes = λ earlier a s c. (
       c,
-      ack_world D J here tickets at (slice_get tickets at) told refl gives earlier a s c
-          ∙ same_rest here.board after (earlier ++ tickets) (earlier ++ out) (a ++ acked_by {D = D} {J = J} tickets (Ack at) (Acked told)) (a ++ acked_by {D = D} {J = J} tickets (Ack at) (Acked told)) s (s ++ []) c
+      ack_world D L here tickets at (slice_get tickets at) told refl gives earlier a s c
+          ∙ same_rest here.board after (earlier ++ tickets) (earlier ++ out) (a ++ acked_by {D = D} {L = L} tickets (Ack at) (Acked told)) (a ++ acked_by {D = D} {L = L} tickets (Ack at) (Acked told)) s (s ++ []) c
           (sym b) (ap (λ (l : List Ticket). earlier ++ l) (sym t)) refl (sym (append-nil s)),
     );
   }
@@ -181,7 +177,7 @@ module _ {D J : Type 0} where
         (put.0, put.1 ∙ same_rest board after (earlier ++ tickets) (earlier ++ out) a (a ++ []) s (s ++ []) put.0 (sym b) (ap (λ (l : List Ticket). earlier ++ l) (sym t)) (sym (append-nil a)) (sym (append-nil s)));
   }
 
-  schedule-push : (earlier : ℕ) (calls : List Call) (answers : List (Answer D J)) (call : Call) (reply : Answer D J) → length calls ≡ length answers
+  schedule-push : (earlier : ℕ) (calls : List Call) (answers : List (Answer D L)) (call : Call) (reply : Answer D L) → length calls ≡ length answers
       → schedule earlier (calls ++ call ∷ []) (answers ++ reply ∷ []) ≡ schedule earlier calls answers ++ events_of earlier call reply
   schedule-push earlier [] [] call reply same = append-nil (events_of earlier call reply)
   schedule-push earlier [] (other ∷ answers) call reply same = absurd (omega arith)
@@ -190,7 +186,7 @@ module _ {D J : Type 0} where
       ap (λ (l : List Event). events_of earlier first other ++ l) (schedule-push earlier calls answers call reply (omega arith))
       ∙ sym (append_assoc (events_of earlier first other) (schedule earlier calls answers) (events_of earlier call reply))
 
-  acked-push : (tickets : List Ticket) (calls : List Call) (answers : List (Answer D J)) (call : Call) (reply : Answer D J) → length calls ≡ length answers
+  acked-push : (tickets : List Ticket) (calls : List Call) (answers : List (Answer D L)) (call : Call) (reply : Answer D L) → length calls ≡ length answers
       → acked tickets (calls ++ call ∷ []) (answers ++ reply ∷ []) ≡ acked tickets calls answers ++ acked_by tickets call reply
   acked-push tickets [] [] call reply same = append-nil (acked_by tickets call reply)
   acked-push tickets [] (other ∷ answers) call reply same = absurd (omega arith)
@@ -199,14 +195,14 @@ module _ {D J : Type 0} where
       ap (λ (l : List Ticket). acked_by tickets first other ++ l) (acked-push tickets calls answers call reply (omega arith))
       ∙ sym (append_assoc (acked_by tickets first other) (acked tickets calls answers) (acked_by tickets call reply))
 
-  found-push : (tickets : List Ticket) (calls : List Call) (answers : List (Answer D J)) (call : Call) (reply : Answer D J) → AreFound tickets calls answers → IsFound tickets call reply
+  found-push : (tickets : List Ticket) (calls : List Call) (answers : List (Answer D L)) (call : Call) (reply : Answer D L) → AreFound tickets calls answers → IsFound tickets call reply
       → length calls ≡ length answers → AreFound tickets (calls ++ call ∷ []) (answers ++ reply ∷ [])
   found-push tickets [] [] call reply found last same = (last, tt)
   found-push tickets [] (other ∷ answers) call reply found last same = absurd (omega arith)
   found-push tickets (first ∷ calls) [] call reply found last same = absurd (omega arith)
   found-push tickets (first ∷ calls) (other ∷ answers) call reply found last same = (found.0, found-push tickets calls answers call reply found.1 last (omega arith))
 
-  found_later : (tickets out l : List Ticket) (call : Call) (reply : Answer D J) → out ≡ tickets ++ l → IsFound tickets call reply
+  found_later : (tickets out l : List Ticket) (call : Call) (reply : Answer D L) → out ≡ tickets ++ l → IsFound tickets call reply
       → IsFound out call reply × (acked_by out call reply ≡ acked_by tickets call reply)
   found_later tickets out l (Ack at) (Acked (Some told)) more found =
       let later = ap (λ (t : List Ticket). slice_get t at) more ∙ before_more tickets l at found.0 found.1 in
@@ -222,7 +218,7 @@ module _ {D J : Type 0} where
   found_later tickets out l (Milestone document revision) reply more found = (tt, refl)
   found_later tickets out l Retire reply more found = (tt, refl)
 
-  all_later : (tickets out l : List Ticket) (calls : List Call) (answers : List (Answer D J)) → out ≡ tickets ++ l → AreFound tickets calls answers
+  all_later : (tickets out l : List Ticket) (calls : List Call) (answers : List (Answer D L)) → out ≡ tickets ++ l → AreFound tickets calls answers
       → AreFound out calls answers × (acked out calls answers ≡ acked tickets calls answers)
   all_later tickets out l [] answers more found = (tt, refl)
   all_later tickets out l (call ∷ calls) [] more found = (tt, refl)
@@ -239,9 +235,9 @@ numbered-parts : (calls : List Call) (call : Call) → AreNumbered (calls ++ cal
 numbered-parts [] call numbered = (tt, numbered.0)
 numbered-parts (first ∷ calls) call numbered = let parts = numbered-parts calls call numbered.1 in ((numbered.0, parts.0), parts.1)
 
-module _ {D J : Type 0} {disk : Ghosts D} where
+module _ {D L : Type 0} {disk : Ghosts D} where
   -- a call, by what it gives
-  call_rests : (cap : ℕ) (here : Between D disk) (call : Call) (reply : Answer D J) (after : Between D disk) → IsNumbered call → IsAllSettled here.board.board → Gives cap here call reply after
+  call_rests : (cap : ℕ) (here : Between D disk) (call : Call) (reply : Answer D L) (after : Between D disk) → IsNumbered call → IsAllSettled here.board.board → Gives cap here call reply after
       → Rests here.board.board after.board.board here.tickets after.tickets call reply
   call_rests cap here (Submit command) (Submitted at) after numbered rest gives =
       submit_case here.board.board after.board.board here.tickets after.tickets command (Submitted at) numbered rest (ap (λ (b : Behind). b.board) gives.0)
@@ -265,18 +261,18 @@ module _ {D J : Type 0} {disk : Ghosts D} where
       still here.board.board after.board.board here.tickets after.tickets Retire (Refused refusal) rest (ap (λ (b : Behind). b.board) gives.0) gives.1 (λ t. refl) (λ t. tt) refl (λ n. refl)
   call_rests cap here call reply after numbered rest gives = absurd gives
 
-  answered_length : (cap : ℕ) (begin : Between D disk) (calls : List Call) (answers : List (Answer D J)) (here : Between D disk) → Answered cap begin calls answers here → length calls ≡ length answers
+  answered_length : (cap : ℕ) (begin : Between D disk) (calls : List Call) (answers : List (Answer D L)) (here : Between D disk) → Answered cap begin calls answers here → length calls ≡ length answers
   answered_length cap begin _ _ _ Begins = refl
   answered_length cap begin _ _ _ (Follows calls answers here call reply after before gives works opens) =
       let same = answered_length cap begin calls answers here before in
       omega (arith, same, length-append calls (call ∷ []), length-append answers (reply ∷ []))
 
   -- A run, call after call.
-  record RunRests (begin here : Between D disk) (calls : List Call) (answers : List (Answer D J)) : Type 0 where
+  record RunRests (begin here : Between D disk) (calls : List Call) (answers : List (Answer D L)) : Type 0 where
     pub found : AreFound here.tickets calls answers
     pub is : IsSchedule begin here calls answers
 
-  run_rests : (cap : ℕ) (begin : Between D disk) (calls : List Call) (answers : List (Answer D J)) (here : Between D disk) → IsAllSettled begin.board.board → begin.tickets ≡ []
+  run_rests : (cap : ℕ) (begin : Between D disk) (calls : List Call) (answers : List (Answer D L)) (here : Between D disk) → IsAllSettled begin.board.board → begin.tickets ≡ []
       → AreNumbered calls → Answered cap begin calls answers here → RunRests begin here calls answers
   run_rests cap begin _ _ _ rest none numbered Begins = record {
     found = tt;
@@ -320,11 +316,11 @@ module _ {D J : Type 0} {disk : Ghosts D} where
         };
       }
 
-pub run_is_schedule : (D J : Type 0) (disk : Ghosts D) → RunIsSchedule D J disk
-run_is_schedule D J disk cap begin here calls answers rest none numbered answered = (run_rests cap begin calls answers here rest none numbered answered).is
+pub run_is_schedule : (D L : Type 0) (disk : Ghosts D) → RunIsSchedule D L disk
+run_is_schedule D L disk cap begin here calls answers rest none numbered answered = (run_rests cap begin calls answers here rest none numbered answered).is
 
-pub first_is_schedule : (D J : Type 0) (disk : Ghosts D) → FirstIsSchedule D J disk
-first_is_schedule D J disk start cap begin here calls answers from none numbered answered =
+pub first_is_schedule : (D L : Type 0) (disk : Ghosts D) → FirstIsSchedule D L disk
+first_is_schedule D L disk start cap begin here calls answers from none numbered answered =
     let rest : IsAllSettled begin.board.board = subst IsAllSettled (sym from) (record { taken = refl; within = omega arith }) in
-    let goes = (run_is_schedule D J disk cap begin here calls answers rest none numbered answered).goes [] [] [] [] in
+    let goes = (run_is_schedule D L disk cap begin here calls answers rest none numbered answered).goes [] [] [] [] in
     (goes.0, ap (λ (b : Board Entry). run (at_rest b [] [] [] []) (schedule 0 calls answers)) (sym from) ∙ goes.1)

@@ -73,15 +73,15 @@ module _ {D : Type 0} {disk : Ghosts D} where
       × (has_failed after.store ≡ false → IsLeftByMemory (PutsMilestone document revision) here.store after.store)
   IsUnanswered cap here Retire after = (after.board ≡ here.board) × (after.tickets ≡ here.tickets) × (has_failed after.store ≡ true)
 
-module _ {D J : Type 0} {disk : Ghosts D} where
+module _ {D L : Type 0} {disk : Ghosts D} where
   -- what the calls of a run speak of
-  abbrev pub between : Board → List Ticket → Flusher D J disk → Between D disk
+  abbrev pub between : Board → List Ticket → Flusher D L disk → Between D disk
   between board tickets flusher = record { board = board; tickets = tickets; store = store_of flusher }
 
   -- What a call gives, and what it makes of the board, of the list of the tickets and of the store: of the board as the world's step of
   -- that name says, and of the store as the store's own step says. A turn settles the longest run of the next commands whose batch has
   -- at most `cap` bytes.
-  abbrev pub Gives : ℕ → Between D disk → Call → Answer D J → Between D disk → Type 0
+  abbrev pub Gives : ℕ → Between D disk → Call → Answer D L → Between D disk → Type 0
   Gives cap here (Submit command) (Submitted at) after =
       (after.board ≡ record here.board { board = submitted (entry_of command) here.board.board command }) × (at ≡ length here.tickets)
       × ((ticket : Ticket) × (Some ticket ≡ ticket_of here.board.board command) × (after.tickets ≡ here.tickets ++ ticket ∷ []))
@@ -103,16 +103,16 @@ module _ {D J : Type 0} {disk : Ghosts D} where
   Gives cap here call reply after = ⊥
 
   -- Calls that were answered one after another. After each the store works, and it is open where it was before.
-  pub data Answered (cap : ℕ) (start : Between D disk) : List Call → List (Answer D J) → Between D disk → Type 0 where
+  pub data Answered (cap : ℕ) (start : Between D disk) : List Call → List (Answer D L) → Between D disk → Type 0 where
     Begins : Answered cap start [] [] start
-    Follows : (calls : List Call) (answers : List (Answer D J)) (here : Between D disk) (call : Call) (reply : Answer D J) (after : Between D disk)
+    Follows : (calls : List Call) (answers : List (Answer D L)) (here : Between D disk) (call : Call) (reply : Answer D L) (after : Between D disk)
         → Answered cap start calls answers here → Gives cap here call reply after
         → has_failed after.store ≡ false → (IsOpen here.store → IsOpen after.store)
         → Answered cap start (calls ++ call ∷ []) (answers ++ reply ∷ []) after
 
   -- The first calls were answered one after another, so many of them as there are answers. Behind them nothing was done, or the next call
   -- was begun and isn't answered: that gave no ticket, changed nothing of the order and settled nothing.
-  pub record IsAnswered (cap : ℕ) (start after : Between D disk) (calls : List Call) (answers : List (Answer D J)) : Type 0 where
+  pub record IsAnswered (cap : ℕ) (start after : Between D disk) (calls : List Call) (answers : List (Answer D L)) : Type 0 where
     pub last : Between D disk
     pub answered : Answered cap start (take (length answers) calls) answers last
     pub tickets : after.tickets ≡ last.tickets
@@ -120,14 +120,14 @@ module _ {D J : Type 0} {disk : Ghosts D} where
     pub settled : after.board.board.settled ≡ last.board.board.settled
     pub behind : (after ≡ last) ⊎ ((call : Call) × (slice_get calls (length answers) ≡ Some call) × IsUnanswered cap last call after)
 
-module _ {D J : Type 0} where
+module _ {D L : Type 0} where
   -- An acknowledgement that named what was published: its ticket's length is settled.
-  abbrev pub IsHeld : ℕ → List Ticket → Call → Answer D J → Type 0
+  abbrev pub IsHeld : ℕ → List Ticket → Call → Answer D L → Type 0
   IsHeld settled tickets (Ack at) (Acked (Some told)) = (ticket : Ticket) × (slice_get tickets at ≡ Some ticket) × (ticket.length ≤ settled)
   IsHeld settled tickets call reply = Unit {0}
 
   -- that of each acknowledgement, where each of these calls has its answer
-  abbrev pub AreHeld : ℕ → List Ticket → List Call → List (Answer D J) → Type 0
+  abbrev pub AreHeld : ℕ → List Ticket → List Call → List (Answer D L) → Type 0
   AreHeld settled tickets [] [] = Unit {0}
   AreHeld settled tickets (call ∷ calls) (reply ∷ answers) = IsHeld settled tickets call reply × AreHeld settled tickets calls answers
   AreHeld settled tickets [] (reply ∷ answers) = ⊥
@@ -138,28 +138,28 @@ abbrev pub stop_of : Result (Unit {0}) Refusal → Option Refusal
 stop_of (Ok done) = None
 stop_of (Err refusal) = Some refusal
 
-module _ {D J : Type 0} {disk : Ghosts D} where
+module _ {D L : Type 0} {disk : Ghosts D} where
   -- Why the write of a run is refused, where neither the device failed nor memory ran out, and what that leaves: the run isn't committed,
   -- since it finds no room in the journal, whose last segment is opened.
-  pub record IsRunRefused (store : Store D disk) (run : List Taken) (refusal : Refusal) (after : Flusher D J disk) : Type 0 where
+  pub record IsRunRefused (store : Store D disk) (run : List Taken) (refusal : Refusal) (after : Flusher D L disk) : Type 0 where
     pub why : (refusal ≡ JournalFull) ⊎ (refusal ≡ StillNeeded)
     pub no_room : has_room store run ≡ false
     pub last : IsUsedUp store
     pub state : state_of (store_of after) ≡ state_of store
 
   -- Why a turn is refused, likewise: it took off a run with a command, and the write of that is refused.
-  abbrev pub IsTurnRefused : ℕ → Board → Store D disk → Refusal → Flusher D J disk → Type 0
+  abbrev pub IsTurnRefused : ℕ → Board → Store D disk → Refusal → Flusher D L disk → Type 0
   IsTurnRefused cap board store refusal after =
       (count : ℕ) × IsLongest cap (untaken board.board) count × (1 ≤ count) × IsRunRefused store (takens (next_run board.board count)) refusal after
 
-module _ {D J : Type 0} {disk : Ghosts D} where
+module _ {D L : Type 0} {disk : Ghosts D} where
   -- The call behind those that were answered is a turn, and by what stood there it is refused so, and leaves this flusher.
-  pub record StopsAtTurn (cap : ℕ) (start : Between D disk) (calls : List Call) (answers : List (Answer D J)) (refusal : Refusal) (after : Flusher D J disk) : Type 0 where
+  pub record StopsAtTurn (cap : ℕ) (start : Between D disk) (calls : List Call) (answers : List (Answer D L)) (refusal : Refusal) (after : Flusher D L disk) : Type 0 where
     pub last : Between D disk
     pub answered : Answered cap start (take (length answers) calls) answers last
     pub turns : slice_get calls (length answers) ≡ Some Turn
     pub refused : IsTurnRefused cap last.board last.store refusal after
 
   -- Why a run stops at a call, and with which flusher: out of memory, at a fault of the device, or where a turn is refused.
-  abbrev pub Stops : ℕ → Between D disk → List Call → List (Answer D J) → Refusal → Flusher D J disk → Type 0
+  abbrev pub Stops : ℕ → Between D disk → List Call → List (Answer D L) → Refusal → Flusher D L disk → Type 0
   Stops cap start calls answers refusal after = ((refusal ≡ NoMemory) ⊎ (refusal ≡ Fault)) ⊎ StopsAtTurn cap start calls answers refusal after

@@ -23,29 +23,29 @@ counted_from before tickets = map (λ (ticket : Ticket). record ticket { length 
 
 -- One life, from a state that the store was opened with: runs one after another, each from the board that the one before it ended with,
 -- with the board, the acknowledgements and the commands that were sent.
-pub data Life (D J : Type 0) (disk : Ghosts D) (start : State) : Board Entry → List Ticket → List Command → Type 0 where
-  Opens : Life D J disk start (begun_board start) [] []
-  Drives : (board : Board Entry) (acks : List Ticket) (sent : List Command) (cap : ℕ) (begin here : Between D disk) (calls : List Call) (answers : List (Answer D J))
-      → Life D J disk start board acks sent → begin.board.board ≡ board → begin.tickets ≡ [] → AreNumbered calls → Answered cap begin calls answers here
-      → Life D J disk start here.board.board (acks ++ acked here.tickets calls answers) (sent ++ commands_in calls)
+pub data DrivenLife (D L : Type 0) (disk : Ghosts D) (start : State) : Board Entry → List Ticket → List Command → Type 0 where
+  Opens : DrivenLife D L disk start (begun_board start) [] []
+  Drives : (board : Board Entry) (acks : List Ticket) (sent : List Command) (cap : ℕ) (begin here : Between D disk) (calls : List Call) (answers : List (Answer D L))
+      → DrivenLife D L disk start board acks sent → begin.board.board ≡ board → begin.tickets ≡ [] → AreNumbered calls → Answered cap begin calls answers here
+      → DrivenLife D L disk start here.board.board (acks ++ acked here.tickets calls answers) (sent ++ commands_in calls)
 
 -- How a run continues the life that came to its board: the calls that were answered bring it to a board that has the order which the run
 -- leaves, and as many settled.
-pub record LifeGoesOn (D J : Type 0) (disk : Ghosts D) (start : State) (after : Board Entry) (acks : List Ticket) (sent : List Command) : Type 0 where
+pub record LifeGoesOn (D L : Type 0) (disk : Ghosts D) (start : State) (after : Board Entry) (acks : List Ticket) (sent : List Command) : Type 0 where
   pub last : Board Entry
-  pub life : Life D J disk start last acks sent
+  pub life : DrivenLife D L disk start last acks sent
   pub order : after.order ≡ last.order
   pub settled : after.settled ≡ last.settled
 
 -- Lives that ended, each by a crash: the commands that stand, the acknowledgements that were heard of and the commands that were sent, and
 -- the state that the store is opened with next. A crash leaves the first commands of a life's order, which are no fewer than any ticket
 -- asks for whose acknowledgement was heard of, and the state that is found agrees with what these make.
-pub data Lives (D J : Type 0) (disk : Ghosts D) (start : State) : List Entry → List Ticket → List Command → State → Type 0 where
-  First : Lives D J disk start [] [] [] start
+pub data Lives (D L : Type 0) (disk : Ghosts D) (start : State) : List Entry → List Ticket → List Command → State → Type 0 where
+  First : Lives D L disk start [] [] [] start
   Crashed : (stand : List Entry) (acks : List Ticket) (sent : List Command) (now : State) (board : Board Entry) (given : List Ticket) (asked : List Command) (heard left : ℕ) (next : State)
-      → Lives D J disk start stand acks sent now → Life D J disk now board given asked
+      → Lives D L disk start stand acks sent now → DrivenLife D L disk now board given asked
       → left ≤ length board.order → All (λ (ack : Ticket). ack.length ≤ left) (take heard given) → Agree next (fold now (takens (take left board.order)))
-      → Lives D J disk start (stand ++ take left board.order) (acks ++ counted_from (length stand) (take heard given)) (sent ++ asked) next
+      → Lives D L disk start (stand ++ take left board.order) (acks ++ counted_from (length stand) (take heard given)) (sent ++ asked) next
 
 -- What is promised of an order of commands since a start, with so many of them settled and with this state, of the acknowledgements,
 -- and of the commands that were sent.
@@ -72,34 +72,34 @@ pub record IsPromised (start : State) (order : List Entry) (settled : ℕ) (stat
   pub shows : all_shown state ≡ all_shown (fold start (takens order))
 
 -- Whatever lives there were, and whatever the present one has done so far: the promises hold of all of it.
-abbrev pub AllLives : (D J : Type 0) (disk : Ghosts D) → Type 0
-AllLives D J disk =
+abbrev pub AllLives : (D L : Type 0) (disk : Ghosts D) → Type 0
+AllLives D L disk =
     (start now : State) (stand : List Entry) (acks : List Ticket) (sent : List Command) (board : Board Entry) (given : List Ticket) (asked : List Command)
-    → Lives D J disk start stand acks sent now → Life D J disk now board given asked
+    → Lives D L disk start stand acks sent now → DrivenLife D L disk now board given asked
     → IsPromised start (stand ++ board.order) (length stand + board.settled) board.state (acks ++ counted_from (length stand) given) (sent ++ asked)
 
 -- The same of the present life alone.
-abbrev pub OneLife : (D J : Type 0) (disk : Ghosts D) → Type 0
-OneLife D J disk =
-    (start : State) (board : Board Entry) (given : List Ticket) (asked : List Command) → Life D J disk start board given asked
+abbrev pub OneLife : (D L : Type 0) (disk : Ghosts D) → Type 0
+OneLife D L disk =
+    (start : State) (board : Board Entry) (given : List Ticket) (asked : List Command) → DrivenLife D L disk start board given asked
     → IsPromised start board.order board.settled board.state given asked
 
 -- How a life ends, and the next one begins, by what `drive` and `Store::open` promise: a crash leaves a content that represents the first
 -- commands of the order, so many at least, and what is opened then agrees with whatever that content represents. `heard` tells how many of
 -- the acknowledgements had come back, which ask for no more: all of them once `drive` has returned.
-abbrev pub LivesGoOn : (D J : Type 0) (disk : Ghosts D) → Type 0
-LivesGoOn D J disk =
+abbrev pub LivesGoOn : (D L : Type 0) (disk : Ghosts D) → Type 0
+LivesGoOn D L disk =
     (start now next : State) (stand : List Entry) (acks : List Ticket) (sent : List Command) (board : Board Entry) (given : List Ticket) (asked : List Command)
     (heard least : ℕ) (batches : List (List Taken)) (content : List ℕ)
-    → Lives D J disk start stand acks sent now → Life D J disk now board given asked
+    → Lives D L disk start stand acks sent now → DrivenLife D L disk now board given asked
     → All (λ (ack : Ticket). ack.length ≤ least) (take heard given) → IsFirst least now (takens board.order) batches content
     → ((state : State) → FoundAs content state → Agree next state)
     → (left : ℕ) × (least ≤ left)
-    × Lives D J disk start (stand ++ take left board.order) (acks ++ counted_from (length stand) (take heard given)) (sent ++ asked) next
+    × Lives D L disk start (stand ++ take left board.order) (acks ++ counted_from (length stand) (take heard given)) (sent ++ asked) next
 
 -- A run that was answered as `drive` promises, up to where it stopped or whole, continues the life that came to its board.
-abbrev pub RunGoesOn : (D J : Type 0) (disk : Ghosts D) → Type 0
-RunGoesOn D J disk =
-    (start : State) (cap : ℕ) (begin after : Between D disk) (calls : List Call) (answers : List (Answer D J)) (acks : List Ticket) (sent : List Command)
-    → Life D J disk start begin.board.board acks sent → begin.tickets ≡ [] → AreNumbered calls → IsAnswered cap begin after calls answers
-    → LifeGoesOn D J disk start after.board.board (acks ++ acked after.tickets (take (length answers) calls) answers) (sent ++ commands_in (take (length answers) calls))
+abbrev pub RunGoesOn : (D L : Type 0) (disk : Ghosts D) → Type 0
+RunGoesOn D L disk =
+    (start : State) (cap : ℕ) (begin after : Between D disk) (calls : List Call) (answers : List (Answer D L)) (acks : List Ticket) (sent : List Command)
+    → DrivenLife D L disk start begin.board.board acks sent → begin.tickets ≡ [] → AreNumbered calls → IsAnswered cap begin after calls answers
+    → LifeGoesOn D L disk start after.board.board (acks ++ acked after.tickets (take (length answers) calls) answers) (sent ++ commands_in (take (length answers) calls))

@@ -51,9 +51,9 @@ abbrev pub written_events : ℕ → List Event
 written_events zero = []
 written_events (suc count) = Take (suc count) ∷ Device Done ∷ Publish ∷ Settle ∷ []
 
-module _ {D J : Type 0} where
+module _ {D L : Type 0} where
   -- The events that a call is, by its answer. A run's tickets stand behind those that earlier runs were given.
-  abbrev pub events_of : ℕ → Call → Answer D J → List Event
+  abbrev pub events_of : ℕ → Call → Answer D L → List Event
   events_of earlier (Submit command) reply = Sends command ∷ []
   events_of earlier Turn (Turned count) = written_events count
   events_of earlier (Ack at) reply = Acknowledges (earlier + at) ∷ []
@@ -61,17 +61,17 @@ module _ {D J : Type 0} where
   events_of earlier call reply = []
 
   -- those of a run, each call with its answer
-  abbrev pub schedule : ℕ → List Call → List (Answer D J) → List Event
+  abbrev pub schedule : ℕ → List Call → List (Answer D L) → List Event
   schedule earlier [] answers = []
   schedule earlier (call ∷ calls) [] = []
   schedule earlier (call ∷ calls) (reply ∷ answers) = events_of earlier call reply ++ schedule earlier calls answers
 
   -- the tickets that were acknowledged: of each acknowledgement that gave a token, the one that it named
-  abbrev pub acked_by : List Ticket → Call → Answer D J → List Ticket
+  abbrev pub acked_by : List Ticket → Call → Answer D L → List Ticket
   acked_by tickets (Ack at) (Acked (Some told)) = option_to_list (slice_get tickets at)
   acked_by tickets call reply = []
 
-  abbrev pub acked : List Ticket → List Call → List (Answer D J) → List Ticket
+  abbrev pub acked : List Ticket → List Call → List (Answer D L) → List Ticket
   acked tickets [] answers = []
   acked tickets (call ∷ calls) [] = []
   acked tickets (call ∷ calls) (reply ∷ answers) = acked_by tickets call reply ++ acked tickets calls answers
@@ -81,11 +81,11 @@ pub record IsAllSettled (board : Board Entry) : Type 0 where
   pub taken : board.taken ≡ board.settled
   pub within : board.settled ≤ length board.order
 
-module _ {D J : Type 0} {disk : Ghosts D} where
+module _ {D L : Type 0} {disk : Ghosts D} where
   -- A run from one such moment to another: the events that its calls and answers are, behind all that happened before, make of the world
   -- at rest that it began with the one that it ends with. The world's board is the run's, its tickets have the run's tickets behind those
   -- that there were, its acknowledgements are those that gave a token, and it was sent the commands that were submitted.
-  pub record IsSchedule (begin here : Between D disk) (calls : List Call) (answers : List (Answer D J)) : Type 0 where
+  pub record IsSchedule (begin here : Between D disk) (calls : List Call) (answers : List (Answer D L)) : Type 0 where
     pub start : here.board.board.start ≡ begin.board.board.start
     pub settled : IsAllSettled here.board.board
     pub goes : (earlier acks : List Ticket) (sent : List Command) (composed : List (ℕ × ℕ)) → (more : List (ℕ × ℕ))
@@ -93,14 +93,14 @@ module _ {D J : Type 0} {disk : Ghosts D} where
         ≡ at_rest here.board.board (earlier ++ here.tickets) (acks ++ acked here.tickets calls answers) (sent ++ commands_in calls) more)
 
 -- Each run of calls that were answered one after another, from a board where all that is taken off is settled, is a schedule.
-abbrev pub RunIsSchedule : (D J : Type 0) (disk : Ghosts D) → Type 0
-RunIsSchedule D J disk =
-    (cap : ℕ) (begin here : Between D disk) (calls : List Call) (answers : List (Answer D J)) → IsAllSettled begin.board.board → begin.tickets ≡ []
+abbrev pub RunIsSchedule : (D L : Type 0) (disk : Ghosts D) → Type 0
+RunIsSchedule D L disk =
+    (cap : ℕ) (begin here : Between D disk) (calls : List Call) (answers : List (Answer D L)) → IsAllSettled begin.board.board → begin.tickets ≡ []
     → AreNumbered calls → Answered cap begin calls answers here → IsSchedule begin here calls answers
 
 -- And the first run over a store that was just opened is a schedule of a world that was.
-abbrev pub FirstIsSchedule : (D J : Type 0) (disk : Ghosts D) → Type 0
-FirstIsSchedule D J disk =
-    (start : State) (cap : ℕ) (begin here : Between D disk) (calls : List Call) (answers : List (Answer D J)) → begin.board.board ≡ begun_board start → begin.tickets ≡ []
+abbrev pub FirstIsSchedule : (D L : Type 0) (disk : Ghosts D) → Type 0
+FirstIsSchedule D L disk =
+    (start : State) (cap : ℕ) (begin here : Between D disk) (calls : List Call) (answers : List (Answer D L)) → begin.board.board ≡ begun_board start → begin.tickets ≡ []
     → AreNumbered calls → Answered cap begin calls answers here
     → (more : List (ℕ × ℕ)) × (run (begun start) (schedule 0 calls answers) ≡ at_rest here.board.board here.tickets (acked here.tickets calls answers) (commands_in calls) more)

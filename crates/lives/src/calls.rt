@@ -1,6 +1,6 @@
 //! One thread's run over a board and a flusher.
 
-use published::{Site, Told};
+use published::{Life, Told};
 use refusal::Refusal;
 use revision::Command;
 
@@ -21,13 +21,13 @@ pub enum Call {
 
 /// What a call of a run gave.
 #[derive(Drop)]
-pub enum Answer<D, J: Site> {
+pub enum Answer<D, L: Life> {
     /// The place of the ticket.
     Submitted(usize),
     /// How many commands were settled.
     Turned(usize),
     /// The token of what was published, where the ticket is settled; `None` where it isn't, or there is no such ticket.
-    Acked(Option<Told<D, J>>),
+    Acked(Option<Told<D, L>>),
     /// The milestone is put.
     Put,
     /// The oldest segment is retired.

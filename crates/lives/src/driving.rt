@@ -7,13 +7,12 @@ ghost use Rattle.world.specs.World.{entry_of, takens};
 ghost use Rattle.recovery.specs.declared.store.Store.{Store};
 ghost use Rattle.recovery.specs.declared.run.StoreStep.TheVariants.{Milestone as PutsMilestone, Retire as Retires};
 ghost use Rattle.recovery.specs.Begun.{IsLeftByMemory};
-ghost use Rattle.recovery.specs.Found.{FoundAs};
-ghost use Rattle.recovery.specs.Open.{IsOpen, IsUnchanged, device_of, state_of, has_failed};
+ghost use Rattle.recovery.specs.Open.{IsOpen, IsUnchanged, device_of, has_failed};
 ghost use Rattle.recovery.specs.Run.{IsTaken, IsWhy};
-ghost use Rattle.recovery.specs.Goes.{Goes};
 ghost use Rattle.flusher.specs.Flushers.{cap_of};
-ghost use Rattle.flusher.specs.Holding.{store_of, told_of, committed_of, waiting_of};
+ghost use Rattle.flusher.specs.Holding.{store_of};
 ghost use Rattle.flusher.specs.Standing.{IsCalm, standing};
+ghost use Rattle.flusher.specs.Upkeep.{KeepsUp};
 ghost use Rattle.lives.specs.Run.{IsFirst, RunGoes, batches_of};
 ghost use Rattle.lives.specs.Driving.{AckGives, Answered, AreHeld, between, Gives, IsAnswered, IsTurnRefused, IsUnanswered, Stops, stop_of};
 
@@ -22,31 +21,31 @@ use crate::turning::turn;
 use disk::Disk;
 use flusher::Flusher;
 use hub::{Board, Seat, Ticket};
-use published::{Site, Told};
+use published::{Life, Told};
 use refusal::Refusal;
 use revision::Command;
-use std::alloc::Global;
+use std::alloc::{AllocError, Global};
 use std::sync::Wait;
 
 /// What a run gave.
 #[derive(Drop)]
-pub struct Driven<D, J: Site> {
+pub struct Driven<D, L: Life> {
     /// An answer for each call up to where the run stopped, in order.
-    pub answers: Vec<Answer<D, J>>,
+    pub answers: Vec<Answer<D, L>>,
     /// The tickets of the commands that were submitted and not refused, in order.
-    pub tickets: Vec<Ticket<J>>,
+    pub tickets: Vec<Ticket<L>>,
     /// What stopped the run at the call behind those that were answered, if anything did.
     pub stopped: Option<Refusal>,
 }
 
 // Submits a command, and keeps its ticket. Stops as out of memory alone; another refusal is an answer.
-fn submit_one<D: Disk, J: Site>(
+fn submit_one<D: Disk, L: Life>(
     alloc: Global,
-    board: &mut Board<D, J>,
-    seat: &mut Seat<J>,
-    tickets: &mut Vec<Ticket<J>>,
+    board: &mut Board<D, L>,
+    seat: &mut Seat<L>,
+    tickets: &mut Vec<Ticket<L>>,
     command: &Command,
-) -> Result<Answer<D, J>, Refusal>
+) -> Result<Answer<D, L>, AllocError>
     requires works { board.old.failed ≡ false }
     ensures gives { (cap : ℕ) (store : Store D ⟦<D as Disk>⟧)
         → IfOk result (λ reply. Gives cap (record { board = board.old; tickets = tickets.old.items; store = store })
@@ -56,7 +55,6 @@ fn submit_one<D: Disk, J: Site>(
     ensures told { board.new.told ≡ board.old.told }
     ensures failed { board.new.failed ≡ board.old.failed }
     ensures counts { seat.new + length board.old.board.order ≡ seat.old + length board.new.board.order }
-    ensures only { IfErr result (λ e. e ≡ Refusal.NoMemory) }
 {
     tickets.reserve(1)?;
     match board.submit(alloc, seat, command) {
@@ -65,17 +63,13 @@ fn submit_one<D: Disk, J: Site>(
             tickets.push(ticket)?;
             Ok(Answer::Submitted(at))
         }
-        Err(refusal) => {
-            if refusal == Refusal::NoMemory {
-                return Err(refusal);
-            }
-            Ok(Answer::Refused(refusal))
-        }
+        Err(Refusal::NoMemory) => Err(AllocError),
+        Err(refusal) => Ok(Answer::Refused(refusal)),
     }
 }
 
 // What an acknowledgement gives for the ticket of this place, if there is one.
-fn ack_one<D, J: Site>(board: &Board<D, J>, tickets: &[Ticket<J>], at: usize) -> Option<Told<D, J>>
+fn ack_one<D, L: Life>(board: &Board<D, L>, tickets: &[Ticket<L>], at: usize) -> Option<Told<D, L>>
     requires works { board.now.failed ≡ false }
     ensures { AckGives board.now (slice_get tickets.now at) result }
 {
@@ -89,7 +83,7 @@ fn ack_one<D, J: Site>(board: &Board<D, J>, tickets: &[Ticket<J>], at: usize) ->
 }
 
 // What a refusal answers: itself, unless memory ran out or the device failed, at which a run stops.
-fn answered<D, J: Site>(refusal: Refusal) -> Result<Answer<D, J>, Refusal>
+fn answered<D, L: Life>(refusal: Refusal) -> Result<Answer<D, L>, Refusal>
     ensures answer { IfOk result (λ reply. (reply ≡ Answer.Refused refusal) × (refusal ≢ Refusal.NoMemory)
         × (refusal ≢ Refusal.Fault)) }
     ensures stops { IfErr result (λ e. (e ≡ refusal) × ((e ≡ Refusal.NoMemory) ⊎ (e ≡ Refusal.Fault))) }
@@ -104,16 +98,14 @@ fn answered<D, J: Site>(refusal: Refusal) -> Result<Answer<D, J>, Refusal>
 }
 
 // Puts a milestone. Stops as out of memory and at a fault; another refusal is an answer.
-fn put_one<D: Disk, J: Site>(
+fn put_one<D: Disk, L: Life>(
     alloc: Global,
-    flusher: &mut Flusher<D, J>,
+    flusher: &mut Flusher<D, L>,
     document: u32,
     revision: u64,
-) -> Result<Answer<D, J>, Refusal>
+) -> Result<Answer<D, L>, Refusal>
     requires works { has_failed (store_of flusher.old) ≡ false }
-    ensures goes { Goes (λ content. FoundAs content (state_of (store_of flusher.old))) (store_of flusher.old)
-        (store_of flusher.new) }
-    ensures state { state_of (store_of flusher.new) ≡ state_of (store_of flusher.old) }
+    ensures keeps { KeepsUp flusher.old flusher.new }
     ensures works { OnOk result (has_failed (store_of flusher.new) ≡ false) }
     ensures answer { IfOk result (λ reply. ((reply ≡ Answer.Put)
         × IsTaken (PutsMilestone document revision) (store_of flusher.old) (store_of flusher.new))
@@ -124,9 +116,6 @@ fn put_one<D: Disk, J: Site>(
     ensures memory { IsErrOf result Refusal.NoMemory
         → IsLeftByMemory (PutsMilestone document revision) (store_of flusher.old) (store_of flusher.new) }
     ensures only { IfErr result (λ e. (e ≡ Refusal.NoMemory) ⊎ (e ≡ Refusal.Fault)) }
-    ensures told { told_of flusher.new ≡ told_of flusher.old }
-    ensures committed { committed_of flusher.new ≡ committed_of flusher.old }
-    ensures waiting { waiting_of flusher.new ≡ waiting_of flusher.old }
 {
     match flusher.put_document(alloc, document, revision) {
         Ok(()) => Ok(Answer::Put),
@@ -135,11 +124,9 @@ fn put_one<D: Disk, J: Site>(
 }
 
 // Retires the oldest segment. Stops at a fault alone; that the segment is still needed is an answer.
-fn retire_one<D: Disk, J: Site>(flusher: &mut Flusher<D, J>) -> Result<Answer<D, J>, Refusal>
+fn retire_one<D: Disk, L: Life>(flusher: &mut Flusher<D, L>) -> Result<Answer<D, L>, Refusal>
     requires works { has_failed (store_of flusher.old) ≡ false }
-    ensures goes { Goes (λ content. FoundAs content (state_of (store_of flusher.old))) (store_of flusher.old)
-        (store_of flusher.new) }
-    ensures state { state_of (store_of flusher.new) ≡ state_of (store_of flusher.old) }
+    ensures keeps { KeepsUp flusher.old flusher.new }
     ensures works { OnOk result (has_failed (store_of flusher.new) ≡ false) }
     ensures answer { IfOk result (λ reply. ((reply ≡ Answer.Retired)
         × IsTaken Retires (store_of flusher.old) (store_of flusher.new))
@@ -147,9 +134,6 @@ fn retire_one<D: Disk, J: Site>(flusher: &mut Flusher<D, J>) -> Result<Answer<D,
         × IsUnchanged (store_of flusher.old) (store_of flusher.new) × IsWhy Retires refusal (store_of flusher.old))) }
     ensures fails { has_failed (store_of flusher.new) ≡ true ↔ IsErrOf result Refusal.Fault }
     ensures only { IfErr result (λ e. e ≡ Refusal.Fault) }
-    ensures told { told_of flusher.new ≡ told_of flusher.old }
-    ensures committed { committed_of flusher.new ≡ committed_of flusher.old }
-    ensures waiting { waiting_of flusher.new ≡ waiting_of flusher.old }
 {
     match flusher.retire() {
         Ok(()) => Ok(Answer::Retired),
@@ -158,27 +142,27 @@ fn retire_one<D: Disk, J: Site>(flusher: &mut Flusher<D, J>) -> Result<Answer<D,
 }
 
 // A call of a run.
-fn call_one<D: Disk, J: Site, R: Wait>(
+fn call_one<D: Disk, L: Life, R: Wait>(
     rt: &R,
     alloc: Global,
-    flusher: &mut Flusher<D, J>,
-    board: &mut Board<D, J>,
-    seat: &mut Seat<J>,
-    tickets: &mut Vec<Ticket<J>>,
+    flusher: &mut Flusher<D, L>,
+    board: &mut Board<D, L>,
+    seat: &mut Seat<L>,
+    tickets: &mut Vec<Ticket<L>>,
     call: &Call,
-) -> Result<Answer<D, J>, Refusal>
-    requires calm { IsCalm J.start (standing board.old flusher.old) }
+) -> Result<Answer<D, L>, Refusal>
+    requires calm { IsCalm L.start (standing board.old flusher.old) }
     requires works { has_failed (store_of flusher.old) ≡ false }
     requires board_works { board.old.failed ≡ false }
-    ensures goes { RunGoes J.start (standing board.old flusher.old) (standing board.new flusher.new) }
-    ensures calm { OnOk result (IsCalm J.start (standing board.new flusher.new)) }
+    ensures goes { RunGoes L.start (standing board.old flusher.old) (standing board.new flusher.new) }
+    ensures calm { OnOk result (IsCalm L.start (standing board.new flusher.new)) }
     ensures works { OnOk result (has_failed (store_of flusher.new) ≡ false) }
     ensures gives { IfOk result
-        (λ reply. Gives (cap_of J.start) (between board.old tickets.old.items flusher.old) call.now reply
+        (λ reply. Gives (cap_of L.start) (between board.old tickets.old.items flusher.old) call.now reply
         (between board.new tickets.new.items flusher.new)) }
     ensures same { OnErr result (tickets.new.items ≡ tickets.old.items) }
     ensures left { OnErr result
-        (IsUnanswered (cap_of J.start) (between board.old tickets.old.items flusher.old) call.now
+        (IsUnanswered (cap_of L.start) (between board.old tickets.old.items flusher.old) call.now
         (between board.new tickets.new.items flusher.new)) }
     ensures order { OnErr result (board.new.board.order ≡ board.old.board.order) }
     ensures failed { board.new.failed ≡ board.old.failed }
@@ -186,10 +170,10 @@ fn call_one<D: Disk, J: Site, R: Wait>(
     ensures fails { has_failed (store_of flusher.new) ≡ true ↔ IsErrOf result Refusal.Fault }
     ensures stops { IfErr result (λ e. ((e ≡ Refusal.NoMemory) ⊎ (e ≡ Refusal.Fault))
         ⊎ ((call.now ≡ Call.Turn)
-        × IsTurnRefused (cap_of J.start) board.old (store_of flusher.old) e flusher.new)) }
+        × IsTurnRefused (cap_of L.start) board.old (store_of flusher.old) e flusher.new)) }
 {
     match call {
-        Call::Submit(command) => submit_one(alloc, board, seat, tickets, command),
+        Call::Submit(command) => Ok(submit_one(alloc, board, seat, tickets, command)?),
         Call::Turn => {
             let count = turn(rt, alloc, flusher, board)?;
             Ok(Answer::Turned(count))
@@ -201,31 +185,31 @@ fn call_one<D: Disk, J: Site, R: Wait>(
 }
 
 // The calls of a run, one after another, up to where it stops.
-fn drive_all<D: Disk, J: Site, R: Wait>(
+fn drive_all<D: Disk, L: Life, R: Wait>(
     rt: &R,
     alloc: Global,
-    flusher: &mut Flusher<D, J>,
-    board: &mut Board<D, J>,
-    seat: &mut Seat<J>,
-    answers: &mut Vec<Answer<D, J>>,
-    tickets: &mut Vec<Ticket<J>>,
+    flusher: &mut Flusher<D, L>,
+    board: &mut Board<D, L>,
+    seat: &mut Seat<L>,
+    answers: &mut Vec<Answer<D, L>>,
+    tickets: &mut Vec<Ticket<L>>,
     calls: &[Call],
 ) -> Result<(), Refusal>
-    requires calm { IsCalm J.start (standing board.old flusher.old) }
+    requires calm { IsCalm L.start (standing board.old flusher.old) }
     requires works { has_failed (store_of flusher.old) ≡ false }
     requires board_works { board.old.failed ≡ false }
     requires nothing { (answers.old.items ≡ []) × (tickets.old.items ≡ []) }
-    ensures goes { RunGoes J.start (standing board.old flusher.old) (standing board.new flusher.new) }
-    ensures calm { OnOk result (IsCalm J.start (standing board.new flusher.new)) }
+    ensures goes { RunGoes L.start (standing board.old flusher.old) (standing board.new flusher.new) }
+    ensures calm { OnOk result (IsCalm L.start (standing board.new flusher.new)) }
     ensures works { OnOk result (has_failed (store_of flusher.new) ≡ false) }
-    ensures answered { IsAnswered (cap_of J.start) (between board.old [] flusher.old)
+    ensures answered { IsAnswered (cap_of L.start) (between board.old [] flusher.old)
         (between board.new tickets.new.items flusher.new) calls.now answers.new.items }
     ensures stops { IfErr result
-        (λ e. Stops (cap_of J.start) (between board.old [] flusher.old) calls.now answers.new.items e
+        (λ e. Stops (cap_of L.start) (between board.old [] flusher.old) calls.now answers.new.items e
         flusher.new) }
     ensures short { OnErr result (length answers.new.items < length calls.now) }
     ensures whole { OnOk result ((length answers.new.items ≡ length calls.now)
-        × Answered (cap_of J.start) (between board.old [] flusher.old) calls.now answers.new.items
+        × Answered (cap_of L.start) (between board.old [] flusher.old) calls.now answers.new.items
         (between board.new tickets.new.items flusher.new)) }
     ensures failed { board.new.failed ≡ board.old.failed }
     ensures counts { seat.new + length board.old.board.order ≡ seat.old + length board.new.board.order }
@@ -256,48 +240,48 @@ fn stopped_by(ended: Result<(), Refusal>) -> Option<Refusal>
 ///
 /// A crash at any moment of the run leaves the first commands of the board's order up to the end of a batch, and one after its return
 /// no fewer than are settled then, so no fewer than a ticket asks for whose `Ack` gave a token.
-pub fn drive<D: Disk, J: Site, R: Wait>(
+pub fn drive<D: Disk, L: Life, R: Wait>(
     rt: &R,
     alloc: Global,
-    flusher: &mut Flusher<D, J>,
-    board: &mut Board<D, J>,
-    seat: &mut Seat<J>,
+    flusher: &mut Flusher<D, L>,
+    board: &mut Board<D, L>,
+    seat: &mut Seat<L>,
     calls: &[Call],
-) -> Driven<D, J>
-    requires calm { IsCalm J.start (standing board.old flusher.old) }
+) -> Driven<D, L>
+    requires calm { IsCalm L.start (standing board.old flusher.old) }
     requires works { has_failed (store_of flusher.old) ≡ false }
     requires board_works { board.old.failed ≡ false }
 
     // What a crash leaves: at any moment of the run, and after its return.
-    ensures goes { RunGoes J.start (standing board.old flusher.old) (standing board.new flusher.new) }
+    ensures goes { RunGoes L.start (standing board.old flusher.old) (standing board.new flusher.new) }
     ensures any_moment { IsOpen (store_of flusher.old)
         → LeavesOnly ⟦<D as Disk>⟧
-        (IsFirst board.old.board.settled J.start (takens board.new.board.order)
+        (IsFirst board.old.board.settled L.start (takens board.new.board.order)
         (batches_of (standing board.new flusher.new)))
         (device_of (store_of flusher.old)) (device_of (store_of flusher.new)) }
     ensures holds { IsOpen (store_of flusher.old) → (content : List ℕ)
         → MayLeaveNow ⟦<D as Disk>⟧ (device_of (store_of flusher.new)) content
-        → IsFirst board.new.board.settled J.start (takens board.new.board.order)
+        → IsFirst board.new.board.settled L.start (takens board.new.board.order)
         (batches_of (standing board.new flusher.new)) content }
     ensures acknowledged { AreHeld board.new.board.settled result.tickets.items
         (take (length result.answers.items) calls.now) result.answers.items }
 
     // What the calls gave.
-    ensures answered { IsAnswered (cap_of J.start) (between board.old [] flusher.old)
+    ensures answered { IsAnswered (cap_of L.start) (between board.old [] flusher.old)
         (between board.new result.tickets.items flusher.new) calls.now result.answers.items }
     ensures stops { IfSome result.stopped
-        (λ refusal. Stops (cap_of J.start) (between board.old [] flusher.old) calls.now result.answers.items refusal
+        (λ refusal. Stops (cap_of L.start) (between board.old [] flusher.old) calls.now result.answers.items refusal
         flusher.new) }
     ensures short { IfSome result.stopped (λ e. length result.answers.items < length calls.now) }
     ensures whole { result.stopped ≡ None → (length result.answers.items ≡ length calls.now)
-        × Answered (cap_of J.start) (between board.old [] flusher.old) calls.now result.answers.items
+        × Answered (cap_of L.start) (between board.old [] flusher.old) calls.now result.answers.items
         (between board.new result.tickets.items flusher.new) }
     ensures fails { has_failed (store_of flusher.new) ≡ true ↔ result.stopped ≡ Some Refusal.Fault }
     // The seat counts each command that is taken, and no other seat does.
     ensures counts { seat.new + length board.old.board.order ≡ seat.old + length board.new.board.order }
 
     // The next run may go on from there.
-    ensures calm { result.stopped ≡ None → IsCalm J.start (standing board.new flusher.new) }
+    ensures calm { result.stopped ≡ None → IsCalm L.start (standing board.new flusher.new) }
     ensures works { result.stopped ≡ None → has_failed (store_of flusher.new) ≡ false }
     ensures failed { board.new.failed ≡ board.old.failed }
 {

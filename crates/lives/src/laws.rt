@@ -4,25 +4,25 @@ ghost use Rattle.lives.specs.Lives.{AllLives, LivesGoOn, OneLife, RunGoesOn};
 
 use crate::calls::Call;
 use disk::Disk;
-use published::Site;
+use published::Life;
 
 /// A run of calls that were answered one after another, as `drive` promises of its own, is a list of a world's events: each command
 /// that was submitted, each batch that is taken off, written, shown and settled, each acknowledgement, and each milestone. The world
 /// that these events make has just the run's board, its tickets, and the acknowledgements that gave a token; it shows what is settled, a
 /// crash leaves just that, and it has not failed. So what `world::laws::every_schedule` says of every list of events holds of every run.
-pub fn run_is_a_schedule<D: Disk, J: Site>()
-    ensures goes_on { RunIsSchedule D J ⟦<D as Disk>⟧ }
-    ensures first { FirstIsSchedule D J ⟦<D as Disk>⟧ }
+pub fn run_is_a_schedule<D: Disk, L: Life>()
+    ensures goes_on { RunIsSchedule D L ⟦<D as Disk>⟧ }
+    ensures first { FirstIsSchedule D L ⟦<D as Disk>⟧ }
 {}
 
 /// Over all lives of a server, where each began with what the crash before it had left: no acknowledged edit is missing, none is taken
 /// twice, and none changes its revision. What was acknowledged in any life and comes again is answered as a retry, with its revision,
 /// unless its source has sent a greater number since.
-pub fn lives<D: Disk, J: Site>()
-    ensures one { OneLife D J ⟦<D as Disk>⟧ }
-    ensures all { AllLives D J ⟦<D as Disk>⟧ }
-    ensures run { RunGoesOn D J ⟦<D as Disk>⟧ }
-    ensures go_on { LivesGoOn D J ⟦<D as Disk>⟧ }
+pub fn lives<D: Disk, L: Life>()
+    ensures one { OneLife D L ⟦<D as Disk>⟧ }
+    ensures all { AllLives D L ⟦<D as Disk>⟧ }
+    ensures run { RunGoesOn D L ⟦<D as Disk>⟧ }
+    ensures go_on { LivesGoOn D L ⟦<D as Disk>⟧ }
 {}
 
 /// The number of each command of these calls is one that a world takes, since a command's type keeps it so.
@@ -39,6 +39,6 @@ fn is_numbered(call: &Call)
     ensures { IsNumbered call.now }
 {
     if let Call::Submit(command) = call {
-        let _ = command.number();
+        command.facts();
     }
 }

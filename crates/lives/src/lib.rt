@@ -45,29 +45,29 @@
 //! use flusher::Flusher;
 //! use hub::{Board, Seat};
 //! use lives::{Call, Driven, drive};
-//! use published::Site;
+//! use published::Life;
 //! use revision::Command;
 //! use std::alloc::Global;
 //! use std::sync::Wait;
 //!
 //! /// Submits a command, writes it, and asks for its acknowledgement. A crash at any moment leaves first commands of the board's order,
 //! /// no fewer than were settled before; and unless something stopped it, more can be saved.
-//! pub fn save<D: Disk, J: Site, R: Wait>(
+//! pub fn save<D: Disk, L: Life, R: Wait>(
 //!     rt: &R,
 //!     alloc: Global,
-//!     flusher: &mut Flusher<D, J>,
-//!     board: &mut Board<D, J>,
-//!     seat: &mut Seat<J>,
+//!     flusher: &mut Flusher<D, L>,
+//!     board: &mut Board<D, L>,
+//!     seat: &mut Seat<L>,
 //!     command: Command,
-//! ) -> Driven<D, J>
-//!     requires calm { IsCalm J.start (standing board.old flusher.old) }
+//! ) -> Driven<D, L>
+//!     requires calm { IsCalm L.start (standing board.old flusher.old) }
 //!     requires works { (has_failed (store_of flusher.old) ≡ false) × (board.old.failed ≡ false) }
 //!     ensures any_moment { IsOpen (store_of flusher.old)
 //!         → LeavesOnly ⟦<D as Disk>⟧
-//!         (IsFirst board.old.board.settled J.start (takens board.new.board.order)
+//!         (IsFirst board.old.board.settled L.start (takens board.new.board.order)
 //!         (batches_of (standing board.new flusher.new)))
 //!         (device_of (store_of flusher.old)) (device_of (store_of flusher.new)) }
-//!     ensures calm { result.stopped ≡ None → IsCalm J.start (standing board.new flusher.new) }
+//!     ensures calm { result.stopped ≡ None → IsCalm L.start (standing board.new flusher.new) }
 //! {
 //!     let calls = [Call::Submit(command), Call::Turn, Call::Ack(0)];
 //!     drive(rt, alloc, flusher, board, seat, &calls)

@@ -14,7 +14,7 @@ ghost use Rattle.lives.specs.Driving.{IsRunCommitted, IsTurnRefused, IsUnsettled
 use disk::Disk;
 use flusher::{Flusher, OpenGate};
 use hub::Board;
-use published::Site;
+use published::Life;
 use refusal::Refusal;
 use std::alloc::Global;
 use std::sync::Wait;
@@ -22,16 +22,16 @@ use std::sync::Wait;
 /// A turn: takes off the longest run of commands whose batch fits a slot, writes it, and settles it. Gives how many commands there are
 /// in it, which are none where nothing was left to take off. At `NoMemory` the run may be committed, and at any other refusal it isn't.
 /// Whatever refused it, nothing is published or settled: the board is unchanged, but that the run may be taken off.
-pub fn turn<D: Disk, J: Site, R: Wait>(
+pub fn turn<D: Disk, L: Life, R: Wait>(
     rt: &R,
     alloc: Global,
-    flusher: &mut Flusher<D, J>,
-    board: &mut Board<D, J>,
+    flusher: &mut Flusher<D, L>,
+    board: &mut Board<D, L>,
 ) -> Result<usize, Refusal>
-    requires calm { IsCalm J.start (standing board.old flusher.old) }
+    requires calm { IsCalm L.start (standing board.old flusher.old) }
     requires works { has_failed (store_of flusher.old) ≡ false }
-    ensures goes { RunGoes J.start (standing board.old flusher.old) (standing board.new flusher.new) }
-    ensures calm { OnOk result (IsCalm J.start (standing board.new flusher.new)) }
+    ensures goes { RunGoes L.start (standing board.old flusher.old) (standing board.new flusher.new) }
+    ensures calm { OnOk result (IsCalm L.start (standing board.new flusher.new)) }
     ensures works { OnOk result (has_failed (store_of flusher.new) ≡ false) }
     ensures run { IfOk result
         (λ count. IsLongest (cap_of (state_of (store_of flusher.old))) (untaken board.old.board) count) }

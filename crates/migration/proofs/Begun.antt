@@ -1,16 +1,15 @@
 -- A store of the second format may begin with the documents of one of the first format, whose sources have their last numbers alone.
-use Rattle.std.proofs.Common.{◌≡◌, ℕ, zero, suc, ◌≤◌, ◌<◌, true, List, [], ◌∷◌, length, map, Some, refl, sym, ◌∙◌, ap, subst, arith}
+use Rattle.std.proofs.Common.{◌≡◌, ℕ, zero, suc, ◌≤◌, true, List, [], ◌∷◌, length, map, Some, refl, sym, ◌∙◌, ap, subst, arith}
 use Rattle.std.specs.Prelude.{slice_get, get_or}
-use Rattle.std.proofs.lemmas.Bool.{and_from, le-leb, lt-ltb}
 use Rattle.std.proofs.lemmas.List.{length-map}
 use Rattle.std.proofs.lemmas.Option.{slice_get_within, slice_get-get_or}
 use Rattle.document.specs.Weight.{weight_of}
 use Rattle.revision.specs.Window.{Window}
 use Rattle.revision.specs.Past.{Content, is_content, newest, sources_at}
-use Rattle.revision.specs.Sources.{cut, count_of, total_of}
-use Rattle.revision.specs.State.{Limits, DocumentRecord, State, last_of_all, is_mark_at, are_sources, window_weight, adopts}
+use Rattle.revision.specs.Sources.{cut, total_of}
+use Rattle.revision.specs.State.{Limits, DocumentRecord, State, is_mark_at, are_sources, window_weight}
 use Rattle.revision.specs.Invariants.{IsLimits, IsPast, IsState, KeepsAt}
-use Rattle.revision.proofs.CallerLemmas.{cut_stays, cut_weighs, empty_is_state, adopting_keeps}
+use Rattle.revision.proofs.CallerLemmas.{cut_stays, cut_weighs}
 use Rattle.history.specs.Cell.{Cell, CellKeeps, record_of_cell}
 use Rattle.history.specs.Law.{begun_with}
 use Rattle.milestone.specs.declared.format.Format.TheVariants.{One}
@@ -18,13 +17,9 @@ use Rattle.recovery.specs.declared.shape.Shape.{Shape}
 use Rattle.recovery.specs.Found.{limits_in, limits_of}
 use Rattle.recovery.specs.Formatting.{MayBegin}
 use Rattle.migration.specs.Migrated.{IsCutTo, AreCut, AreSpelled}
+pub use Rattle.history.proofs.CallerLemmas.{cell-past as alone, some-there as there_is}
 
 -- ---- what stands in lists
-
-pub there_is : {A : Type 0} (xs : List A) (i : ℕ) → i < length xs → (x : A) × (slice_get xs i ≡ Some x)
-there_is [] i inside = absurd (omega (arith, inside))
-there_is (x ∷ xs) zero inside = (x, refl)
-there_is (x ∷ xs) (suc i) inside = there_is xs i (omega (arith, inside))
 
 pub from_map : (start : List Cell) (i : ℕ) (found : DocumentRecord) → slice_get (map record_of_cell start) i ≡ Some found
     → (cell : Cell) × (slice_get start i ≡ Some cell) × (record_of_cell cell ≡ found)
@@ -58,27 +53,6 @@ kept limits free document cell low none weight sources is to = record {
   where
     at : KeepsAt free document.past (newest document.past)
     at = is.each (newest document.past) (omega arith) (omega arith)
-
--- as the whole past of a document it keeps the limits
-pub alone : (limits : Limits) (cell : Cell) → IsLimits limits → CellKeeps limits cell → IsPast limits (record_of_cell cell).past
-alone limits cell are keeps = (adopting_keeps none cell.name cell.content cell.revision cell.sources (empty_is_state limits are) may).each 0 (record_of_cell cell) refl
-  where
-    none : State
-    none = record { limits = limits; documents = [] }
-
-    may : adopts none cell.name cell.content cell.revision cell.sources ≡ true
-    may =
-        and_from _ _
-        (and_from _ _
-        (and_from _ _
-        (and_from _ _
-        (and_from _ _
-        (and_from _ _ (and_from _ _ (and_from _ _ (lt-ltb 0 limits.docs (omega (arith, are.some_document))) refl) keeps.content) keeps.mark)
-        (le-leb 1 cell.revision keeps.first))
-        (le-leb cell.revision last_of_all keeps.last))
-        (le-leb (count_of cell.sources) limits.sources keeps.count))
-        keeps.sources)
-        (le-leb _ limits.weight keeps.weight)
 
 -- ---- all of them
 

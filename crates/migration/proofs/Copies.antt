@@ -6,7 +6,7 @@ use Rattle.std.proofs.lemmas.Option.{slice_get_within, slice_get-get_or}
 use Rattle.delta.specs.Element.{Element}
 use Rattle.revision.specs.Sources.{Sources}
 use Rattle.revision.specs.Past.{Past, newest, content_at, sources_at, from_floor}
-use Rattle.revision.specs.State.{Limits, DocumentRecord, State, weight_of, content_of, sources_of, newest_revision}
+use Rattle.revision.specs.State.{Limits, DocumentRecord, State, weight_of, newest_revision}
 use Rattle.revision.specs.Agree.{DocumentsAgree, PlacesAgree, Agree, floor_of}
 use Rattle.revision.specs.Invariants.{IsLimits, IsPast, IsState, KeepsAt}
 use Rattle.revision.proofs.CallerLemmas.{from_itself, agree_through}
@@ -21,18 +21,13 @@ use Rattle.recovery.proofs.Superblocks.{ranges_of}
 use Rattle.migration.specs.Migrated.{AreSpelled}
 use Rattle.migration.specs.Copied.{AreCopied, HasRoom, IsCopied}
 use Rattle.migration.proofs.Begun.{there_is, from_map, alone}
+use Rattle.history.proofs.CallerLemmas.{cell-content, cell-sources}
 
 -- ---- one document
 
 -- what a document holds that begins with a cell is what the cell holds
 whole : (cell : Cell) → newest (record_of_cell cell).past ≡ cell.revision
 whole cell = omega arith
-
-content_of_cell : (cell : Cell) → content_of (record_of_cell cell) ≡ cell.content
-content_of_cell cell = ap (content_at (record_of_cell cell).past) (whole cell) ∙ ap (λ (p : Past). p.content) (from_itself (record_of_cell cell).past)
-
-sources_of_cell : (cell : Cell) → sources_of (record_of_cell cell) ≡ cell.sources
-sources_of_cell cell = ap (sources_at (record_of_cell cell).past) (whole cell) ∙ ap (λ (p : Past). p.sources) (from_itself (record_of_cell cell).past)
 
 -- a past from its newest revision on
 newest_alone : (past : Past)
@@ -46,8 +41,8 @@ copy_agrees : (found : DocumentRecord) → DocumentsAgree (record_of_cell (newes
 copy_agrees found = record {
   name = refl;
   revision = omega arith;
-  content = content_of_cell (newest_cell found);
-  sources = sources_of_cell (newest_cell found);
+  content = cell-content (newest_cell found);
+  sources = cell-sources (newest_cell found);
   past = λ floor over under within.
       let same : newest found.past ≡ floor = omega (arith, over, within) in
       subst (λ f. from_floor (record_of_cell (newest_cell found)).past f ≡ from_floor found.past f) same

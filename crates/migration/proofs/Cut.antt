@@ -1,25 +1,17 @@
 -- Documents that are cut one after the other.
-use Rattle.std.proofs.Common.{◌≡◌, ◌⊎◌, inl, inr, ℕ, zero, suc, ◌<◌, ◌^◌, Some, List, [], ◌∷◌, ◌++◌, length, map, get_or, refl, sym, ◌∙◌, ap, subst}
-use Rattle.std.specs.Prelude.{slice_get, option_map}
-use Rattle.std.proofs.lemmas.Option.{slice_get_read, slice_get-map}
-use Rattle.revision.specs.Pending.{PendingDocument, record_of}
+use Rattle.std.proofs.Common.{◌≡◌, ◌⊎◌, inl, inr, ℕ, zero, suc, ◌<◌, ◌^◌, Some, List, [], ◌∷◌, ◌++◌, length, refl, sym, ◌∙◌, ap, subst}
+use Rattle.std.specs.Prelude.{slice_get}
 use Rattle.revision.specs.State.{DocumentRecord}
 use Rattle.history.specs.Cell.{Cell}
 use Rattle.milestone.specs.CellSpelling.{IsCell}
 use Rattle.migration.specs.Migrated.{IsCutTo, AreSpelled}
+pub use Rattle.revision.proofs.CallerLemmas.{record_at_place}
+pub use Rattle.std.proofs.lemmas.Option.{same_Some as some_is}
 
 -- the first of some documents are cut
 abbrev pub AreCutTo : List DocumentRecord → List Cell → Type 0
 AreCutTo documents start = (number : ℕ) (document : DocumentRecord) (cell : Cell) → slice_get documents number ≡ Some document → slice_get start number ≡ Some cell
     → IsCutTo document cell
-
-pub record_at_place : (documents : List PendingDocument) (number : ℕ) (document : PendingDocument) → number < length documents → document ≡ get_or documents number document
-    → slice_get (map record_of documents) number ≡ Some (record_of document)
-record_at_place documents number document inside is =
-    slice_get-map record_of documents number ∙ ap (λ o. option_map record_of o) (slice_get_read documents (length documents) number document refl inside is)
-
-pub some_is : {A : Type 0} (x y : A) → Some x ≡ Some y → x ≡ y
-some_is x y same = cc
 
 pub get-more : {A : Type 0} (xs : List A) (x : A) (i : ℕ) (y : A) → slice_get (xs ++ x ∷ []) i ≡ Some y → (slice_get xs i ≡ Some y) ⊎ ((i ≡ length xs) × (x ≡ y))
 get-more [] x zero y is = inr (refl, some_is x y is)

@@ -3,5 +3,6 @@ mod Copies
 pub mod Cut
 mod Light
 mod Moments
+mod Refused
 mod Rooms
 pub mod CopiedSoFar

@@ -1,3 +1,4 @@
+pub mod Brought
 pub mod Copied
 pub mod Migrated
 pub mod Old

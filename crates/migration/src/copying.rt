@@ -1,16 +1,15 @@
 //! Reading a store, and putting it on a new device with other numbers.
-ghost use Rattle.std.specs.Prelude.{◌≡◌, ◌⊎◌, ◌↔◌, ◌<◌, ◌^◌, [], true, length, IsTrue, Err, List, ℕ, OnOk, IfOk, IfErr, IsErrOf};
+ghost use Rattle.std.specs.Prelude.{◌≡◌, ◌↔◌, ◌<◌, ◌^◌, [], true, length, IsTrue, OnOk, IfErr, ◌∷◌};
+ghost use Rattle.refusal.specs.Refusal.{IsOneOf};
 ghost use Rattle.disk.specs.Calls.{CountsFaultsAs};
-ghost use Rattle.disk.specs.Crash.{MayLeaveNow, history_of};
-ghost use Rattle.disk.specs.Device.{Rose};
-ghost use Rattle.history.specs.declared.pick.Pick.TheVariants.{Newer};
-ghost use Rattle.revision.specs.State.{State as StateValue};
+ghost use Rattle.disk.specs.Crash.{history_of};
+ghost use Rattle.milestone.specs.declared.format.Format.TheVariants.{One, Two};
 ghost use Rattle.recovery.specs.declared.shape.Shape.{Shape as ShapeValue};
 ghost use Rattle.recovery.specs.Shape.{is_in_range};
-ghost use Rattle.recovery.specs.Layout.{IsFormatted, IsOldFormat};
-ghost use Rattle.recovery.specs.Found.{Found, limits_of};
-ghost use Rattle.recovery.specs.Formatting.{Fits, IsUnformatted, IsOnlySynced, LeavesFromSync};
-ghost use Rattle.migration.specs.Copied.{HasRoom, Suits, StandsFor, IsCopied, IsUnformattedOrCopied};
+ghost use Rattle.recovery.specs.Found.{limits_of};
+ghost use Rattle.recovery.specs.Formatting.{Fits, IsOnlySynced};
+ghost use Rattle.migration.specs.Brought.{OfStore, IsCopiedFrom, IsMadeStore, MakesOrSpares, MakingIsRefused, IsBrought, BringingIsRefused};
+ghost use Rattle.migration.specs.Copied.{HasRoom, Suits, IsCopied};
 
 use crate::whole::copy_all;
 use disk::Disk;
@@ -42,49 +41,20 @@ const NO_SHAPE: Shape = Shape {
 /// also where the shape has fewer documents, bytes of a cell or sources than the old one. `NoMemory` may come until the superblock's gate is
 /// opened, and leaves that gate closed.
 pub fn copy<A: Disk, B: Disk>(alloc: Global, old: A, new: &mut B, shape: Shape) -> Copied<A>
-    // The old device is read alone, and a crash leaves of it what was read.
+    // The old device is read alone.
     ensures old { IsOnlySynced (history_of ⟦<A as Disk>⟧ old) (history_of ⟦<A as Disk>⟧ result.old) }
-    ensures kept_old { OnOk result.made ((content : List ℕ) → MayLeaveNow ⟦<A as Disk>⟧ result.old content
-        → content ≡ A.seen old) }
-    ensures not_formatted { result.made ≡ Err Refusal.NotFormatted → A.honest result.old → ¬ IsFormatted (A.seen old) }
-    ensures old_format { result.made ≡ Err Refusal.OldFormat → A.honest result.old → IsOldFormat (A.seen old) }
-    ensures damaged { result.made ≡ Err Refusal.Damaged → A.honest result.old → IsFormatted (A.seen old)
-        × ¬ IsOldFormat (A.seen old) × ((found : StateValue) → ¬ Found (A.seen old) Newer found) }
 
-    // From the first sync of a device without a store on, a crash at any moment leaves that device without one, or with one of this shape
-    // that is found as the documents of the old one, and that can be opened; at Ok the latter.
-    ensures from_sync { A.honest result.old → IsUnformatted (B.seen new.old) → (state : StateValue)
-        → StandsFor (A.seen old) state
-        → LeavesFromSync (IsUnformattedOrCopied shape state) (history_of ⟦<B as Disk>⟧ new.old)
-        (history_of ⟦<B as Disk>⟧ new.new) }
-    ensures found { OnOk result.made (A.honest result.old → (state : StateValue) × Found (A.seen old) Newer state) }
-    ensures done { OnOk result.made (A.honest result.old → (state : StateValue)
-        → StandsFor (A.seen old) state → IsCopied shape state (B.seen new.new)) }
-    ensures synced { OnOk result.made (B.unsynced new.new ≡ []) }
-
-    // A new device that has a store is refused, and stays unchanged; so is one that is too short, and a shape that is too small.
-    ensures already_formatted { result.made ≡ Err Refusal.AlreadyFormatted → B.honest new.new → IsFormatted (B.seen new.old) }
-    ensures formatted { OnOk result.made (B.honest new.new → ¬ IsFormatted (B.seen new.old)) }
-    ensures formatted_first { result.made ≡ Err Refusal.BadShape → B.honest new.new → ¬ IsFormatted (B.seen new.old) }
-    ensures kept { B.honest new.new → IsFormatted (B.seen new.old)
-        → IsOnlySynced (history_of ⟦<B as Disk>⟧ new.old) (history_of ⟦<B as Disk>⟧ new.new) }
-    ensures bad_shape { result.made ≡ Err Refusal.BadShape → A.honest result.old → (state : StateValue)
-        → (is : Found (A.seen old) Newer state) → ¬ Suits is.shape shape (length (B.seen new.old)) }
-    ensures suits { OnOk result.made (A.honest result.old → (state : StateValue)
-        → (is : Found (A.seen old) Newer state) → Suits is.shape shape (length (B.seen new.old))) }
-    // All but `Fault` and `NoMemory` come before the first write.
-    ensures refused { IfErr result.made (λ e. (e ≡ Refusal.Fault) ⊎ ((e ≡ Refusal.NoMemory)
-        ⊎ IsOnlySynced (history_of ⟦<B as Disk>⟧ new.old) (history_of ⟦<B as Disk>⟧ new.new))) }
-    // Neither refusal comes before the old store is found.
-    ensures old_first { IfErr result.made (λ e. (e ≡ Refusal.AlreadyFormatted) ⊎ (e ≡ Refusal.BadShape)
-        → A.honest result.old → (state : StateValue) × Found (A.seen old) Newer state) }
-    ensures memory { result.made ≡ Err Refusal.NoMemory → IsUnformatted (B.seen new.old) → IsUnformatted (B.seen new.new) }
-    ensures length { length (B.seen new.new) ≡ length (B.seen new.old) }
-    ensures failed { IsErrOf result.made Refusal.Fault → Rose (A.faults old) (A.faults result.old)
-        ⊎ Rose (B.faults new.old) (B.faults new.new) }
-    ensures only { IfErr result.made (λ e. (e ≡ Refusal.NotFormatted) ⊎ ((e ≡ Refusal.OldFormat) ⊎ ((e ≡ Refusal.Damaged)
-        ⊎ ((e ≡ Refusal.BadShape) ⊎ ((e ≡ Refusal.AlreadyFormatted) ⊎ ((e ≡ Refusal.NoMemory)
-        ⊎ (e ≡ Refusal.Fault))))))) }
+    // The new one is a store of this shape, which is found as the documents of the old one, and can be opened.
+    ensures brought { OnOk result.made (IsBrought ⟦<A as Disk>⟧ ⟦<B as Disk>⟧ Two
+        (IsCopiedFrom ⟦<A as Disk>⟧ shape old result.old) old result.old new.old new.new) }
+    ensures suits { OnOk result.made (OfStore ⟦<A as Disk>⟧ Two
+        (λ found _. Suits found shape (length (B.seen new.old))) old result.old) }
+    // A crash at any moment leaves a device without a store without one, or with that one. A device with a store is left as it is.
+    ensures any_moment { MakesOrSpares ⟦<B as Disk>⟧ (IsCopiedFrom ⟦<A as Disk>⟧ shape old result.old) new.old new.new }
+    // Why nothing is copied, and what is left: a device that is too short is refused, and a shape that is too small.
+    ensures refused { IfErr result.made (λ e. BringingIsRefused ⟦<A as Disk>⟧ ⟦<B as Disk>⟧ Two One Refusal.OldFormat
+        (OfStore ⟦<A as Disk>⟧ Two (λ found _. ¬ Suits found shape (length (B.seen new.old))) old result.old)
+        e old result.old new.old new.new) }
 {
     match Store::open(alloc, old, Pick::Newer) {
         Ok(store) => {
@@ -109,27 +79,12 @@ fn begin_with<B: Disk>(
     shape: Shape,
 ) -> Result<(), Refusal>
     requires { (old : ShapeValue) × (is_in_range old ≡ true) × (state.now.limits ≡ limits_of old) }
-    ensures from_sync { IsUnformatted (B.seen disk.old)
-        → LeavesFromSync (IsUnformattedOrCopied shape state.now) (history_of ⟦<B as Disk>⟧ disk.old)
-        (history_of ⟦<B as Disk>⟧ disk.new) }
-    ensures done { OnOk result (IsCopied shape state.now (B.seen disk.new)) }
-    ensures synced { OnOk result (B.unsynced disk.new ≡ []) }
-    ensures kept { B.honest disk.new → IsFormatted (B.seen disk.old)
-        → IsOnlySynced (history_of ⟦<B as Disk>⟧ disk.old) (history_of ⟦<B as Disk>⟧ disk.new) }
-    ensures already_formatted { result ≡ Err Refusal.AlreadyFormatted → B.honest disk.new
-        → IsFormatted (B.seen disk.old) }
-    ensures formatted { OnOk result (B.honest disk.new → ¬ IsFormatted (B.seen disk.old)) }
-    ensures formatted_first { result ≡ Err Refusal.BadShape → B.honest disk.new → ¬ IsFormatted (B.seen disk.old) }
-    ensures bad_shape { result ≡ Err Refusal.BadShape → Fits shape (length (B.seen disk.old))
-        → ¬ HasRoom state.now.limits shape }
-    ensures room { OnOk result (HasRoom state.now.limits shape) }
-    ensures fits { OnOk result (Fits shape (length (B.seen disk.old))) }
-    ensures refused { IfErr result (λ e. (e ≡ Refusal.Fault) ⊎ ((e ≡ Refusal.NoMemory)
-        ⊎ IsOnlySynced (history_of ⟦<B as Disk>⟧ disk.old) (history_of ⟦<B as Disk>⟧ disk.new))) }
-    ensures memory { result ≡ Err Refusal.NoMemory → IsUnformatted (B.seen disk.old) → IsUnformatted (B.seen disk.new) }
-    ensures only { IfErr result (λ e. (e ≡ Refusal.BadShape) ⊎ ((e ≡ Refusal.AlreadyFormatted)
-        ⊎ ((e ≡ Refusal.NoMemory) ⊎ (e ≡ Refusal.Fault)))) }
-    ensures length { length (B.seen disk.new) ≡ length (B.seen disk.old) }
+    ensures made { OnOk result (IsMadeStore ⟦<B as Disk>⟧ (IsCopied shape state.now) disk.old disk.new) }
+    ensures suits { OnOk result (Fits shape (length (B.seen disk.old)) × HasRoom state.now.limits shape) }
+    ensures any_moment { MakesOrSpares ⟦<B as Disk>⟧ (IsCopied shape state.now) disk.old disk.new }
+    ensures refused { IfErr result (λ e. MakingIsRefused ⟦<B as Disk>⟧
+        (Fits shape (length (B.seen disk.old)) → ¬ HasRoom state.now.limits shape) e disk.old disk.new) }
+    ensures only { IfErr result (λ e. IsOneOf e (Refusal.BadShape ∷ Refusal.AlreadyFormatted ∷ Refusal.NoMemory ∷ Refusal.Fault ∷ [])) }
     ensures faults { CountsFaultsAs ⟦<B as Disk>⟧ Refusal.Fault result disk.old disk.new }
 {
     let documents = copy_all(alloc, state)?;

@@ -1,5 +1,5 @@
 //! A document as a store of the second format begins with it.
-ghost use Rattle.std.specs.Prelude.{◌≤◌, ◌<◌, ◌^◌, ℕ, IfOk, IsOkUnless};
+ghost use Rattle.std.specs.Prelude.{◌≤◌, ◌<◌, ◌^◌, ℕ, IfOk};
 ghost use Rattle.revision.specs.Pending.{record_of};
 ghost use Rattle.revision.specs.State.{Limits};
 ghost use Rattle.revision.specs.Invariants.{IsState, IsPast};
@@ -7,19 +7,17 @@ ghost use Rattle.milestone.specs.CellSpelling.{IsCell};
 ghost use Rattle.migration.specs.Migrated.{IsCutTo, AreCut, AreSpelled};
 
 use milestone::Milestone;
-use refusal::Refusal;
 use revision::{DocState, State};
-use std::alloc::Global;
+use std::alloc::{AllocError, Global};
 
 /// The documents of a state at their newest revisions, live or deleted, each source with its last number alone.
-pub(crate) fn cut_all(alloc: Global, state: &State) -> Result<Vec<Milestone>, Refusal>
+pub(crate) fn cut_all(alloc: Global, state: &State) -> Result<Vec<Milestone>, AllocError>
     requires { state.now.limits.weight < 2 ^ 30 }
     ensures cut { IfOk result (λ start. AreCut state.now start.items) }
     ensures spelled { IfOk result (λ start. AreSpelled start.items) }
     ensures state { IsState state.now }
-    ensures only { IsOkUnless result Refusal.NoMemory }
 {
-    let _ = state.limits();
+    state.facts();
     let documents = state.documents();
     let mut start = Vec::with_capacity(alloc, documents.len())?;
     for document in documents {
@@ -28,12 +26,11 @@ pub(crate) fn cut_all(alloc: Global, state: &State) -> Result<Vec<Milestone>, Re
     Ok(start)
 }
 
-fn cut_document(alloc: Global, document: &DocState) -> Result<Milestone, Refusal>
+fn cut_document(alloc: Global, document: &DocState) -> Result<Milestone, AllocError>
     requires { (limits : Limits) × IsPast limits (record_of document.now).past × (limits.weight < 2 ^ 30)
         × (limits.sources ≤ 4096) }
     ensures cut { IfOk result (λ cell. IsCutTo (record_of document.now) cell) }
     ensures spelled { IfOk result (λ cell. (number : ℕ) → number < 2 ^ 32 → IsCell number cell) }
-    ensures only { IsOkUnless result Refusal.NoMemory }
 {
     let name = document.name().copy(alloc)?;
     let content = document.document().copy(alloc)?;
@@ -45,6 +42,8 @@ fn cut_document(alloc: Global, document: &DocState) -> Result<Milestone, Refusal
         document.is_live(),
         sources,
     );
-    let _ = cut.content(alloc)?;
-    Ok(cut)
+    match cut.content(alloc) {
+        Ok(_) => Ok(cut),
+        Err(refusal) => Err(refusal.as_alloc_error()),
+    }
 }

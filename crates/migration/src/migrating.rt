@@ -1,16 +1,13 @@
 //! Reading a store of the first format, and putting it on a new device.
-ghost use Rattle.std.specs.Prelude.{◌≡◌, ◌⊎◌, ◌<◌, ◌^◌, [], true, length, Err, OnOk, IfOk, IfErr, IsErrOf};
+ghost use Rattle.std.specs.Prelude.{◌≡◌, ◌⊎◌, ◌<◌, ◌^◌, [], length, Err, OnOk, IfOk, IfErr, ◌∷◌};
+ghost use Rattle.refusal.specs.Refusal.{IsOneOf};
 ghost use Rattle.disk.specs.Calls.{CountsFaultsAs};
 ghost use Rattle.disk.specs.Crash.{history_of};
-ghost use Rattle.disk.specs.Device.{Rose};
-ghost use Rattle.history.specs.declared.pick.Pick.TheVariants.{Newer};
 ghost use Rattle.milestone.specs.declared.format.Format.TheVariants.{One, Two};
-ghost use Rattle.revision.specs.State.{State as StateValue};
 ghost use Rattle.recovery.specs.Shape.{layout_length};
-ghost use Rattle.recovery.specs.Layout.{IsFormatted, IsOfFormat};
-ghost use Rattle.recovery.specs.Found.{FoundIn};
-ghost use Rattle.recovery.specs.Formatting.{Fits, IsUnformatted, IsBegunStore, IsUnformattedOrBegun, IsOnlySynced, LeavesFromSync};
-ghost use Rattle.migration.specs.Migrated.{AreCut, IsMigrated, IsUnformattedOrMigrated};
+ghost use Rattle.recovery.specs.Layout.{IsFormatted};
+ghost use Rattle.recovery.specs.Formatting.{Fits, IsBegunStore, IsOnlySynced};
+ghost use Rattle.migration.specs.Brought.{OfStore, IsOldRead, IsMigratedFrom, ReadingIsRefused, IsMadeStore, MakesOrSpares, MakingIsRefused, IsBrought, BringingIsRefused};
 
 use crate::cutting::cut_all;
 use disk::Disk;
@@ -47,44 +44,16 @@ pub fn migrate<A: Disk, B: Disk>(alloc: Global, old: &mut A, new: &mut B) -> Res
     // The old device is read alone.
     ensures old { IsOnlySynced (history_of ⟦<A as Disk>⟧ old.old) (history_of ⟦<A as Disk>⟧ old.new) }
     ensures synced_old { OnOk result (A.unsynced old.new ≡ []) }
-    ensures not_formatted { result ≡ Err Refusal.NotFormatted → A.honest old.new → ¬ IsFormatted (A.seen old.old) }
-    ensures not_old { result ≡ Err Refusal.NotOld → A.honest old.new → IsOfFormat Two (A.seen old.old) }
-    ensures damaged { result ≡ Err Refusal.Damaged → A.honest old.new → IsFormatted (A.seen old.old)
-        × ¬ IsOfFormat Two (A.seen old.old) × ((found : StateValue) → ¬ FoundIn One (A.seen old.old) Newer found) }
 
-    // From the first sync of a device without a store on, a crash at any moment leaves that device without one, or with one of the old
-    // shape that is found as the documents of the old one with their windows cut, and that can be opened; at Ok the latter.
-    ensures from_sync { A.honest old.new → IsUnformatted (B.seen new.old) → (state : StateValue)
-        → (is : FoundIn One (A.seen old.old) Newer state)
-        → LeavesFromSync (IsUnformattedOrMigrated is.shape state) (history_of ⟦<B as Disk>⟧ new.old)
-        (history_of ⟦<B as Disk>⟧ new.new) }
-    ensures found { OnOk result (A.honest old.new
-        → (state : StateValue) × FoundIn One (A.seen old.old) Newer state) }
-    ensures done { OnOk result (A.honest old.new → (state : StateValue)
-        → (is : FoundIn One (A.seen old.old) Newer state) → IsMigrated is.shape state (B.seen new.new)) }
-    ensures synced { OnOk result (B.unsynced new.new ≡ []) }
-
-    // A new device that has a store is refused, and stays unchanged; so is one that is too short.
-    ensures already_formatted { result ≡ Err Refusal.AlreadyFormatted → B.honest new.new → IsFormatted (B.seen new.old) }
-    ensures formatted { OnOk result (B.honest new.new → ¬ IsFormatted (B.seen new.old)) }
-    ensures too_short { result ≡ Err Refusal.BadShape → B.honest new.new → ¬ IsFormatted (B.seen new.old) }
-    ensures kept { B.honest new.new → IsFormatted (B.seen new.old)
-        → IsOnlySynced (history_of ⟦<B as Disk>⟧ new.old) (history_of ⟦<B as Disk>⟧ new.new) }
-    ensures bad_shape { result ≡ Err Refusal.BadShape → A.honest old.new → (state : StateValue)
-        → (is : FoundIn One (A.seen old.old) Newer state) → ¬ Fits is.shape (length (B.seen new.old)) }
-    // All but `Fault` and `NoMemory` come before the first write.
-    ensures refused { IfErr result (λ e. (e ≡ Refusal.Fault) ⊎ ((e ≡ Refusal.NoMemory)
-        ⊎ IsOnlySynced (history_of ⟦<B as Disk>⟧ new.old) (history_of ⟦<B as Disk>⟧ new.new))) }
-    // Neither refusal comes before the old store is found.
-    ensures old_first { IfErr result (λ e. (e ≡ Refusal.AlreadyFormatted) ⊎ (e ≡ Refusal.BadShape) → A.honest old.new
-        → (state : StateValue) × FoundIn One (A.seen old.old) Newer state) }
-    ensures memory { result ≡ Err Refusal.NoMemory → IsUnformatted (B.seen new.old) → IsUnformatted (B.seen new.new) }
-    ensures length { length (B.seen new.new) ≡ length (B.seen new.old) }
-    ensures failed { IsErrOf result Refusal.Fault → Rose (A.faults old.old) (A.faults old.new)
-        ⊎ Rose (B.faults new.old) (B.faults new.new) }
-    ensures only { IfErr result (λ e. (e ≡ Refusal.NotFormatted) ⊎ ((e ≡ Refusal.NotOld) ⊎ ((e ≡ Refusal.Damaged)
-        ⊎ ((e ≡ Refusal.BadShape) ⊎ ((e ≡ Refusal.AlreadyFormatted) ⊎ ((e ≡ Refusal.NoMemory)
-        ⊎ (e ≡ Refusal.Fault))))))) }
+    // The new one is a store of the old shape, which is found as the documents of the old one with their windows cut, and can be opened.
+    ensures brought { OnOk result (IsBrought ⟦<A as Disk>⟧ ⟦<B as Disk>⟧ One
+        (IsMigratedFrom ⟦<A as Disk>⟧ old.old old.new) old.old old.new new.old new.new) }
+    // A crash at any moment leaves a device without a store without one, or with that one. A device with a store is left as it is.
+    ensures any_moment { MakesOrSpares ⟦<B as Disk>⟧ (IsMigratedFrom ⟦<A as Disk>⟧ old.old old.new) new.old new.new }
+    // Why nothing is brought over, and what is left: a device that is too short is refused.
+    ensures refused { IfErr result (λ e. BringingIsRefused ⟦<A as Disk>⟧ ⟦<B as Disk>⟧ One Two Refusal.NotOld
+        (OfStore ⟦<A as Disk>⟧ One (λ found _. ¬ Fits found (length (B.seen new.old))) old.old old.new)
+        e old.old old.new new.old new.new) }
 {
     let read = Old::read(alloc, old)?;
     read.put_on(alloc, new)
@@ -93,23 +62,11 @@ pub fn migrate<A: Disk, B: Disk>(alloc: Global, old: &mut A, new: &mut B) -> Res
 impl Old {
     /// Reads a device of the first format, and writes nothing.
     pub fn read<A: Disk>(alloc: Global, disk: &mut A) -> Result<Old, Refusal>
-        ensures found { OnOk result (A.honest disk.new
-            → (state : StateValue) × FoundIn One (A.seen disk.old) Newer state) }
-        ensures cut { IfOk result (λ old. A.honest disk.new → (state : StateValue)
-            → FoundIn One (A.seen disk.old) Newer state → AreCut state old.start) }
-        ensures shape { IfOk result (λ old. A.honest disk.new → (state : StateValue)
-            → (is : FoundIn One (A.seen disk.old) Newer state) → is.shape ≡ old.shape) }
-        ensures not_formatted { IfErr result (λ e. e ≡ Refusal.NotFormatted → A.honest disk.new
-            → ¬ IsFormatted (A.seen disk.old)) }
-        ensures not_old { IfErr result (λ e. e ≡ Refusal.NotOld → A.honest disk.new
-            → IsOfFormat Two (A.seen disk.old)) }
-        ensures damaged { IfErr result (λ e. e ≡ Refusal.Damaged → A.honest disk.new → IsFormatted (A.seen disk.old)
-            × ¬ IsOfFormat Two (A.seen disk.old)
-            × ((found : StateValue) → ¬ FoundIn One (A.seen disk.old) Newer found)) }
-        ensures only { IfErr result (λ e. (e ≡ Refusal.NotFormatted) ⊎ ((e ≡ Refusal.NotOld)
-            ⊎ ((e ≡ Refusal.Damaged) ⊎ ((e ≡ Refusal.NoMemory) ⊎ (e ≡ Refusal.Fault))))) }
+        ensures read { IfOk result (λ old. IsOldRead ⟦<A as Disk>⟧ old disk.old disk.new) }
+        ensures refused { IfErr result (λ e. ReadingIsRefused ⟦<A as Disk>⟧ One Two Refusal.NotOld e disk.old disk.new) }
+        ensures only { IfErr result (λ e. IsOneOf e
+            (Refusal.NotFormatted ∷ Refusal.NotOld ∷ Refusal.Damaged ∷ Refusal.NoMemory ∷ Refusal.Fault ∷ [])) }
         ensures only_synced { IsOnlySynced (history_of ⟦<A as Disk>⟧ disk.old) (history_of ⟦<A as Disk>⟧ disk.new) }
-        ensures synced { OnOk result (A.unsynced disk.new ≡ []) }
         ensures honest { A.honest disk.new → A.honest disk.old }
         ensures faults { CountsFaultsAs ⟦<A as Disk>⟧ Refusal.Fault result disk.old disk.new }
     {
@@ -128,24 +85,13 @@ impl Old {
 
     // Makes a device a store that begins with the documents.
     fn put_on<B: Disk>(&self, alloc: Global, disk: &mut B) -> Result<(), Refusal>
-        ensures from_sync { IsUnformatted (B.seen disk.old)
-            → LeavesFromSync (IsUnformattedOrBegun self.now.shape self.now.start)
-            (history_of ⟦<B as Disk>⟧ disk.old) (history_of ⟦<B as Disk>⟧ disk.new) }
-        ensures done { OnOk result (IsBegunStore self.now.shape self.now.start (B.seen disk.new)) }
-        ensures synced { OnOk result (B.unsynced disk.new ≡ []) }
-        ensures kept { B.honest disk.new → IsFormatted (B.seen disk.old)
-            → IsOnlySynced (history_of ⟦<B as Disk>⟧ disk.old) (history_of ⟦<B as Disk>⟧ disk.new) }
-        ensures already_formatted { result ≡ Err Refusal.AlreadyFormatted → B.honest disk.new
-            → IsFormatted (B.seen disk.old) }
+        ensures made { OnOk result (IsMadeStore ⟦<B as Disk>⟧ (IsBegunStore self.now.shape self.now.start) disk.old disk.new) }
         ensures formatted { B.honest disk.new → IsFormatted (B.seen disk.old)
             → (result ≡ Err Refusal.AlreadyFormatted) ⊎ (result ≡ Err Refusal.Fault) }
-        ensures bad_shape { result ≡ Err Refusal.BadShape → ¬ Fits self.now.shape (length (B.seen disk.old)) }
-        ensures refused { IfErr result (λ e. (e ≡ Refusal.Fault) ⊎ ((e ≡ Refusal.NoMemory)
-            ⊎ IsOnlySynced (history_of ⟦<B as Disk>⟧ disk.old) (history_of ⟦<B as Disk>⟧ disk.new))) }
-        ensures memory { result ≡ Err Refusal.NoMemory → IsUnformatted (B.seen disk.old) → IsUnformatted (B.seen disk.new) }
-        ensures only { IfErr result (λ e. (e ≡ Refusal.BadShape) ⊎ ((e ≡ Refusal.AlreadyFormatted)
-            ⊎ ((e ≡ Refusal.NoMemory) ⊎ (e ≡ Refusal.Fault)))) }
-        ensures length { length (B.seen disk.new) ≡ length (B.seen disk.old) }
+        ensures any_moment { MakesOrSpares ⟦<B as Disk>⟧ (IsBegunStore self.now.shape self.now.start) disk.old disk.new }
+        ensures refused { IfErr result (λ e. MakingIsRefused ⟦<B as Disk>⟧
+            (¬ Fits self.now.shape (length (B.seen disk.old))) e disk.old disk.new) }
+        ensures only { IfErr result (λ e. IsOneOf e (Refusal.BadShape ∷ Refusal.AlreadyFormatted ∷ Refusal.NoMemory ∷ Refusal.Fault ∷ [])) }
         ensures honest { B.honest disk.new → B.honest disk.old }
         ensures faults { CountsFaultsAs ⟦<B as Disk>⟧ Refusal.Fault result disk.old disk.new }
     {

@@ -1,5 +1,6 @@
 //! The numbers of a store that is there.
-ghost use Rattle.std.specs.Prelude.{◌≡◌, ◌⊎◌, ◌↔◌, ◌+◌, ◌≤◌, true, IsTrue, length, take, drop, IfOk, IfErr, IsErrOf};
+ghost use Rattle.std.specs.Prelude.{◌≡◌, ◌↔◌, ◌+◌, ◌≤◌, true, IsTrue, length, take, drop, IfOk, IfErr, IsErrOf, [], ◌∷◌};
+ghost use Rattle.refusal.specs.Refusal.{IsOneOf};
 ghost use Rattle.std.specs.Int.{w32, from_le_bytes};
 ghost use Rattle.disk.specs.Crash.{history_of};
 ghost use Rattle.disk.specs.Device.{Rose};
@@ -37,8 +38,8 @@ pub fn shape_of<A: Disk>(alloc: Global, device: A) -> Numbered<A>
     ensures damaged { IsErrOf result.shape Refusal.Damaged → A.honest result.device → IsFormatted (A.seen device)
         × ¬ IsOldFormat (A.seen device) × ((found : StateValue) → ¬ Found (A.seen device) Newer found) }
     ensures failed { IsErrOf result.shape Refusal.Fault → Rose (A.faults device) (A.faults result.device) }
-    ensures only { IfErr result.shape (λ e. (e ≡ Refusal.NotFormatted) ⊎ ((e ≡ Refusal.OldFormat)
-        ⊎ ((e ≡ Refusal.Damaged) ⊎ ((e ≡ Refusal.NoMemory) ⊎ (e ≡ Refusal.Fault))))) }
+    ensures only { IfErr result.shape (λ e. IsOneOf e
+        (Refusal.NotFormatted ∷ Refusal.OldFormat ∷ Refusal.Damaged ∷ Refusal.NoMemory ∷ Refusal.Fault ∷ [])) }
 {
     match Store::open(alloc, device, Pick::Newer) {
         Ok(store) => read_numbers(store),

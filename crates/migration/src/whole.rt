@@ -1,5 +1,5 @@
 //! A document as a store of other numbers begins with it.
-ghost use Rattle.std.specs.Prelude.{◌≡◌, ◌≤◌, ◌<◌, ◌^◌, ℕ, IfOk, IsOkUnless};
+ghost use Rattle.std.specs.Prelude.{◌≡◌, ◌≤◌, ◌<◌, ◌^◌, ℕ, IfOk};
 ghost use Rattle.revision.specs.Pending.{record_of};
 ghost use Rattle.revision.specs.State.{Limits};
 ghost use Rattle.revision.specs.Invariants.{IsState, IsPast};
@@ -9,19 +9,17 @@ ghost use Rattle.migration.specs.Migrated.{AreSpelled};
 ghost use Rattle.migration.specs.Copied.{AreCopied};
 
 use milestone::Milestone;
-use refusal::Refusal;
 use revision::{DocState, State};
-use std::alloc::Global;
+use std::alloc::{AllocError, Global};
 
 /// The documents of a state at their newest revisions, live or deleted, each source with its whole window.
-pub(crate) fn copy_all(alloc: Global, state: &State) -> Result<Vec<Milestone>, Refusal>
+pub(crate) fn copy_all(alloc: Global, state: &State) -> Result<Vec<Milestone>, AllocError>
     requires { state.now.limits.weight < 2 ^ 30 }
     ensures copied { IfOk result (λ start. AreCopied state.now start.items) }
     ensures spelled { IfOk result (λ start. AreSpelled start.items) }
     ensures state { IsState state.now }
-    ensures only { IsOkUnless result Refusal.NoMemory }
 {
-    let _ = state.limits();
+    state.facts();
     let documents = state.documents();
     let mut start = Vec::with_capacity(alloc, documents.len())?;
     for document in documents {
@@ -30,12 +28,11 @@ pub(crate) fn copy_all(alloc: Global, state: &State) -> Result<Vec<Milestone>, R
     Ok(start)
 }
 
-fn copy_document(alloc: Global, document: &DocState) -> Result<Milestone, Refusal>
+fn copy_document(alloc: Global, document: &DocState) -> Result<Milestone, AllocError>
     requires { (limits : Limits) × IsPast limits (record_of document.now).past × (limits.weight < 2 ^ 30)
         × (limits.sources ≤ 4096) }
     ensures copied { IfOk result (λ cell. cell ≡ newest_cell (record_of document.now)) }
     ensures spelled { IfOk result (λ cell. (number : ℕ) → number < 2 ^ 32 → IsCell number cell) }
-    ensures only { IsOkUnless result Refusal.NoMemory }
 {
     let name = document.name().copy(alloc)?;
     let content = document.document().copy(alloc)?;
@@ -47,6 +44,8 @@ fn copy_document(alloc: Global, document: &DocState) -> Result<Milestone, Refusa
         document.is_live(),
         sources,
     );
-    let _ = copy.content(alloc)?;
-    Ok(copy)
+    match copy.content(alloc) {
+        Ok(_) => Ok(copy),
+        Err(refusal) => Err(refusal.as_alloc_error()),
+    }
 }

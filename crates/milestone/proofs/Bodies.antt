@@ -101,9 +101,6 @@ module _ (format : Format) (n : ℕ) (low : n < 2 ^ 32) (bytes : List ℕ) where
   alone : (cell : Cell) → bytes ≡ cell_body_in format n cell → bytes ≡ cell_body_in format n cell ++ []
   alone cell spelled = spelled ∙ sym (append-nil (cell_body_in format n cell))
 
-  pub at_document : ((rest : List ℕ) → bytes ≡ number w32 n ++ rest → ⊥) → IsNone format n bytes
-  at_document none cell is spelled = none (behind_document format cell []) (alone cell spelled ∙ cell_parts format n cell [])
-
   module _ (rest : List ℕ) (there : bytes ≡ number w32 n ++ rest) where
     is_behind_document : (cell : Cell) (more : List ℕ) → bytes ≡ cell_body_in format n cell ++ more → rest ≡ behind_document format cell more
     is_behind_document cell more spelled = (one_number32_spelling n n rest (behind_document format cell more) low low (sym there ∙ spelled ∙ cell_parts format n cell more)).1

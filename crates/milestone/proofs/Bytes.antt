@@ -1,19 +1,13 @@
 -- The bytes of a cell, where the gate is written, and where it is written behind the gate.
 use Rattle.std.proofs.Common.{◌≡◌, ◌≢◌, ◌⊎◌, inl, inr, ℕ, ◌+◌, ◌-◌, ◌≤◌, ◌<◌, List, [], ◌∷◌, ◌++◌, length, take, drop, get_or, sym, ◌∙◌, ap, subst, arith}
 use Rattle.std.proofs.lemmas.Bool.{cases_eq}
-use Rattle.std.proofs.lemmas.List.{take-take, drop-take, drop-drop, drop_more, get_or-take, get_or-drop, length-take, length-drop}
+use Rattle.std.proofs.lemmas.List.{drop-take, drop-drop, drop_more, get_or-take, get_or-drop, length-take, length-drop}
 use Rattle.std.proofs.Math.Seq.{take-append-add}
 use Rattle.disk.specs.Device.{overwritten, SameOutside}
 use Rattle.disk.proofs.CallerLemmas.{length_overwritten, drop_overwritten, overwritten_same_outside, same_outside_wider, same_outside_then}
 use Rattle.journal.specs.Area.{open_gate, IsGated}
 use Rattle.milestone.specs.OneCell.{bytes_at}
-
--- a range before a place stays where all before the place does
-pub range_before : (p n q : ℕ) (old new : List ℕ) → p + n ≤ q → take q new ≡ take q old → take n (drop p new) ≡ take n (drop p old)
-range_before p n q old new ends same =
-    let part : (l : List ℕ) → take n (drop p l) ≡ drop p (take (p + n) (take q l)) =
-    λ l. sym (drop-take p n l) ∙ ap (λ (m : List ℕ). drop p m) (sym (take-take (p + n) q l ends)) in
-    part new ∙ ap (λ (l : List ℕ). drop p (take (p + n) l)) same ∙ sym (part old)
+pub use Rattle.disk.proofs.CallerLemmas.{range_before}
 
 -- the first byte of a cell is its gate
 pub first_byte : (q size : ℕ) (content : List ℕ) → 0 < size → get_or (bytes_at q size content) 0 0 ≡ get_or content q 0

@@ -1,16 +1,14 @@
 -- The parts of a cell's body: each has one spelling, and where none begins the bytes.
-use Rattle.std.proofs.Common.{◌≡◌, ℕ, zero, suc, ◌^◌, ◌≤◌, ◌<◌, ◌&&◌, nat_le, nat_lt, true, false, List, [], ◌∷◌, ◌++◌, length, get_or, refl, sym, ◌∙◌, ap, subst, arith, append_assoc, append-nil, length-append}
+use Rattle.std.proofs.Common.{◌≡◌, ℕ, ◌^◌, ◌≤◌, ◌<◌, ◌&&◌, nat_le, nat_lt, true, false, List, [], ◌∷◌, ◌++◌, length, refl, sym, ◌∙◌, ap, subst, arith, append_assoc, append-nil, length-append}
 use Rattle.std.specs.Int.{w32, w64}
 use Rattle.std.specs.List.{list_all, flat_map, AllByRecursion}
 use Rattle.std.specs.Str.{is_utf8}
 use Rattle.std.specs.Ordering.{is_lt}
 use Rattle.std.specs.FinMap.Entries.{is_sorted}
-use Rattle.std.proofs.lemmas.Bool.{and_parts, and_from, leb-true, ltb-true, le-leb}
-use Rattle.std.proofs.lemmas.Bool.Decides.{nat_tests}
+use Rattle.std.proofs.lemmas.Bool.{and_parts, ltb-true}
 use Rattle.std.proofs.lemmas.List.{nil_from_length}
 use Rattle.std.proofs.lemmas.List.Concat.{flat_map-append}
 use Rattle.std.proofs.lemmas.List.Elements.{All-from_recursion, recursion_from_All}
-use Rattle.std.proofs.lemmas.Str.{IsUtf8-from_ascii, is_utf8-from_IsUtf8}
 use Rattle.attributes.specs.Map.{by_bytes, same_entries_map}
 use Rattle.delta.specs.Element.{Element}
 use Rattle.delta.specs.Operation.{Operation, base_of}
@@ -21,7 +19,6 @@ use Rattle.revision.specs.Name.{is_name_byte, is_name, is_source_name}
 use Rattle.revision.specs.Window.{Window}
 use Rattle.revision.specs.Sources.{Sources, count_of}
 use Rattle.revision.specs.Spellable.{IsSpellable}
-use Rattle.revision.specs.State.{last_of_all}
 use Rattle.journal.specs.Spelling.{number, text16}
 use Rattle.journal.specs.DeltaSpelling.{delta}
 use Rattle.journal.proofs.CallerLemmas.{delta-append_same, one_text_spelling, one_number32_spelling, one_number64_spelling}
@@ -29,23 +26,9 @@ use Rattle.milestone.specs.CellSpelling.{Format, inserts_of, window, source, sou
 use Rattle.milestone.specs.steps.Reading.{BeginsNone, IsAbove, IsWithin, IsContent, content_bytes, IsWindowIn, IsSource, AreSources, sources_bytes}
 use Rattle.milestone.proofs.Windows.{one_window}
 use Rattle.milestone.proofs.Order.{above, IsLast, sorted_above, from_T}
+pub use Rattle.journal.proofs.CallerLemmas.{is_utf8-is_name as name_text, is_name-short as name_short}
 
 -- ---- names
-
-is_name_byte_ascii : (b : ℕ) → is_name_byte b ≡ true → b < 128
-is_name_byte_ascii b e = grind (arith, nat_tests)
-
-is_name_ascii : (text : List ℕ) → list_all is_name_byte text ≡ true → (i : ℕ) → get_or text i 0 < 128
-is_name_ascii [] e i = omega arith
-is_name_ascii (b ∷ bytes) e zero = is_name_byte_ascii b (and_parts (is_name_byte b) (list_all is_name_byte bytes) e).0
-is_name_ascii (b ∷ bytes) e (suc i) = is_name_ascii bytes (and_parts (is_name_byte b) (list_all is_name_byte bytes) e).1 i
-
--- a name is text of few bytes
-pub name_text : (longest : ℕ) (text : List ℕ) → is_name longest text ≡ true → is_utf8 text ≡ true
-name_text longest text e = is_utf8-from_IsUtf8 text (IsUtf8-from_ascii text (is_name_ascii text (and_parts _ (list_all is_name_byte text) e).1))
-
-pub name_short : (longest : ℕ) (text : List ℕ) → is_name longest text ≡ true → length text ≤ longest
-name_short longest text e = leb-true _ _ (and_parts _ _ (and_parts _ (list_all is_name_byte text) e).0).1
 
 pub name_some : (longest : ℕ) (text : List ℕ) → is_name longest text ≡ true → 1 ≤ length text
 name_some longest text e =

@@ -1,5 +1,5 @@
 -- The one delta for deltas that stand in turn.
-use Rattle.std.proofs.Common.{◌≡◌, ℕ, zero, suc, ◌/◌, ◌≤◌, ◌^◌, List, [], ◌∷◌, length, take, drop, refl, sym, ap, subst, ◌∙◌, arith}
+use Rattle.std.proofs.Common.{◌≡◌, ℕ, zero, suc, ◌/◌, ◌≤◌, ◌^◌, List, [], ◌∷◌, length, take, drop, sym, ap, subst, ◌∙◌, arith}
 use Rattle.refusal.specs.declared.Refusal.{Refusal}
 use Rattle.refusal.specs.declared.Refusal.TheVariants.{NoMemory}
 use Rattle.delta.specs.Element.{Element}
@@ -13,6 +13,7 @@ use Rattle.revision.specs.Past.{StandInTurn}
 use Rattle.revision.proofs.CallerLemmas.{stand-take, stand-drop}
 use Rattle.milestone.specs.Job.{Job, IsJob, units_of_job}
 use Rattle.milestone.specs.Halves.{IsPart, ComposesPart, first_half, second_half}
+pub use Rattle.revision.proofs.CallerLemmas.{applied-split as applied-parts}
 
 -- they are defined in turn, and part no pair
 pub are_defined : (units : List Element) (deltas : List (List Operation)) → StandInTurn units deltas → AreDefined units deltas
@@ -49,12 +50,12 @@ one_accepted units deltas one short turn composes =
     )
 
 -- a part of them has no longer lengths
-lengths-take : (n : ℕ) (deltas : List (List Operation)) → lengths_of (take n deltas) ≤ lengths_of deltas
+pub lengths-take : (n : ℕ) (deltas : List (List Operation)) → lengths_of (take n deltas) ≤ lengths_of deltas
 lengths-take zero deltas = omega arith
 lengths-take (suc n) [] = omega arith
 lengths-take (suc n) (first ∷ others) = omega (arith, lengths-take n others)
 
-lengths-drop : (n : ℕ) (deltas : List (List Operation)) → lengths_of (drop n deltas) ≤ lengths_of deltas
+pub lengths-drop : (n : ℕ) (deltas : List (List Operation)) → lengths_of (drop n deltas) ≤ lengths_of deltas
 lengths-drop zero deltas = omega arith
 lengths-drop (suc n) [] = omega arith
 lengths-drop (suc n) (first ∷ others) = omega (arith, lengths-drop n others)
@@ -88,12 +89,6 @@ first_part job is = part-take (length job.deltas / 2) job.deltas (job_part job i
 
 pub second_part : (job : Job) → IsJob job → IsPart (second_half job.deltas)
 second_part job is = part-drop (length job.deltas / 2) job.deltas (job_part job is)
-
--- the second half after the first
-pub applied-parts : (n : ℕ) (units : List Element) (deltas : List (List Operation)) → applied (applied units (take n deltas)) (drop n deltas) ≡ applied units deltas
-applied-parts zero units deltas = refl
-applied-parts (suc n) units [] = refl
-applied-parts (suc n) units (first ∷ others) = applied-parts n (apply units (counted first)) others
 
 -- the one delta for all, on the units of the job
 pub all_accepted : (job : Job) (units : List Element) (one : List Operation) → IsJob job → units ≡ units_of_job job → ComposesPart one job.deltas

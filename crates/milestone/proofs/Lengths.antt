@@ -1,5 +1,5 @@
 -- The lengths of the inserts and the deltas that a revision is made of.
-use Rattle.std.proofs.Common.{◌≡◌, ℕ, zero, suc, ◌+◌, ◌-◌, ◌*◌, ◌≤◌, ◌^◌, List, [], ◌∷◌, length, take, drop, sym, ap, subst, length-append, arith}
+use Rattle.std.proofs.Common.{◌≡◌, ℕ, suc, ◌+◌, ◌-◌, ◌*◌, ◌≤◌, ◌^◌, List, [], ◌∷◌, length, take, sym, ap, subst, length-append, arith}
 use Rattle.std.specs.Prelude.{◌<◌}
 use Rattle.std.proofs.lemmas.List.{length-map}
 use Rattle.delta.specs.Element.{Element}
@@ -9,13 +9,15 @@ use Rattle.delta.specs.Normal.{nf}
 use Rattle.delta.proofs.CallerLemmas.{apply-nf, base_of-nf, length-apply_counted, units_below-counted}
 use Rattle.document.specs.Weight as document
 use Rattle.compose.specs.Many.{applied, lengths_of}
-use Rattle.revision.specs.Past.{Past, Change, StandInTurn, StayShort, newest, newest_units, content_at, sources_at, deltas_of, deltas_above}
+use Rattle.revision.specs.Past.{Past, Change, StandInTurn, StayShort, newest, content_at, sources_at, deltas_of, deltas_above}
 use Rattle.revision.specs.Sources.{Sources}
 use Rattle.revision.specs.Replay.{IsReplay}
 use Rattle.revision.specs.State.{Limits, weight_of}
 use Rattle.revision.specs.Invariants.{IsLimits, IsPast}
 use Rattle.milestone.specs.Job.{KeepLengths}
 use Rattle.milestone.specs.Law.{PastsKeepLengths}
+use Rattle.revision.proofs.CallerLemmas.{short-first}
+use Rattle.milestone.proofs.InTurn.{lengths-drop, lengths-take}
 
 -- each unit weighs 12 and more
 heavy : (units : List Element) → 12 * length units ≤ document.weight_of units
@@ -38,10 +40,6 @@ inserts_short units short =
       length-append units [],
     )
 
-short_here : (units : List Element) (deltas : List (List Operation)) → StayShort units deltas → length units ≤ 2 ^ 29
-short_here units [] short = short
-short_here units (taken ∷ others) short = short.0
-
 -- a delta that stands on a short document and leaves one has short lengths
 lengths_in_turn : (units : List Element) (deltas : List (List Operation)) → StandInTurn units deltas → StayShort units deltas
     → lengths_of deltas ≤ 2 ^ 30 * length deltas
@@ -53,20 +51,9 @@ lengths_in_turn units (taken ∷ others) stand short =
       base,
       short.0,
       length-apply_counted units taken base,
-      short_here (apply units (counted taken)) others short.1,
+      short-first (apply units (counted taken)) others short.1,
       lengths_in_turn (apply units (counted taken)) others stand.1 short.1,
     )
-
--- some of them have no more
-lengths_first : (count : ℕ) (deltas : List (List Operation)) → lengths_of (take count deltas) ≤ lengths_of deltas
-lengths_first zero deltas = omega arith
-lengths_first (suc count) [] = omega arith
-lengths_first (suc count) (taken ∷ others) = omega (arith, lengths_first count others)
-
-lengths_after : (count : ℕ) (deltas : List (List Operation)) → lengths_of (drop count deltas) ≤ lengths_of deltas
-lengths_after zero deltas = omega arith
-lengths_after (suc count) [] = omega arith
-lengths_after (suc count) (taken ∷ others) = omega (arith, lengths_after count others)
 
 -- where the document is short after each count of them, it stays short
 stays_short : (units : List Element) (deltas : List (List Operation))
@@ -108,8 +95,8 @@ module _ (limits : Limits) (past : Past) (ranges : IsLimits limits) (keeps : IsP
         arith,
         inserts_short units (subst (λ (u : List Element). length u ≤ 2 ^ 29) (sym is.content) (short_at is.base is.held (omega (arith, is.below, there)))),
         ap lengths_of is.between,
-        lengths_first (revision - is.base) (deltas_above past is.base),
-        lengths_after (is.base - past.floor) (deltas_of past),
+        lengths-take (revision - is.base) (deltas_above past is.base),
+        lengths-drop (is.base - past.floor) (deltas_of past),
         all_lengths,
       )
 

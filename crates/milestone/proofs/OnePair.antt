@@ -1,9 +1,9 @@
 -- A content holds one pair of a document's cells at most.
-use Rattle.std.proofs.Common.{◌≡◌, ℕ, ◌+◌, ◌*◌, ◌≤◌, Option, Some, None, List, take, drop, refl, sym, ◌∙◌, ap}
+use Rattle.std.proofs.Common.{◌≡◌, ℕ, ◌+◌, Option, Some, None, List, drop, refl, sym, ◌∙◌, ap}
 use Rattle.history.specs.Cell.{Cell, Pair}
 use Rattle.milestone.specs.CellSpelling.{Format}
-use Rattle.milestone.specs.OneCell.{bytes_at, HoldsOpenCellIn, HoldsCellIn, HoldsPairIn, HoldsPair}
-use Rattle.milestone.proofs.Holding.{open_there, agree_within}
+use Rattle.milestone.specs.OneCell.{bytes_at, HoldsOpenCellIn, HoldsCellIn, HoldsPairIn}
+use Rattle.milestone.proofs.Holding.{open_there}
 use Rattle.milestone.proofs.Bodies.{one_cell_body}
 
 one_open_cell : (format : Format) (number : ℕ) (bytes : List ℕ) (a b : Cell) → HoldsOpenCellIn format number bytes a → HoldsOpenCellIn format number bytes b → a ≡ b
@@ -21,8 +21,3 @@ one_pair format place size number content a b holds_a holds_b = λ i. (
   one_cell format place size number content a.0 b.0 holds_a.first holds_b.first i,
   one_cell format (place + size) size number content a.1 b.1 holds_a.second holds_b.second i,
 )
-
--- cells of a byte or more, in contents that agree within their range
-pub pair_stays : (place size number : ℕ) (old content : List ℕ) (pair : Pair) → 1 ≤ size → take (2 * size) (drop place content) ≡ take (2 * size) (drop place old)
-    → HoldsPair place size number old pair → HoldsPair place size number content pair
-pair_stays place size number old content pair some same holds = agree_within place size number old content pair same holds

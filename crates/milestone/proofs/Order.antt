@@ -1,23 +1,13 @@
 -- Sources in the order of their names.
-use Rattle.std.proofs.Common.{◌≡◌, ℕ, ◌≤◌, Bool, true, false, List, [], ◌∷◌, ◌++◌, length, refl, ap, ◌∙◌, arith, T, Ordering, Less, Equal, Greater}
+use Rattle.std.proofs.Common.{◌≡◌, ℕ, ◌≤◌, Bool, true, List, [], ◌∷◌, ◌++◌, length, refl, ap, ◌∙◌, Greater}
 use Rattle.std.specs.Prelude.{◌&&◌}
 use Rattle.std.specs.Ordering.{is_lt, ordering_reverse}
 use Rattle.std.specs.Cmp.Lexicographic.{nat_list_cmp_total}
 use Rattle.std.specs.FinMap.Entries.{put, is_sorted, below_all}
 use Rattle.std.proofs.lemmas.Bool.{and_parts, and_from}
 use Rattle.attributes.specs.Map.{Map, insert, by_bytes}
-
-pub less : (o : Ordering) → is_lt o ≡ true → o ≡ Less
-less Less h = refl
-less Equal h = absurd cc
-less Greater h = absurd cc
-
-pub from_T : (b : Bool) → T b → b ≡ true
-from_T true h = refl
-from_T false h = absurd h
-
-lower : (a b c : List ℕ) → is_lt (by_bytes a b) ≡ true → is_lt (by_bytes b c) ≡ true → is_lt (by_bytes a c) ≡ true
-lower a b c p q = ap is_lt (nat_list_cmp_total.trans a b c (less _ p) (less _ q))
+pub use Rattle.journal.proofs.CallerLemmas.{from_T, less}
+use Rattle.journal.proofs.CallerLemmas.{lower}
 
 module _ {X : Type 0} where
   -- the name is above all that stand there
@@ -68,14 +58,3 @@ module _ {X : Type 0} where
   sorted_above (e ∷ es) x more h =
       let parts = and_parts (below_all by_bytes e.0 (es ++ x ∷ more)) (is_sorted by_bytes (es ++ x ∷ more)) h in
       and_from _ _ (below-all-there e.0 es x more parts.0) (sorted_above es x more parts.1)
-
--- nothing is above nothing
-pub last_of_none : (X : Type 0) → IsLast {X = X} [] []
-last_of_none X = record {
-  reaches = λ name h. refl;
-  back = λ name some all. nothing_is_lower name some;
-}
-  where
-    nothing_is_lower : (name : List ℕ) → 1 ≤ length name → is_lt (by_bytes [] name) ≡ true
-    nothing_is_lower [] some = absurd (omega arith)
-    nothing_is_lower (b ∷ name) some = refl

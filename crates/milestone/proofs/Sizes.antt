@@ -1,11 +1,11 @@
 -- A cell that keeps the limits has its place in as many bytes as a document may weigh, and 128 more.
-use Rattle.std.proofs.Common.{◌≡◌, ℕ, suc, ◌+◌, ◌-◌, ◌*◌, ◌≤◌, ◌<◌, true, List, [], ◌∷◌, ◌++◌, length, sum_by, refl, sym, ap, subst, ◌∙◌, ⊎_elim, arith}
+use Rattle.std.proofs.Common.{◌≡◌, ℕ, ◌+◌, ◌-◌, ◌*◌, ◌≤◌, ◌<◌, true, List, [], ◌∷◌, ◌++◌, length, sum_by, refl, sym, ap, subst, ◌∙◌, ⊎_elim, arith}
 use Rattle.std.specs.Int.{w32, w64}
 use Rattle.std.specs.List.{flat_map, AllByRecursion}
 use Rattle.std.specs.Char.{encode_utf8, len_utf8}
 use Rattle.std.specs.Char.Escape.{encode_utf16}
 use Rattle.std.specs.Str.{IsUtf8, chars, encode_utf8_all}
-use Rattle.std.proofs.lemmas.Bool.{cond_both, and_parts, cases_lt, leb-true}
+use Rattle.std.proofs.lemmas.Bool.{cond_both, and_parts, cases_lt}
 use Rattle.std.proofs.lemmas.List.{length-append}
 use Rattle.std.proofs.lemmas.List.Sums.{sum_by-cons}
 use Rattle.std.proofs.lemmas.List.Elements.{recursion_from_All}
@@ -19,7 +19,7 @@ use Rattle.delta.specs.Element.{Element, Item, code_unit, embed}
 use Rattle.delta.specs.Operation.{Operation, insert_text, insert_embed, retain, delete}
 use Rattle.delta.specs.Normal.{spell_unit, spell_item, spell_inserts}
 use Rattle.document.specs.Weight.{named_weight, entries_weight, unit_weight, weight_of}
-use Rattle.revision.specs.Name.{is_name, is_source_name}
+use Rattle.revision.specs.Name.{is_source_name}
 use Rattle.revision.specs.Sources.{are_named, total_of}
 use Rattle.revision.specs.Window.{Window}
 use Rattle.revision.specs.State.{Limits, window_weight}
@@ -27,7 +27,7 @@ use Rattle.revision.specs.Spellable.{IsOperation}
 use Rattle.revision.specs.Width.{value_width, pair_width, operation_width, delta_width}
 use Rattle.journal.specs.Spelling.{number, text16}
 use Rattle.journal.specs.DeltaSpelling as deltas
-use Rattle.journal.proofs.CallerLemmas.{length-delta}
+use Rattle.journal.proofs.CallerLemmas.{length-delta, length-text16 as text, length-number32, length-number64, is_name-short}
 use Rattle.history.specs.Cell.{Cell, CellKeeps}
 use Rattle.milestone.specs.Milestone.{IsMilestone}
 use Rattle.milestone.specs.CellSpelling.{Two, mark, inserts_of, window, source, sources, cell_body_in, cell_body}
@@ -130,37 +130,20 @@ narrow_each : (ops : List Operation) → AllByRecursion IsOperation ops → AllB
 narrow_each [] each = tt
 narrow_each (op ∷ ops) each = (narrow_operation op each.0, narrow_each ops each.1)
 
--- numbers and texts
-number32 : (n : ℕ) → length (number w32 n) ≡ 4
-unfolding number
-number32 n = refl
-
-number64 : (n : ℕ) → length (number w64 n) ≡ 8
-unfolding number
-number64 n = refl
-
-text : (t : List ℕ) → length (text16 t) ≡ 2 + length t
-unfolding text16 number
-text t = omega arith
-
--- a name is no longer than it may be
-name_short : (longest : ℕ) (name : List ℕ) → is_name longest name ≡ true → length name ≤ longest
-name_short longest name is = leb-true _ _ (and_parts _ _ (and_parts _ _ is).0).1
-
 -- so many numbers of eight bytes
 numbers_long : (numbers : List ℕ) → length (flat_map (number w64) numbers) ≡ 8 * length numbers
 numbers_long [] = refl
-numbers_long (n ∷ numbers) = omega (arith, length-append (number w64 n) (flat_map (number w64) numbers), number64 n, numbers_long numbers)
+numbers_long (n ∷ numbers) = omega (arith, length-append (number w64 n) (flat_map (number w64) numbers), length-number64 n, numbers_long numbers)
 
 window_long : (w : Window) → length (window Two w) ≡ 9 + 8 * length w.revisions
 unfolding window
 window_long w =
-    omega (arith, length-append (number w64 w.number) (length w.revisions ∷ flat_map (number w64) w.revisions), number64 w.number, numbers_long w.revisions)
+    omega (arith, length-append (number w64 w.number) (length w.revisions ∷ flat_map (number w64) w.revisions), length-number64 w.number, numbers_long w.revisions)
 
 -- a source takes at most 43 bytes, and 8 for each number of its window
 source_short : (s : List ℕ × Window) → is_source_name s.0 ≡ true → length (source Two s) ≤ 43 + 8 * length s.1.revisions
 unfolding source
-source_short s is = omega (arith, length-append (text16 s.0) (window Two s.1), text s.0, window_long s.1, name_short 32 s.0 is)
+source_short s is = omega (arith, length-append (text16 s.0) (window Two s.1), text s.0, window_long s.1, is_name-short 32 s.0 is)
 
 -- which is less than it weighs, where a further number weighs 8
 window_weighs : (retry count : ℕ) → retry ≡ 8 → 43 + 8 * count ≤ 64 - retry + retry * count
@@ -180,7 +163,7 @@ sources_light limits (s ∷ all) eight named =
 sources_short : (limits : Limits) (all : List (List ℕ × Window)) → limits.retry ≡ 8 → are_named all ≡ true → length (sources Two all) ≤ 4 + total_of (window_weight limits) all
 unfolding sources
 sources_short limits all eight named =
-    omega (arith, length-append (number w32 (length all)) (flat_map (source Two) all), number32 (length all), sources_light limits all eight named)
+    omega (arith, length-append (number w32 (length all)) (flat_map (source Two) all), length-number32 (length all), sources_light limits all eight named)
 
 -- the body, behind its gate and its length
 body_fits : (n : ℕ) (limits : Limits) (cell : Cell) → limits.retry ≡ 8 → IsMilestone cell → CellKeeps limits cell → AllByRecursion IsNarrow (inserts_of cell.content.units)
@@ -196,13 +179,13 @@ body_fits n limits cell eight is keeps narrow =
       length-append (number w32 n ++ text16 cell.name ++ number w64 cell.revision) (mark Two cell.content.live),
       length-append (number w32 n ++ text16 cell.name) (number w64 cell.revision),
       length-append (number w32 n) (text16 cell.name),
-      number32 n,
+      length-number32 n,
       text cell.name,
-      number64 cell.revision,
+      length-number64 cell.revision,
       length-delta (inserts_of cell.content.units),
       content_width cell.content.units narrow,
       sources_short limits cell.sources.entries eight is.named,
-      name_short 64 cell.name is.name,
+      is_name-short 64 cell.name is.name,
       keeps.weight,
     )
 

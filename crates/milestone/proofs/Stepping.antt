@@ -1,13 +1,13 @@
 -- What the three steps of a put of many documents leave of one document's cells.
-use Rattle.std.proofs.Common.{◌≡◌, ◌≢◌, ◌⊎◌, ⊎_elim, inl, inr, ℕ, suc, zero, ◌+◌, ◌-◌, ◌*◌, ◌≤◌, ◌<◌, Option, Some, None, List, [], ◌∷◌, ◌++◌, length, take, drop, get_or, refl, sym, ◌∙◌, ap, subst, arith}
+use Rattle.std.proofs.Common.{◌≡◌, ◌≢◌, ◌⊎◌, ⊎_elim, inl, inr, ℕ, ◌+◌, ◌-◌, ◌*◌, ◌≤◌, ◌<◌, Option, Some, None, List, [], ◌∷◌, ◌++◌, length, take, drop, get_or, refl, sym, ◌∙◌, ap, subst, arith}
 use Rattle.std.specs.Prelude.{◌↔◌}
 use Rattle.std.proofs.lemmas.Option.{none-some, same_Some}
 use Rattle.std.proofs.lemmas.List.{take_at, take-take, drop-take, drop-drop, drop_more, get_or-take, take-append-drop}
-use Rattle.disk.specs.Apart.{IsWithin, CoversMoreWithin}
+use Rattle.disk.specs.Apart.{CoversMoreWithin}
 use Rattle.disk.specs.Crash.{Leaves, LeavesOnly, history_of}
 use Rattle.disk.specs.Device.{History, MayLeave, IsCovered, IsWrite, IsAtMostOneStep, NoStep, OneStep, overwritten, SameOutside}
 use Rattle.disk.specs.declared.device.Disk.{Ghosts}
-use Rattle.disk.proofs.CallerLemmas.{begins_anywhere, goes_on_write, leaves_map, left_apart, costs_write, same_outside_wider, drop_overwritten}
+use Rattle.disk.proofs.CallerLemmas.{begins_anywhere, goes_on_write, leaves_map, left_apart, costs_write, same_outside_wider, drop_overwritten, covered_by}
 use Rattle.journal.specs.Area.{open_gate, frame, IsGated}
 use Rattle.history.specs.Cell.{Cell, Pair, freed}
 use Rattle.milestone.specs.CellSpelling.{cell_body}
@@ -35,11 +35,6 @@ one_left at count old new time fits =
 written_outside : (at count : ℕ) (old new : History) → IsAtMostOneStep (IsWrite at count) old new → SameOutside at count old.now.seen new.now.seen
 written_outside at count old new (NoStep same) = subst (λ (h : History). SameOutside at count old.now.seen h.now.seen) (sym same) (nothing at count old.now.seen)
 written_outside at count old new (OneStep more step) = step.seen
-
--- a place that is covered with one range more lies in it or was covered before
-covered_by : (at count place : ℕ) (ranges : List (ℕ × ℕ)) → IsCovered ((at, count) ∷ ranges) place → IsWithin at count place ⊎ IsCovered ranges place
-covered_by at count place ranges (zero, range, inside, is, within) = inl (subst (λ (r : ℕ × ℕ). IsWithin r.0 r.1 place) (sym is) within)
-covered_by at count place ranges (suc k, range, inside, is, within) = inr (k, range, omega arith, is, within)
 
 written_covered : (at count : ℕ) (old new : History) → IsAtMostOneStep (IsWrite at count) old new → CoversMoreWithin at count old.now.unsynced new.now.unsynced
 written_covered at count old new (NoStep same) place covered = inr (subst (λ (h : History). IsCovered h.now.unsynced place) same covered)

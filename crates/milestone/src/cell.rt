@@ -1,5 +1,6 @@
 //! One cell on a device: its gate, and what it holds.
-ghost use Rattle.std.specs.Prelude.{◌≡◌, ◌⊎◌, ◌+◌, ◌*◌, ◌≤◌, ◌<◌, ◌^◌, ℕ, Option, [], ◌∷◌, length, take, drop, Some, OnOk, IfOk, IfErr, IsErrOf};
+ghost use Rattle.std.specs.Prelude.{◌≡◌, ◌⊎◌, ◌+◌, ◌*◌, ◌≤◌, ◌<◌, ◌^◌, Option, [], ◌∷◌, length, take, drop, Some, OnOk, IfOk, IfErr, IsErrOf};
+ghost use Rattle.refusal.specs.Refusal.{IsOneOf};
 ghost use Rattle.std.specs.Int.{w32, to_le_bytes};
 ghost use Rattle.disk.specs.Calls.{HasOnlyRead, HasOnlyWritten, CountsFaults, CountsFaultsAs};
 ghost use Rattle.disk.specs.Crash.{LeavesOnly, history_of};
@@ -70,7 +71,7 @@ pub(crate) fn read_cell<D: Disk>(
     ensures found { IfOk result (λ cell. D.honest disk.new → HoldsCellIn format at size number (D.seen disk.old) cell) }
     ensures damaged { IfErr result (λ e. e ≡ Refusal.Damaged → D.honest disk.new
         → (cell : Option Cell) → ¬ HoldsCellIn format at size number (D.seen disk.old) cell) }
-    ensures only { IfErr result (λ e. (e ≡ Refusal.Damaged) ⊎ ((e ≡ Refusal.NoMemory) ⊎ (e ≡ Refusal.Fault))) }
+    ensures only { IfErr result (λ e. IsOneOf e (Refusal.Damaged ∷ Refusal.NoMemory ∷ Refusal.Fault ∷ [])) }
     ensures only_read { HasOnlyRead ⟦<D as Disk>⟧ disk.old disk.new }
     ensures faults { CountsFaultsAs ⟦<D as Disk>⟧ Refusal.Fault result disk.old disk.new }
 {

@@ -1,5 +1,6 @@
 //! The two cells of a document, as they are known in memory.
-ghost use Rattle.std.specs.Prelude.{◌≡◌, ◌⊎◌, ◌+◌, ◌*◌, ◌≤◌, ◌<◌, ◌^◌, List, ℕ, [], Some, None, length, OnOk, OnErr, IsErrOf, IfOk, IfErr};
+ghost use Rattle.std.specs.Prelude.{◌≡◌, ◌⊎◌, ◌+◌, ◌*◌, ◌≤◌, ◌<◌, ◌^◌, List, ℕ, [], Some, None, length, OnOk, OnErr, IsErrOf, IfOk, IfErr, ◌∷◌};
+ghost use Rattle.refusal.specs.Refusal.{IsOneOf};
 ghost use Rattle.disk.specs.Calls.{HasOnlyRead, HasOnlyWritten, CountsFaultsAs};
 ghost use Rattle.milestone.specs.Revisions.{revision_in};
 
@@ -78,7 +79,7 @@ impl Cells {
         ensures known { IfOk result (λ read. IsReadAs place size number read) }
         ensures damaged { IfErr result (λ e. e ≡ Refusal.Damaged → D.honest disk.new
             → (pair : Pair) → ¬ HoldsPairIn format place size number (D.seen disk.old) pair) }
-        ensures only { IfErr result (λ e. (e ≡ Refusal.Damaged) ⊎ ((e ≡ Refusal.NoMemory) ⊎ (e ≡ Refusal.Fault))) }
+        ensures only { IfErr result (λ e. IsOneOf e (Refusal.Damaged ∷ Refusal.NoMemory ∷ Refusal.Fault ∷ [])) }
         ensures only_read { HasOnlyRead ⟦<D as Disk>⟧ disk.old disk.new }
         ensures faults { CountsFaultsAs ⟦<D as Disk>⟧ Refusal.Fault result disk.old disk.new }
     {

@@ -1,5 +1,5 @@
 //! A milestone is made of a job.
-ghost use Rattle.std.specs.Prelude.{◌≡◌, ◌⊎◌, ◌↔◌, IsTrue, IfOk, OnOk, IfErr, IsOkUnless};
+ghost use Rattle.std.specs.Prelude.{◌≡◌, ◌⊎◌, ◌↔◌, IsTrue, IfOk, OnOk, IfErr};
 ghost use Rattle.delta.specs.Gaps.{counted, apply};
 ghost use Rattle.document.specs.Outcome.{IsAccepted};
 ghost use Rattle.compose.specs.Many.{applied};
@@ -12,7 +12,7 @@ use crate::part::{PartDone, one_for};
 use delta::Delta;
 use document::Document;
 use refusal::Refusal;
-use std::alloc::Global;
+use std::alloc::{AllocError, Global};
 use std::marker::Model;
 
 /// A finished job and its milestone. Its value in contracts is the job, since the milestone follows from it.
@@ -37,7 +37,7 @@ impl Model for Composed {
 
 /// A job that wasn't done, unchanged, and why.
 #[derive(Drop)]
-pub struct Uncomposed {
+pub struct ComposeError {
     pub job: Job,
     pub refusal: Refusal,
 }
@@ -60,14 +60,17 @@ impl Composed {
 
 /// Does a job: composes its deltas into one, applies that to its units, and makes the milestone of it. Refused as out of memory alone, and then the job
 /// comes back.
-pub fn compose_job(alloc: Global, job: Job) -> Result<Composed, Uncomposed>
+pub fn compose_job(alloc: Global, job: Job) -> Result<Composed, ComposeError>
     ensures done { IfOk result (λ composed. composed ≡ job) }
     ensures back { IfErr result (λ back. back.job ≡ job) }
     ensures only { IfErr result (λ back. back.refusal ≡ Refusal.NoMemory) }
 {
     match milestone_of(alloc, &job) {
         Ok(milestone) => Ok(Composed { job, milestone }),
-        Err(refusal) => Err(Uncomposed { job, refusal }),
+        Err(no_memory) => Err(ComposeError {
+            job,
+            refusal: no_memory.into(),
+        }),
     }
 }
 
@@ -79,7 +82,7 @@ pub fn join_parts(
     job: Job,
     first: PartDone,
     second: PartDone,
-) -> Result<Composed, Uncomposed>
+) -> Result<Composed, ComposeError>
     ensures done { IfOk result (λ composed. composed ≡ job) }
     ensures halves { OnOk result (AreHalves job first second) }
     ensures stranger { IfErr result (λ back. back.refusal ≡ Refusal.Stranger ↔ (¬ AreHalves job first second)) }
@@ -87,14 +90,17 @@ pub fn join_parts(
     ensures only { IfErr result (λ back. (back.refusal ≡ Refusal.Stranger) ⊎ (back.refusal ≡ Refusal.NoMemory)) }
 {
     if !are_halves(&job, &first, &second) {
-        return Err(Uncomposed {
+        return Err(ComposeError {
             job,
             refusal: Refusal::Stranger,
         });
     }
     match milestone_by_halves(alloc, &job, &first, &second) {
         Ok(milestone) => Ok(Composed { job, milestone }),
-        Err(refusal) => Err(Uncomposed { job, refusal }),
+        Err(no_memory) => Err(ComposeError {
+            job,
+            refusal: no_memory.into(),
+        }),
     }
 }
 
@@ -111,9 +117,8 @@ fn are_halves(job: &Job, first: &PartDone, second: &PartDone) -> bool
 }
 
 // The milestone that comes of a job. Refused as out of memory alone.
-fn milestone_of(alloc: Global, job: &Job) -> Result<Milestone, Refusal>
+fn milestone_of(alloc: Global, job: &Job) -> Result<Milestone, AllocError>
     ensures milestone { IfOk result (λ milestone. milestone ≡ cell_of_job job.now) }
-    ensures only { IsOkUnless result Refusal.NoMemory }
 {
     let document = content_of(alloc, job)?;
     milestone_with(alloc, job, document)
@@ -125,20 +130,18 @@ fn milestone_by_halves(
     job: &Job,
     first: &PartDone,
     second: &PartDone,
-) -> Result<Milestone, Refusal>
+) -> Result<Milestone, AllocError>
     requires { AreHalves job.now first.now second.now }
     ensures milestone { IfOk result (λ milestone. milestone ≡ cell_of_job job.now) }
-    ensures only { IsOkUnless result Refusal.NoMemory }
 {
     let document = content_by_halves(alloc, job, first, second)?;
     milestone_with(alloc, job, document)
 }
 
 // The milestone of a job with its content. Refused as out of memory alone.
-fn milestone_with(alloc: Global, job: &Job, document: Document) -> Result<Milestone, Refusal>
+fn milestone_with(alloc: Global, job: &Job, document: Document) -> Result<Milestone, AllocError>
     requires { document ≡ applied (units_of_job job.now) job.now.deltas }
     ensures milestone { IfOk result (λ milestone. milestone ≡ cell_of_job job.now) }
-    ensures only { IsOkUnless result Refusal.NoMemory }
 {
     let name = job.name().copy(alloc)?;
     let sources = job.sources().copy(alloc)?;
@@ -148,9 +151,8 @@ fn milestone_with(alloc: Global, job: &Job, document: Document) -> Result<Milest
 
 // What a job's deltas make of its units, by the one delta for all. Refused as out of memory alone.
 #[tactic(auto, using(crate::proofs::InTurn::job_part))]
-fn content_of(alloc: Global, job: &Job) -> Result<Document, Refusal>
+fn content_of(alloc: Global, job: &Job) -> Result<Document, AllocError>
     ensures content { IfOk result (λ document. document ≡ applied (units_of_job job.now) job.now.deltas) }
-    ensures only { IsOkUnless result Refusal.NoMemory }
 {
     let one = one_for(alloc, job.deltas())?;
     let mut document = base_of_job(alloc, job)?;
@@ -164,12 +166,11 @@ fn content_by_halves(
     job: &Job,
     first: &PartDone,
     second: &PartDone,
-) -> Result<Document, Refusal>
+) -> Result<Document, AllocError>
     requires { AreHalves job.now first.now second.now }
     ensures content { IfOk result (λ document. document ≡ applied (units_of_job job.now) job.now.deltas) }
-    ensures only { IsOkUnless result Refusal.NoMemory }
 {
-    let _ = job.revision();
+    job.facts();
     let mut document = base_of_job(alloc, job)?;
     apply_one(alloc, &mut document, first.one())?;
     apply_one(alloc, &mut document, second.one())?;
@@ -177,24 +178,22 @@ fn content_by_halves(
 }
 
 // What the base of a job makes of the empty document. Refused as out of memory alone.
-fn base_of_job(alloc: Global, job: &Job) -> Result<Document, Refusal>
+fn base_of_job(alloc: Global, job: &Job) -> Result<Document, AllocError>
     ensures units { IfOk result (λ document. document ≡ units_of_job job.now) }
-    ensures only { IsOkUnless result Refusal.NoMemory }
 {
     match Document::from_delta(alloc, job.base()) {
         Ok(document) => Ok(document),
-        Err(refusal) => Err(refusal),
+        Err(refusal) => Err(refusal.as_alloc_error()),
     }
 }
 
 // Applies a delta that the document accepts. Refused as out of memory alone.
-fn apply_one(alloc: Global, document: &mut Document, one: &Delta) -> Result<(), Refusal>
+fn apply_one(alloc: Global, document: &mut Document, one: &Delta) -> Result<(), AllocError>
     requires { IsAccepted document.old (counted one.now) }
     ensures made { OnOk result (document.new ≡ apply document.old (counted one.now)) }
-    ensures only { IsOkUnless result Refusal.NoMemory }
 {
     match document.apply(alloc, one) {
         Ok(()) => Ok(()),
-        Err(refusal) => Err(refusal),
+        Err(refusal) => Err(refusal.as_alloc_error()),
     }
 }

@@ -24,7 +24,7 @@ impl Milestone {
         ensures only { IfErr result (λ e. (e ≡ Refusal.TooHeavy) ⊎ (e ≡ Refusal.NoMemory)) }
     {
         let content = self.document().as_delta(alloc)?;
-        let _ = self.revision();
+        self.facts();
         if delta_width(&content) >= 1 << 32 {
             return Err(Refusal::TooHeavy);
         }

@@ -1,5 +1,5 @@
 //! What a milestone is made of.
-ghost use Rattle.std.specs.Prelude.{◌≡◌, ◌≤◌, ◌↔◌, true, [], IsTrue, IfOk, IsOkUnless};
+ghost use Rattle.std.specs.Prelude.{◌≡◌, ◌≤◌, ◌↔◌, true, [], IsTrue, IfOk};
 ghost use Rattle.delta.specs.Operation.{base_of};
 ghost use Rattle.delta.specs.Gaps.{counted, apply};
 ghost use Rattle.compose.specs.Many.{applied};
@@ -8,9 +8,8 @@ ghost use Rattle.revision.specs.State.{last_of_all, are_sources};
 ghost use Rattle.milestone.specs.Job.{KeepLengths, IsJob};
 
 use delta::Delta;
-use refusal::Refusal;
 use revision::{Name, Sources};
-use std::alloc::Global;
+use std::alloc::{AllocError, Global};
 use std::marker::Model;
 
 /// What a milestone is made of: what stood in a document at some revision, as the inserts that make it, the deltas in turn that lead from
@@ -74,8 +73,8 @@ impl Job {
                   sources;
             } }
     {
-        let _ = name.as_str();
-        let _ = sources.entries();
+        name.facts();
+        sources.facts();
         Job {
             document,
             name,
@@ -107,6 +106,13 @@ impl Job {
         ensures job { IsJob self.now }
     {
         self.revision
+    }
+
+    /// What each job keeps, for the prover. It does nothing.
+    pub fn facts(&self)
+        ensures job { IsJob self.now }
+    {
+        let _ = &self.sources;
     }
 
     /// The inserts that make what the first delta stands on.
@@ -141,9 +147,8 @@ impl Job {
     }
 
     /// An equal job. Refused as out of memory alone.
-    pub fn copy(&self, alloc: Global) -> Result<Job, Refusal>
+    pub fn copy(&self, alloc: Global) -> Result<Job, AllocError>
         ensures same { IfOk result (λ job. job ≡ self.now) }
-        ensures only { IsOkUnless result Refusal.NoMemory }
     {
         Ok(Job {
             document: self.document,
@@ -211,9 +216,8 @@ pub(crate) fn same_deltas(one: &[Delta], other: &[Delta]) -> bool
 }
 
 /// Equal deltas. Refused as out of memory alone.
-pub(crate) fn copies(alloc: Global, deltas: &[Delta]) -> Result<Vec<Delta>, Refusal>
+pub(crate) fn copies(alloc: Global, deltas: &[Delta]) -> Result<Vec<Delta>, AllocError>
     ensures same { IfOk result (λ copies. copies.items ≡ deltas.now) }
-    ensures only { IsOkUnless result Refusal.NoMemory }
 {
     let mut copies = Vec::new(alloc);
     for delta in deltas {

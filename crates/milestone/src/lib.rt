@@ -19,11 +19,11 @@
 //! ghost use Rattle.compose.specs.Many.{applied};
 //! ghost use Rattle.milestone.specs.Job.{units_of_job};
 //!
-//! use milestone::{Job, Uncomposed, compose_job};
+//! use milestone::{Job, ComposeError, compose_job};
 //! use std::alloc::Global;
 //!
 //! /// How many units a document has at the revision of a job. Refused as out of memory alone, and then the job comes back.
-//! pub fn length_of(alloc: Global, job: Job) -> Result<u64, Uncomposed>
+//! pub fn length_of(alloc: Global, job: Job) -> Result<u64, ComposeError>
 //!     ensures length { IfOk result (λ len. len ≡ length (applied (units_of_job job) job.deltas)) }
 //!     ensures back { IfErr result (λ back. back.job ≡ job) }
 //! {
@@ -50,8 +50,8 @@ mod writing;
 
 pub use cell::write_open;
 pub use cells::{Cells, ReadCells};
-pub use composing::{Composed, Uncomposed, compose_job, join_parts};
+pub use composing::{ComposeError, Composed, compose_job, join_parts};
 pub use format::Format;
 pub use job::Job;
 pub use milestone::{Milestone, MilestoneParts};
-pub use part::{Part, PartBack, PartDone, compose_part};
+pub use part::{Part, PartDone, PartError, compose_part};

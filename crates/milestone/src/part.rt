@@ -1,5 +1,5 @@
 //! Half of a job's deltas, and the one delta for it.
-ghost use Rattle.std.specs.Prelude.{◌≡◌, ◌+◌, ◌≤◌, IfOk, IfErr, IsOkUnless};
+ghost use Rattle.std.specs.Prelude.{◌≡◌, ◌+◌, ◌≤◌, IfOk, IfErr};
 ghost use Rattle.delta.specs.Operation.{base_of, out_of};
 ghost use Rattle.compose.specs.Many.{lengths_of};
 ghost use Rattle.milestone.specs.Halves.{IsPart, ComposesPart, first_half, second_half};
@@ -7,8 +7,7 @@ ghost use Rattle.milestone.specs.Halves.{IsPart, ComposesPart, first_half, secon
 use crate::job::{Job, copies};
 use compose::{compose, compose_many};
 use delta::Delta;
-use refusal::Refusal;
-use std::alloc::Global;
+use std::alloc::{AllocError, Global};
 use std::marker::Model;
 
 /// So many deltas at most are composed one by one.
@@ -84,21 +83,19 @@ impl PartDone {
     }
 }
 
-/// A part that wasn't done, unchanged, and why.
+/// A part that wasn't done, unchanged: memory ran out.
 #[derive(Drop)]
-pub struct PartBack {
+pub struct PartError {
     pub part: Part,
-    pub refusal: Refusal,
 }
 
 impl Job {
     /// The first half of its deltas, and the rest: of an odd number the second has one more. They share the deltas of the job, and need
     /// nothing of it, so that each can be composed in a thread of its own. Refused as out of memory alone.
     #[tactic(auto, using(crate::proofs::InTurn::first_part, crate::proofs::InTurn::second_part))]
-    pub fn halves(&self, alloc: Global) -> Result<(Part, Part), Refusal>
+    pub fn halves(&self, alloc: Global) -> Result<(Part, Part), AllocError>
         ensures first { IfOk result (λ parts. parts.0 ≡ first_half self.now.deltas) }
         ensures second { IfOk result (λ parts. parts.1 ≡ second_half self.now.deltas) }
-        ensures only { IsOkUnless result Refusal.NoMemory }
     {
         let deltas = self.deltas();
         let (one, other) = deltas.split_at(deltas.len() / 2);
@@ -107,22 +104,20 @@ impl Job {
 }
 
 /// Composes a part into one delta. Refused as out of memory alone, and then the part comes back.
-pub fn compose_part(alloc: Global, part: Part) -> Result<PartDone, PartBack>
+pub fn compose_part(alloc: Global, part: Part) -> Result<PartDone, PartError>
     ensures done { IfOk result (λ done. done ≡ part) }
     ensures back { IfErr result (λ back. back.part ≡ part) }
-    ensures only { IfErr result (λ back. back.refusal ≡ Refusal.NoMemory) }
 {
     match one_for(alloc, part.deltas()) {
         Ok(one) => Ok(PartDone { part, one }),
-        Err(refusal) => Err(PartBack { part, refusal }),
+        Err(_) => Err(PartError { part }),
     }
 }
 
 // A part of copies of these deltas. Refused as out of memory alone.
-fn part_of(alloc: Global, deltas: &[Delta]) -> Result<Part, Refusal>
+fn part_of(alloc: Global, deltas: &[Delta]) -> Result<Part, AllocError>
     requires { IsPart deltas.now }
     ensures part { IfOk result (λ part. part ≡ deltas.now) }
-    ensures only { IsOkUnless result Refusal.NoMemory }
 {
     Ok(Part {
         deltas: copies(alloc, deltas)?,
@@ -131,11 +126,10 @@ fn part_of(alloc: Global, deltas: &[Delta]) -> Result<Part, Refusal>
 
 /// The one delta for deltas that stand in turn on some units. Where they are many each half is composed by itself, and then the two, so that
 /// the operations that are there are walked again for each halving alone, and not for each delta. Refused as out of memory alone.
-pub(crate) fn one_for(alloc: Global, deltas: &[Delta]) -> Result<Delta, Refusal>
+pub(crate) fn one_for(alloc: Global, deltas: &[Delta]) -> Result<Delta, AllocError>
     requires { IsPart deltas.now }
     ensures composes { IfOk result (λ one. ComposesPart one deltas.now) }
     ensures lengths { IfOk result (λ one. base_of one + out_of one ≤ lengths_of deltas.now) }
-    ensures only { IsOkUnless result Refusal.NoMemory }
 {
     if deltas.len() <= FEW {
         return one_for_few(alloc, deltas);
@@ -145,19 +139,18 @@ pub(crate) fn one_for(alloc: Global, deltas: &[Delta]) -> Result<Delta, Refusal>
     let second = one_for(alloc, end)?;
     match compose(alloc, &first, &second) {
         Ok(one) => Ok(one),
-        Err(refusal) => Err(refusal),
+        Err(refusal) => Err(refusal.as_alloc_error()),
     }
 }
 
 // The same, one by one from the left.
-fn one_for_few(alloc: Global, deltas: &[Delta]) -> Result<Delta, Refusal>
+fn one_for_few(alloc: Global, deltas: &[Delta]) -> Result<Delta, AllocError>
     requires { IsPart deltas.now }
     ensures composes { IfOk result (λ one. ComposesPart one deltas.now) }
     ensures lengths { IfOk result (λ one. base_of one + out_of one ≤ lengths_of deltas.now) }
-    ensures only { IsOkUnless result Refusal.NoMemory }
 {
     match compose_many(alloc, deltas) {
         Ok(one) => Ok(one),
-        Err(refusal) => Err(refusal),
+        Err(refusal) => Err(refusal.as_alloc_error()),
     }
 }

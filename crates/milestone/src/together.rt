@@ -1,12 +1,12 @@
 //! Milestones of many documents put as one step: what each of its three steps writes to the cells of one document. No step syncs: a caller makes
 //! a step for each document, each once, and then one sync for all of them.
-ghost use Rattle.std.specs.Prelude.{◌≡◌, ◌+◌, ◌*◌, ◌≤◌, ℕ, true, false, Some, length, OnOk, OnErr, IfOk, IfErr};
+ghost use Rattle.std.specs.Prelude.{◌≡◌, ◌+◌, ◌*◌, ◌≤◌, ℕ, true, false, Some, length, OnOk, OnErr, IfOk};
 ghost use Rattle.disk.specs.Calls.{CountsFaults};
 ghost use Rattle.disk.specs.Crash.{LeavesOnly, history_of};
 ghost use Rattle.history.specs.Cell.{Cell, Pair, freed};
 ghost use Rattle.milestone.specs.Revisions.{freed_of, with_revision};
 ghost use Rattle.milestone.specs.Cells.{place_of, size_of, revisions_of, with_cell, HasClosed, Fits, FitsNow, SameCells};
-ghost use Rattle.milestone.specs.Together.{IsLeftByStep, IsFreedOr, IsPutOr, closed_gate, HasRoom, framed_body, IsReady, StandApart, WritesWithin};
+ghost use Rattle.milestone.specs.Together.{IsLeftByStep, IsFreedOr, IsPutOr, closed_gate, HasRoom, framed_body, IsReady, StandApart, WriteWithin, WritesWithin};
 
 use crate::cell::write_one;
 use crate::cells::Cells;
@@ -14,16 +14,14 @@ use crate::milestone::Milestone;
 use crate::writing::framed;
 use disk::{Disk, Fault};
 use journal::{CLOSED, OPEN};
-use refusal::Refusal;
-use std::alloc::Global;
+use std::alloc::{AllocError, Global};
 
 impl Cells {
     /// What stands behind the gate of a cell that holds this milestone.
-    pub fn spelled(&self, alloc: Global, milestone: &Milestone) -> Result<Vec<u8>, Refusal>
+    pub fn spelled(&self, alloc: Global, milestone: &Milestone) -> Result<Vec<u8>, AllocError>
         requires room { HasRoom self.now milestone.now }
 
         ensures bytes { IfOk result (λ v. v.items ≡ framed_body self.now milestone.now) }
-        ensures only { IfErr result (λ e. e ≡ Refusal.NoMemory) }
     {
         framed(alloc, self.number, milestone)
     }
@@ -72,8 +70,8 @@ impl Cells {
         Ok(())
     }
 
-    /// The second step: writes these bytes behind the gate of the closed cell, of the first one where both are. Where both are open it makes no
-    /// call of the device.
+    /// The second step: writes these bytes behind the gate of the closed cell, of the first one where both are, and nothing behind them. Where
+    /// both are open it makes no call of the device.
     pub fn write_body<D: Disk>(&self, disk: &mut D, bytes: &[u8]) -> Result<(), Fault>
         requires end { place_of self.now + 2 * size_of self.now ≤ length (D.seen disk.old) }
         requires short { 1 + length bytes.now ≤ size_of self.now }
@@ -86,7 +84,10 @@ impl Cells {
             → FitsNow (D.seen disk.old) self.now (D.seen disk.new) self.now pair }
         ensures ready { OnOk result ((cell : Cell) → HasRoom self.now cell → bytes.now ≡ framed_body self.now cell
             → IsReady self.now cell (D.seen disk.new)) }
+        ensures untouched { ¬ HasClosed (revisions_of self.now) → disk.new ≡ disk.old }
         ensures within { WritesWithin ⟦<D as Disk>⟧ self.now 1 disk.old disk.new }
+        ensures narrow { (gate : ℕ) → closed_gate self.now ≡ Some gate
+            → WriteWithin ⟦<D as Disk>⟧ (gate + 1) (length bytes.now) 1 disk.old disk.new }
         ensures faults { CountsFaults ⟦<D as Disk>⟧ result disk.old disk.new }
     {
         let Some(gate) = self.closed_gate() else {

@@ -1,5 +1,5 @@
 //! Writing the body of a cell: each part of the spelling has one function.
-ghost use Rattle.std.specs.Prelude.{◌≡◌, ◌++◌, ◌∷◌, ◌<◌, ◌^◌, length, OnOk, IfOk, IfErr};
+ghost use Rattle.std.specs.Prelude.{◌≡◌, ◌++◌, ◌<◌, ◌^◌, length, OnOk, IfOk};
 ghost use Rattle.std.specs.List.{flat_map};
 ghost use Rattle.std.specs.Int.{w64};
 ghost use Rattle.revision.specs.Sources.{count_of};
@@ -11,7 +11,6 @@ ghost use Rattle.milestone.specs.declared.format.Format.TheVariants.{Two};
 
 use crate::milestone::Milestone;
 use journal::{write_delta, write_number32, write_number64, write_text16};
-use refusal::Refusal;
 use revision::{Name, Sources, Window};
 use std::alloc::{AllocError, Global};
 
@@ -21,11 +20,14 @@ pub(crate) const DELETED: u8 = 0;
 pub(crate) const LIVE: u8 = 1;
 
 /// What stands behind the gate of a cell of the document of this number: the body's length in four bytes, and the body.
-pub(crate) fn framed(alloc: Global, number: u32, milestone: &Milestone) -> Result<Vec<u8>, Refusal>
+pub(crate) fn framed(
+    alloc: Global,
+    number: u32,
+    milestone: &Milestone,
+) -> Result<Vec<u8>, AllocError>
     requires is { IsCell number milestone.now }
     requires short { length (cell_body number milestone.now) < 2 ^ 32 }
     ensures bytes { IfOk result (λ v. v.items ≡ frame (cell_body number milestone.now)) }
-    ensures only { IfErr result (λ e. e ≡ Refusal.NoMemory) }
 {
     let body = body_of(alloc, number, milestone)?;
     let mut bytes = Vec::with_capacity(alloc, body.len() + 4)?;
@@ -36,10 +38,9 @@ pub(crate) fn framed(alloc: Global, number: u32, milestone: &Milestone) -> Resul
 
 /// The body of a cell of the document of this number.
 #[tactic(auto, unfolding(crate::specs::CellSpelling::cell_body_in))]
-fn body_of(alloc: Global, number: u32, milestone: &Milestone) -> Result<Vec<u8>, Refusal>
+fn body_of(alloc: Global, number: u32, milestone: &Milestone) -> Result<Vec<u8>, AllocError>
     requires { IsCell number milestone.now }
     ensures bytes { IfOk result (λ v. v.items ≡ cell_body number milestone.now) }
-    ensures only { IfErr result (λ e. e ≡ Refusal.NoMemory) }
 {
     let mut out = Vec::new(alloc);
     let content = milestone.document().as_delta(alloc)?;
@@ -62,7 +63,7 @@ fn write_name(out: &mut Vec<u8>, name: &Name) -> Result<(), AllocError>
     ensures { OnOk result (out.new.items ≡ out.old.items ++ fields.text16 name.now) }
 {
     // a name has at most 64 bytes
-    let _ = name.len();
+    name.facts();
     write_text16(out, name.as_str())?;
     Ok(())
 }

@@ -1,5 +1,5 @@
 -- What is printed has no float.
-use Rattle.std.proofs.Common.{◌≡◌, ◌||◌, ℕ, Bool, true, false, List, [], ◌∷◌, Some, None, refl, true≢false}
+use Rattle.std.proofs.Common.{◌≡◌, ℕ, false, List, [], ◌∷◌, Some, None, refl}
 use Rattle.std.specs.Prelude.{pos, negsuc, codes, Option}
 use Rattle.serde_json.specs.Data.{Data, Members, no_members, member, string, object, number, unsigned}
 use Rattle.serde_json.specs.Written.{has_float, items_have_float, members_have_float}
@@ -8,19 +8,7 @@ use Rattle.attributes.specs.Scalar.{Scalar, text_scalar, whole_scalar, flag_scal
 use Rattle.attributes.specs.Attributes.{Attributes}
 use Rattle.delta.specs.Operation.{Operation, insert_text, insert_embed, retain, delete}
 use Rattle.optext.specs.Printed.{printed_scalar, printed_change, printed_entries, attributes_member, then_member, printed_operation, printed}
-
--- neither is true
-or-false : (a b : Bool) → a ≡ false → b ≡ false → (a || b) ≡ false
-or-false true b p q = p
-or-false false b p q = q
-
-or-false-first : (a b : Bool) → (a || b) ≡ false → a ≡ false
-or-false-first true b p = p
-or-false-first false b p = refl
-
-or-false-second : (a b : Bool) → (a || b) ≡ false → b ≡ false
-or-false-second true b p = absurd (true≢false p)
-or-false-second false b p = p
+use Rattle.std.proofs.lemmas.Bool.{or_from, or_parts}
 
 has_float-scalar : (value : Scalar) → has_float (printed_scalar value) ≡ false
 has_float-scalar (text_scalar text) = refl
@@ -35,17 +23,17 @@ has_float-change (Some value) = has_float-scalar value
 have_float-entries : {X : Type 0} (printed_value : X → Data) → ((x : X) → has_float (printed_value x) ≡ false) → (entries : List (List ℕ × X))
     → members_have_float (printed_entries printed_value entries) ≡ false
 have_float-entries printed_value none [] = refl
-have_float-entries printed_value none (e ∷ es) = or-false _ _ (none e.1) (have_float-entries printed_value none es)
+have_float-entries printed_value none (e ∷ es) = or_from _ _ (none e.1) (have_float-entries printed_value none es)
 
 have_float-attributes : (members : Members) → members_have_float members ≡ false → members_have_float (attributes_member members) ≡ false
 have_float-attributes no_members none = refl
-have_float-attributes (member name value others) none = or-false _ _ none refl
+have_float-attributes (member name value others) none = or_from _ _ none refl
 
 have_float-then : (members : Members) (name : List ℕ) (value : Data) → members_have_float members ≡ false → has_float value ≡ false
     → members_have_float (then_member members name value) ≡ false
-have_float-then no_members name value none plain = or-false _ _ plain refl
+have_float-then no_members name value none plain = or_from _ _ plain refl
 have_float-then (member first x others) name value none plain =
-    or-false _ _ (or-false-first _ _ none) (have_float-then others name value (or-false-second _ _ none) plain)
+    or_from _ _ (or_parts _ _ none).0 (have_float-then others name value (or_parts _ _ none).1 plain)
 
 has_float-insert : (a : Attributes) (what : Data) → has_float what ≡ false
     → members_have_float (then_member (attributes_member (printed_entries printed_scalar a.entries)) (codes "insert") what) ≡ false
@@ -56,7 +44,7 @@ has_float-insert a what plain =
 has_float-operation : (op : Operation) → has_float (printed_operation op) ≡ false
 has_float-operation (insert_text units a) = has_float-insert a (string (utf8_of units)) refl
 has_float-operation (insert_embed name value a) =
-    has_float-insert a (object (member name (printed_scalar value) no_members)) (or-false _ _ (has_float-scalar value) refl)
+    has_float-insert a (object (member name (printed_scalar value) no_members)) (or_from _ _ (has_float-scalar value) refl)
 has_float-operation (retain n c) =
     have_float-then (attributes_member (printed_entries printed_change c.entries)) (codes "retain") (number (unsigned n))
     (have_float-attributes (printed_entries printed_change c.entries) (have_float-entries printed_change has_float-change c.entries)) refl
@@ -64,4 +52,4 @@ has_float-operation (delete n) = refl
 
 pub have_float-printed : (ops : List Operation) → items_have_float (printed ops) ≡ false
 have_float-printed [] = refl
-have_float-printed (op ∷ ops) = or-false _ _ (has_float-operation op) (have_float-printed ops)
+have_float-printed (op ∷ ops) = or_from _ _ (has_float-operation op) (have_float-printed ops)

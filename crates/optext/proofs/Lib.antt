@@ -5,3 +5,4 @@ pub mod Members
 pub mod ReadBack
 pub mod Spelled
 mod Values
+pub mod CallerLemmas

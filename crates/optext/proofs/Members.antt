@@ -1,29 +1,17 @@
 -- The members that print entries, one after another.
-use Rattle.std.proofs.Common.{◌≡◌, ◌+◌, ◌<◌, ℕ, Bool, true, false, List, [], ◌∷◌, ◌++◌, length, take, get_or, refl, sym, ap, subst, ◌∙◌, Ordering, Less, Equal, Greater, String}
+use Rattle.std.proofs.Common.{◌≡◌, ◌+◌, ◌<◌, ℕ, List, [], ◌∷◌, ◌++◌, length, take, get_or, refl, sym, ap, subst, ◌∙◌, Greater, String}
 use Rattle.std.proofs.lemmas.List.{take_more}
-use Rattle.std.specs.Prelude.{T, ◌&&◌, codes}
+use Rattle.std.specs.Prelude.{T, codes}
 use Rattle.std.specs.Cmp.Lexicographic.{nat_list_cmp_total}
 use Rattle.std.specs.FinMap.Entries.{is_sorted, below_all}
-use Rattle.std.specs.Ordering.{is_lt, ordering_reverse}
+use Rattle.std.specs.Ordering.{ordering_reverse}
 use Rattle.std.specs.declared.alloc.Global.{Global}
 use Rattle.attributes.specs.Map.{by_bytes}
 use Rattle.serde_json.specs.Data.{Data, object, Members, no_members, member, put}
 use Rattle.serde_json.specs.View.{members_view}
 use Rattle.serde_json.specs.declared.value.Value.{Value}
 use Rattle.optext.specs.Printed.{printed_entries, attributes_member}
-
-T_parts : (a b : Bool) → T (a && b) → T a × T b
-T_parts true b h = (tt, h)
-T_parts false b h = absurd h
-
-less_from : (r : Ordering) → T (is_lt r) → r ≡ Less
-less_from Less h = refl
-less_from Equal h = absurd h
-less_from Greater h = absurd h
-
-below_last : {X : Type 0} (name : List ℕ) (done : List (List ℕ × X)) (e : List ℕ × X) → T (below_all by_bytes name (done ++ e ∷ [])) → by_bytes name e.0 ≡ Less
-below_last name [] e below = less_from (by_bytes name e.0) (T_parts (is_lt (by_bytes name e.0)) true below).0
-below_last name (f ∷ done) e below = below_last name done e (T_parts (is_lt (by_bytes name f.0)) (below_all by_bytes name (done ++ e ∷ [])) below).1
+use Rattle.attributes.proofs.CallerLemmas.{T_parts, below_last}
 
 -- a name above all others goes last
 put_last : {X : Type 0} (p : X → Data) (done : List (List ℕ × X)) (e : List ℕ × X) → T (is_sorted by_bytes (done ++ e ∷ []))

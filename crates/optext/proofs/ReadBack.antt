@@ -74,7 +74,7 @@ changes_of-printed entries c kept =
     described_by-given change_of (printed_entries printed_change c.entries)
     ∙ (with_members-printed change_of printed_change (λ v. IfSome v IsExactScalar) change_of-printed empty c.entries kept ∙ ap Some (entries.of_changes c))
 
-length_of-printed : (n : ℕ) → n < 2 ^ 32 → length_of (number (unsigned n)) ≡ Some n
+pub length_of-printed : (n : ℕ) → n < 2 ^ 32 → length_of (number (unsigned n)) ≡ Some n
 length_of-printed n below = grind (arith, nat_tests)
 
 pub operation_of-printed : EntriesMakeMap → OperationReadsBack
@@ -100,7 +100,7 @@ items_len-printed : (ops : List Operation) → items_len (printed ops) ≡ lengt
 items_len-printed [] = refl
 items_len-printed (op ∷ ops) = ap suc (items_len-printed ops)
 
-few_items : (items : Items) → items_len items ≤ 1024 → delta_of items ≡ delta_by (operations_of items)
+pub few_items : (items : Items) → items_len items ≤ 1024 → delta_of items ≡ delta_by (operations_of items)
 few_items items few = grind (arith, nat_tests)
 
 pub delta_of-printed : EntriesMakeMap → NormalIsKept → DeltaReadsBack

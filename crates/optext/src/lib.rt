@@ -30,7 +30,7 @@
 //!         × (delta_of (items_view operations.now) ≡ Ok delta) × (view value ≡ array (printed delta))) }
 //! {
 //!     let delta = read_ops(alloc, operations)?;
-//!     write_ops(alloc, &delta)
+//!     Ok(write_ops(alloc, &delta)?)
 //! }
 //! ```
 #![tactic(auto)]

@@ -1,5 +1,5 @@
 //! The array of operations that prints a delta.
-ghost use Rattle.std.specs.Prelude.{◌≡◌, All, IfOk, IfSome, IsOkUnless, OnOk};
+ghost use Rattle.std.specs.Prelude.{◌≡◌, All, IfOk, IfSome, OnOk};
 ghost use Rattle.attributes.specs.Attributes.{IsKey};
 ghost use Rattle.attributes.specs.Scalar.{IsExactScalar};
 ghost use Rattle.serde_json.specs.Data.{array, string};
@@ -12,17 +12,15 @@ use crate::laws::delta_reads_back;
 use attributes::laws::first_entries_ascend;
 use attributes::{Attrs, Change, Key, Value, ValueRef};
 use delta::{Delta, Op, OpRef};
-use refusal::Refusal;
 use serde_json::{Map, Value as Json, json, put};
-use std::alloc::Global;
+use std::alloc::{AllocError, Global};
 use utf16::laws::text_of_units;
 
 /// The array of a delta's operations, as they are printed. Read again, it is the delta, where that has at most 1,024
-/// operations and no length of 2^32 or more. Refused only as NoMemory.
-pub fn write_ops(alloc: Global, delta: &Delta) -> Result<Json, Refusal>
+/// operations and no length of 2^32 or more. Refused as out of memory alone.
+pub fn write_ops(alloc: Global, delta: &Delta) -> Result<Json, AllocError>
     ensures printed { IfOk result (λ value. view value ≡ array (printed delta.now)) }
     ensures reads_back { OnOk result (IsReadBack delta.now) }
-    ensures only { IsOkUnless result Refusal.NoMemory }
 {
     delta_reads_back();
     let ops = delta.ops();
@@ -34,10 +32,9 @@ pub fn write_ops(alloc: Global, delta: &Delta) -> Result<Json, Refusal>
     Ok(Json::Array(items))
 }
 
-fn write_op(alloc: Global, op: &Op) -> Result<Json, Refusal>
+fn write_op(alloc: Global, op: &Op) -> Result<Json, AllocError>
     ensures printed { IfOk result (λ value. view value ≡ printed_operation op.now) }
     ensures kept { OnOk result (HasSpellableContent op.now) }
-    ensures only { IsOkUnless result Refusal.NoMemory }
 {
     match op.get() {
         OpRef::Text(text, attrs) => {
@@ -53,19 +50,17 @@ fn write_op(alloc: Global, op: &Op) -> Result<Json, Refusal>
     }
 }
 
-fn write_text(alloc: Global, text: &str) -> Result<Json, Refusal>
+fn write_text(alloc: Global, text: &str) -> Result<Json, AllocError>
     ensures text { IfOk result (λ value. view value ≡ string (utf8_of (units_of text.now))) }
     ensures kept { OnOk result (AreTextUnits (units_of text.now)) }
-    ensures only { IsOkUnless result Refusal.NoMemory }
 {
     text_of_units();
     Ok(Json::try_from_str(alloc, text)?)
 }
 
-fn write_embed(alloc: Global, name: &Key, value: &Value) -> Result<Json, Refusal>
+fn write_embed(alloc: Global, name: &Key, value: &Value) -> Result<Json, AllocError>
     ensures embed { IfOk result (λ embed. view embed ≡ printed_embed name.now value.now) }
     ensures kept { OnOk result (IsKey name.now × IsExactScalar value.now) }
-    ensures only { IsOkUnless result Refusal.NoMemory }
 {
     let mut members = Map::new(alloc);
     let value = write_value(alloc, value)?;
@@ -73,10 +68,9 @@ fn write_embed(alloc: Global, name: &Key, value: &Value) -> Result<Json, Refusal
     Ok(Json::Object(members))
 }
 
-fn write_insert(alloc: Global, what: Json, attrs: &Attrs) -> Result<Json, Refusal>
+fn write_insert(alloc: Global, what: Json, attrs: &Attrs) -> Result<Json, AllocError>
     ensures printed { IfOk result (λ value. view value ≡ printed_insert attrs.now (view what)) }
     ensures kept { OnOk result (All IsAttribute attrs.now.entries) }
-    ensures only { IsOkUnless result Refusal.NoMemory }
 {
     let attributes = write_attributes(alloc, attrs)?;
     let mut members = begin(alloc, attributes)?;
@@ -84,10 +78,9 @@ fn write_insert(alloc: Global, what: Json, attrs: &Attrs) -> Result<Json, Refusa
     Ok(Json::Object(members))
 }
 
-fn write_retain(alloc: Global, len: u64, change: &Change) -> Result<Json, Refusal>
+fn write_retain(alloc: Global, len: u64, change: &Change) -> Result<Json, AllocError>
     ensures printed { IfOk result (λ value. view value ≡ printed_retain change.now len) }
     ensures kept { OnOk result (All IsAttributeChange change.now.entries) }
-    ensures only { IsOkUnless result Refusal.NoMemory }
 {
     let attributes = write_change(alloc, change)?;
     let mut members = begin(alloc, attributes)?;
@@ -96,10 +89,9 @@ fn write_retain(alloc: Global, len: u64, change: &Change) -> Result<Json, Refusa
 }
 
 // an object's members with the attributes, where there are any
-fn begin(alloc: Global, attributes: Map<String, Json>) -> Result<Map<String, Json>, Refusal>
+fn begin(alloc: Global, attributes: Map<String, Json>) -> Result<Map<String, Json>, AllocError>
     ensures begun { IfOk result (λ members.
         members_view members.entries ≡ attributes_member (members_view attributes.entries)) }
-    ensures only { IsOkUnless result Refusal.NoMemory }
 {
     let mut members = Map::new(alloc);
     if attributes.is_empty() {
@@ -109,10 +101,9 @@ fn begin(alloc: Global, attributes: Map<String, Json>) -> Result<Map<String, Jso
     Ok(members)
 }
 
-fn write_attributes(alloc: Global, attrs: &Attrs) -> Result<Map<String, Json>, Refusal>
+fn write_attributes(alloc: Global, attrs: &Attrs) -> Result<Map<String, Json>, AllocError>
     ensures printed { IfOk result (λ members. members_view members.entries ≡ printed_attributes attrs.now) }
     ensures kept { OnOk result (All IsAttribute attrs.now.entries) }
-    ensures only { IsOkUnless result Refusal.NoMemory }
 {
     first_entries_ascend();
     let mut members = Map::new(alloc);
@@ -123,10 +114,9 @@ fn write_attributes(alloc: Global, attrs: &Attrs) -> Result<Map<String, Json>, R
     Ok(members)
 }
 
-fn write_change(alloc: Global, change: &Change) -> Result<Map<String, Json>, Refusal>
+fn write_change(alloc: Global, change: &Change) -> Result<Map<String, Json>, AllocError>
     ensures printed { IfOk result (λ members. members_view members.entries ≡ printed_changes change.now) }
     ensures kept { OnOk result (All IsAttributeChange change.now.entries) }
-    ensures only { IsOkUnless result Refusal.NoMemory }
 {
     first_entries_ascend();
     let mut members = Map::new(alloc);
@@ -137,10 +127,9 @@ fn write_change(alloc: Global, change: &Change) -> Result<Map<String, Json>, Ref
     Ok(members)
 }
 
-fn write_value(alloc: Global, value: &Value) -> Result<Json, Refusal>
+fn write_value(alloc: Global, value: &Value) -> Result<Json, AllocError>
     ensures printed { IfOk result (λ json. view json ≡ printed_scalar value.now) }
     ensures kept { OnOk result (IsExactScalar value.now) }
-    ensures only { IsOkUnless result Refusal.NoMemory }
 {
     match value.get() {
         ValueRef::Text(text) => Ok(Json::try_from_str(alloc, text)?),
@@ -149,10 +138,9 @@ fn write_value(alloc: Global, value: &Value) -> Result<Json, Refusal>
     }
 }
 
-fn write_change_value(alloc: Global, value: &Option<Value>) -> Result<Json, Refusal>
+fn write_change_value(alloc: Global, value: &Option<Value>) -> Result<Json, AllocError>
     ensures printed { IfOk result (λ json. view json ≡ printed_change value.now) }
     ensures kept { OnOk result (IfSome value.now IsExactScalar) }
-    ensures only { IsOkUnless result Refusal.NoMemory }
 {
     match value {
         Some(value) => write_value(alloc, value),

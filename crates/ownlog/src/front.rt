@@ -23,7 +23,7 @@ impl<T> Model for Front<T> {
 }
 
 impl<T> Front<T> {
-    /// Another one of the same items. It takes no memory.
+    /// A copy. It takes no memory.
     pub fn copy(&self) -> Front<T>
         ensures { result ≡ self.now }
     {

@@ -8,16 +8,17 @@ use Rattle.core.specs.declared.ledger.Ledger as ledger
 use Rattle.ownlog.proofs.CallerLemmas.{front_send}
 use Rattle.delta.specs.contracts.delta.Delta as delta
 use Rattle.document.specs.contracts.document.Document as document
-use Rattle.revision.specs.contracts.name.Name as name
-use Rattle.revision.specs.contracts.sources.Sources as sources
-use Rattle.revision.specs.contracts.source_table.SourceTable as table
+use Rattle.revision.specs.contracts.rule.name.Name as name
+use Rattle.revision.specs.contracts.past.sources.Sources as sources
+use Rattle.revision.specs.contracts.past.source_table.SourceTable as table
 use Rattle.revision.specs.contracts.past.Past as past
-use Rattle.revision.specs.contracts.doc_state.DocState as one
-use Rattle.revision.specs.contracts.taken.Taken as taken
-use Rattle.revision.specs.contracts.state.State as state
+use Rattle.revision.specs.contracts.past.doc_state.DocState as one
+use Rattle.revision.specs.contracts.rule.taken.Taken as taken
+use Rattle.revision.specs.contracts.past.state.State as state
 use Rattle.world.specs.contracts.entry.Entry as entry
-use Rattle.published.specs.declared.site.Site as site
+use Rattle.published.specs.declared.life.Life as life
 use Rattle.published.specs.contracts.batch.Batch as batch
+use Rattle.published.specs.contracts.batch.Moment as moment
 use Rattle.published.specs.contracts.mark.Mark as mark
 use Rattle.published.specs.contracts.order.Ordered as ordered
 use Rattle.published.specs.contracts.told.Told as told
@@ -47,7 +48,7 @@ pub taken_send : IsSend taken.the_row
 taken_send = search (name_send, delta_send, sendable, crosses, maps.crosses) depth 60 fits 20000
 
 pub state_send : IsSend state.the_row
-state_send = search (one_send, name_send, sendable, crosses, maps.crosses) depth 60 fits 20000
+state_send = search (one_send, sendable, crosses, maps.crosses) depth 60 fits 20000
 
 pub entry_send : IsSend entry.the_row
 entry_send = search (taken_send, sendable, crosses, maps.crosses) depth 60 fits 20000
@@ -55,17 +56,21 @@ entry_send = search (taken_send, sendable, crosses, maps.crosses) depth 60 fits 
 pub batch_send : IsSend batch.the_row
 batch_send = search (taken_send, sendable, crosses) depth 60 fits 20000
 
+pub moment_send : IsSend moment.the_row
+moment_send = search (sendable, crosses) depth 60 fits 20000
+
 pub mark_send : IsSend mark.the_row
 mark_send =
     let log = front_send batch.the_row batch_send in
     let order = front_send entry.the_row entry_send in
     let start = front_send state.the_row state_send in
+    let moments = front_send moment.the_row moment_send in
     search (sendable, crosses) depth 60 fits 20000
 
-pub ordered_send : (T : RattleType) (s : site.Ghosts T.Denot) (l : ledger.Ghosts T.Denot) → IsSend T → IsSend (ordered.the_row T s l)
+pub ordered_send : (T : RattleType) (s : life.Ghosts T.Denot) (l : ledger.Ghosts T.Denot) → IsSend T → IsSend (ordered.the_row T s l)
 ordered_send T s l a =
     let order = front_send entry.the_row entry_send in
     search (sendable, crosses) depth 60 fits 20000
 
-pub told_send : (D T : RattleType) (s : site.Ghosts T.Denot) (l : ledger.Ghosts T.Denot) → IsSend T → IsSend (told.the_row D T s l)
+pub told_send : (D T : RattleType) (s : life.Ghosts T.Denot) (l : ledger.Ghosts T.Denot) → IsSend T → IsSend (told.the_row D T s l)
 told_send D T s l a = search (mark_send, sendable, crosses) depth 60 fits 20000

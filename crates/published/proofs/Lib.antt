@@ -1,4 +1,5 @@
 pub mod Beginnings
 pub mod Orders
+pub mod Timed
 pub mod CallerLemmas
 pub mod Crossing

@@ -1,16 +1,16 @@
 -- The order, and what begins it.
-use Rattle.std.proofs.Common.{◌≡◌, ℕ, suc, ◌+◌, ◌≤◌, ◌&&◌, Bool, true, false, List, [], ◌∷◌, ◌++◌, length, map, refl, ap, ap₂, sym, subst, ◌∙◌, arith, append_assoc}
+use Rattle.std.proofs.Common.{◌≡◌, suc, ◌+◌, ◌≤◌, ◌&&◌, true, List, [], ◌∷◌, ◌++◌, length, refl, ap, ap₂, sym, subst, ◌∙◌, arith}
 use Rattle.std.proofs.lemmas.Bool.{and_parts}
-use Rattle.std.proofs.lemmas.List.{append-nil, map-append}
+use Rattle.std.proofs.lemmas.List.{map-append}
 use mathlib.Core.List.{IsPrefix}
 use Rattle.revision.specs.Command.{Taken}
 use Rattle.revision.specs.State.{State, grows, grown, all_grow, fold}
-use Rattle.revision.specs.Acceptance.{Takes, answer}
 use Rattle.revision.proofs.CallerLemmas.{taken_grows}
 use Rattle.recovery.specs.Found.{commands_of}
 use Rattle.world.specs.World.{Entry, takens}
 use Rattle.published.specs.Order.{WasTaken, IsLegal, AreOrdered}
 use Rattle.published.proofs.Beginnings.{prefix_trans, prefix_shorter}
+pub use Rattle.recovery.proofs.CallerLemmas.{commands_of-push as commands_more}
 
 -- a command more leaves the order a legal history
 pub legal_more : (state : State) (entries : List Entry) (entry : Entry) → IsLegal state entries
@@ -24,7 +24,7 @@ legal_grows state [] legal = refl
 legal_grows state (first ∷ others) legal =
     ap₂ (λ a b. a && b) (taken_grows state first.command first.taken legal.0.0.0 legal.0.0.1 legal.0.1) (legal_grows (grown state first.taken) others legal.1)
 
-grow_first : (state : State) (xs ys : List Taken) → all_grow state (xs ++ ys) ≡ true → all_grow state xs ≡ true
+pub grow_first : (state : State) (xs ys : List Taken) → all_grow state (xs ++ ys) ≡ true → all_grow state xs ≡ true
 grow_first state [] ys grow = refl
 grow_first state (x ∷ xs) ys grow =
     let parts : (grows state x ≡ true) × (all_grow (grown state x) (xs ++ ys) ≡ true) = search (and_parts, grow) in
@@ -36,27 +36,16 @@ pub begun_grows : (state : State) (commands : List Taken) (entries : List Entry)
 begun_grows state commands entries legal begin =
     grow_first state commands begin.0 (subst (λ l. all_grow state l ≡ true) (sym begin.1) (legal_grows state entries legal))
 
--- the commands of batches with one more
-pub commands_more : (batches : List (List Taken)) (batch : List Taken) → commands_of (batches ++ batch ∷ []) ≡ commands_of batches ++ batch
-commands_more [] batch = append-nil batch
-commands_more (first ∷ batches) batch = ap (λ l. first ++ l) (commands_more batches batch) ∙ sym (append_assoc first (commands_of batches) batch)
-
 -- the commands of a prefix are a prefix of the commands of all
 pub takens_begin : (entries all : List Entry) → IsPrefix entries all → IsPrefix (takens entries) (takens all)
 takens_begin entries all begin = (takens begin.0, sym (map-append (λ (e : Entry). e.taken) entries begin.0) ∙ ap takens begin.1)
-
--- one batch more, which continues in the order
-pub ordered_more : (start : List State) (state : State) (batches : List (List Taken)) (batch : List Taken) (order : List Entry) → start ≡ state ∷ []
-    → IsLegal state order → IsPrefix (commands_of batches ++ batch) (takens order) → AreOrdered start (batches ++ batch ∷ []) order
-ordered_more start state batches batch order is legal begin =
-    subst (λ s. AreOrdered s (batches ++ batch ∷ []) order) (sym is) (legal, subst (λ l. IsPrefix l (takens order)) (sym (commands_more batches batch)) begin)
 
 -- what a mark has
 pub ordered_parts : (start : List State) (state : State) (batches : List (List Taken)) (order : List Entry) → start ≡ state ∷ [] → AreOrdered start batches order
     → IsLegal state order × IsPrefix (commands_of batches) (takens order)
 ordered_parts start state batches order is ordered = subst (λ s. AreOrdered s batches order) is ordered
 
-takens_long : (entries : List Entry) → length (takens entries) ≡ length entries
+pub takens_long : (entries : List Entry) → length (takens entries) ≡ length entries
 takens_long [] = refl
 takens_long (first ∷ others) = ap (λ n. suc n) (takens_long others)
 
@@ -89,12 +78,6 @@ begun_by start state log told here there all ordered begun_is is has first secon
     subst (λ l. IsPrefix (commands_of l) (takens ordered)) is
     (begun (commands_of log) here ordered all (ordered_parts start state log here begun_is has).1 first (subst (λ o. IsPrefix o all) same second)
     (subst (λ l. length (commands_of l) ≤ length ordered) (sym is) le))
-
-pub grows_by : (start : List State) (state : State) (log told : List (List Taken)) (here : List Entry) → start ≡ state ∷ [] → log ≡ told
-    → AreOrdered start log here → all_grow state (commands_of told) ≡ true
-grows_by start state log told here begun_is is has =
-    let parts = ordered_parts start state log here begun_is has in
-    subst (λ l. all_grow state (commands_of l) ≡ true) is (begun_grows state (commands_of log) here parts.0 parts.1)
 
 -- as a token of what is published shows it of the whole order
 pub begins_by_order : (start : List State) (state : State) (log told : List (List Taken)) (here all order : List Entry) → start ≡ state ∷ [] → log ≡ told

@@ -1,3 +1,4 @@
 pub mod Batches
 pub mod Books
 pub mod Order
+pub mod Moments

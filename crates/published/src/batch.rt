@@ -1,8 +1,9 @@
-//! The items of the log.
+//! The items of the logs.
+use disk::Disk;
 use ownlog::Shows;
 use recovery::Receipt;
 use revision::Taken;
-use std::marker::Model;
+use std::marker::{Model, PhantomData};
 
 /// A published batch. No value of it is made.
 #[derive(Drop)]
@@ -19,9 +20,32 @@ impl Model for Batch {
     ghost view = { λ b. b.items };
 }
 
-/// A receipt is seen as its batch.
+/// The moment at which the commit of a published batch had ended. No value of it is made.
+#[derive(Drop)]
+pub struct Moment {
+    of: PhantomData<u8>,
+}
+
+impl Model for Moment {
+    ghost use Rattle.recovery.specs.Moment as spec;
+
+    ghost Value = { spec.Moment };
+
+    ghost view = { λ m. spec.no_moment };
+}
+
+/// A receipt is seen as its batch,
 pub struct OfReceipt;
 
 impl<D> Shows<Receipt<D>, Batch> for OfReceipt {
-    ghost item = { λ receipt. receipt };
+    ghost item = { λ receipt. receipt.batch };
+}
+
+/// and as the moment at which its commit ended.
+pub struct AtReceipt;
+
+impl<D: Disk> Shows<Receipt<D>, Moment> for AtReceipt {
+    ghost use Rattle.recovery.specs.Moment.{moment_of};
+
+    ghost item = { λ receipt. moment_of ⟦<D as Disk>⟧ receipt.at };
 }

@@ -5,6 +5,8 @@ ghost use Rattle.revision.specs.Command.{Taken};
 ghost use Rattle.revision.specs.State.{State, fold, all_grow};
 ghost use Rattle.recovery.specs.Found.{commands_of};
 ghost use Rattle.world.specs.World.{Entry, takens};
+ghost use Rattle.recovery.specs.Moment.{IsMomentOf, Moment};
+ghost use Rattle.published.specs.Moments.{AreMoments};
 ghost use Rattle.published.specs.Order.{IsLegal, WasTaken};
 
 /// The commands of batches and of further ones are those of the first, and then those of the others.
@@ -32,4 +34,17 @@ pub fn histories()
         → WasTaken (fold state (takens entries)) entry → IsLegal state (entries ++ entry ∷ []) }
     ensures grow { (state : State) (commands : List Taken) (entries : List Entry) → IsLegal state entries
         → IsPrefix commands (takens entries) → all_grow state commands ≡ true }
+{}
+
+/// There are as many moments as batches. Those of the first batches are the first of them, and the last is of what all the batches make.
+pub fn moments_of_batches()
+    ensures long { (start : State) (batches : List (List Taken)) (moments : List Moment)
+        → AreMoments start batches moments → length moments ≡ length batches }
+    ensures first { (start : State) (first more : List (List Taken)) (moments : List Moment)
+        → AreMoments start (first ++ more) moments
+        → (here : List Moment) × (others : List Moment) × (here ++ others ≡ moments) × AreMoments start first here }
+    ensures last { (start : State) (batches : List (List Taken)) (batch : List Taken) (moments : List Moment)
+        → AreMoments start (batches ++ batch ∷ []) moments
+        → (earlier : List Moment) × (moment : Moment) × (moments ≡ earlier ++ moment ∷ [])
+        × IsMomentOf (fold start (commands_of (batches ++ batch ∷ []))) moment }
 {}

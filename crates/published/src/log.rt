@@ -1,13 +1,20 @@
 //! The log of a run.
-ghost use Rattle.std.specs.Prelude.{◌≡◌, []};
+ghost use Rattle.std.specs.Prelude.{◌≡◌, ◌++◌, ◌∷◌, []};
 ghost use mathlib.Core.List.{IsPrefix};
+ghost use Rattle.revision.specs.State.{fold};
+ghost use Rattle.recovery.specs.Found.{commands_of};
+ghost use Rattle.recovery.specs.Moment.{IsMomentOf, moment_of};
+ghost use Rattle.published.specs.Moments.{AreMoments};
 
-use crate::batch::Batch;
+use crate::batch::{AtReceipt, Batch, Moment, OfReceipt};
+use crate::life::Life;
 use crate::mark::Mark;
+use crate::moments::Moments;
 use crate::order::Order;
-use crate::site::Site;
 use crate::told::Told;
+use disk::Disk;
 use ownlog::Owner;
+use recovery::Receipt;
 use revision::State;
 use std::marker::{Model, PhantomData};
 use world::Entry;
@@ -16,6 +23,7 @@ use world::Entry;
 pub struct Opened {
     batches: Owner<Batch>,
     order: Owner<Entry>,
+    moments: Owner<Moment>,
     start: Owner<State>,
 }
 
@@ -27,9 +35,10 @@ impl Model for Opened {
 
     ghost coded = { books_coded };
 
-    ghost view = { λ o. record { published = o.batches.book; ordered = o.order.book } };
+    ghost view = { λ o. record { published = o.batches.book; ordered = o.order.book; timed = o.moments.book } };
 
-    ghost invariant = { λ o. (o.batches.items ≡ []) × (o.order.items ≡ []) × (o.start.items ≡ []) };
+    ghost invariant = { λ o. (o.batches.items ≡ []) × (o.order.items ≡ []) × (o.start.items ≡ [])
+        × (o.moments.items ≡ []) };
 }
 
 impl Opened {
@@ -38,21 +47,23 @@ impl Opened {
         Some(Opened {
             batches: Owner::open()?,
             order: Owner::open()?,
+            moments: Owner::open()?,
             start: Owner::open()?,
         })
     }
 
     /// The logs as those of a run that begins with a state, and the token of its start, which names no batch. It takes no memory.
-    pub fn named<D, J: Site>(self, state: &State) -> (Log<D, J>, Told<D, J>, Order<J>)
-        requires book { self ≡ J.book }
-        requires start { state.now ≡ J.start }
-        ensures log { result.0 ≡ [] }
+    pub fn named<D, L: Life>(self, state: &State) -> (Log<D, L>, Told<D, L>, Order<L>)
+        requires book { self ≡ L.book }
+        requires start { state.now ≡ L.start }
+        ensures log { result.0 ≡ record { batches = []; moments = [] } }
         ensures told { result.1 ≡ [] }
         ensures order { result.2 ≡ [] }
     {
         let Opened {
             batches,
             order,
+            moments,
             mut start,
         } = self;
         start.append(state);
@@ -63,11 +74,13 @@ impl Opened {
                 log: batches.front(),
                 order: order.front(),
                 start: start.front(),
+                moments: moments.front(),
             },
             of: PhantomData,
         };
         let log = Log {
             owner: batches,
+            moments,
             of: PhantomData,
         };
         let order = Order {
@@ -78,31 +91,66 @@ impl Opened {
     }
 }
 
-/// The log of what a run over a device of this type has published. Only who owns it publishes. Contracts see it as its batches, the oldest
-/// first. It takes a word of memory, however long it is.
+/// The log of what a run over a device of this type has published, and beside each batch the moment at which its commit had ended. Only who
+/// owns it publishes. Contracts see it as its batches, the oldest first, and their moments. It takes two words of memory, however long it is.
 #[derive(Drop)]
-pub struct Log<D, J: Site> {
+pub struct Log<D, L: Life> {
     pub(crate) owner: Owner<Batch>,
-    pub(crate) of: PhantomData<(D, J)>,
+    pub(crate) moments: Owner<Moment>,
+    pub(crate) of: PhantomData<(D, L)>,
 }
 
-impl<D, J: Site> Model for Log<D, J> {
-    ghost use Rattle.std.specs.Prelude.{◌≡◌, List};
-    ghost use Rattle.revision.specs.Command.{Taken};
+impl<D, L: Life> Model for Log<D, L> {
+    ghost use Rattle.std.specs.Prelude.{◌≡◌};
+    ghost use Rattle.published.specs.Moments as spec;
 
-    ghost Value = { List (List Taken) };
+    ghost Value = { spec.Log };
 
-    ghost view = { λ l. l.owner.items };
+    ghost view = { λ l. record { batches = l.owner.items; moments = l.moments.items } };
 
-    ghost invariant = { λ l. l.owner.book ≡ J.book.published };
+    ghost invariant = { λ l. (l.owner.book ≡ L.book.published) × (l.moments.book ≡ L.book.timed)
+        × spec.AreMoments L.start l.owner.items l.moments.items };
 }
 
-impl<D, J: Site> Log<D, J> {
+impl<D, L: Life> Log<D, L> {
     /// Each token names a prefix of the log. It takes no memory.
-    pub fn covers(&mut self, told: &Told<D, J>)
-        ensures begins { IsPrefix told.now self.old }
+    pub fn covers(&mut self, told: &Told<D, L>)
+        ensures begins { IsPrefix told.now self.old.batches }
         ensures same { self.new ≡ self.old }
     {
         self.owner.covers(&told.mark.log);
+    }
+
+    /// What each log keeps, for the prover: there is one moment for each batch, at which a store held exactly what the batches up to this
+    /// one make of the run's start, and its device was synced. It does nothing.
+    pub fn facts(&self)
+        ensures { AreMoments L.start self.now.batches self.now.moments }
+    {
+        let _ = &self.moments;
+    }
+
+    /// The moments of each token are a prefix of those of the log. It takes no memory.
+    pub fn covers_moments(&mut self, moments: &Moments<L>)
+        ensures begins { IsPrefix moments.now self.old.moments }
+        ensures same { self.new ≡ self.old }
+    {
+        self.moments.covers(&moments.front);
+    }
+}
+
+impl<D: Disk, L: Life> Log<D, L> {
+    // Puts a batch behind the log that was committed after those of the log, with the moment at which its commit had ended. It takes no
+    // memory.
+    #[tactic(auto, using(crate::proofs::Timed::moments_more))]
+    pub(crate) fn put(&mut self, receipt: &Receipt<D>)
+        requires { IsMomentOf (fold L.start (commands_of (self.old.batches ++ receipt.now.batch ∷ [])))
+            (moment_of ⟦<D as Disk>⟧ receipt.now.at) }
+        ensures { self.new ≡ record {
+          batches = self.old.batches ++ receipt.now.batch ∷ [];
+          moments = self.old.moments ++ moment_of ⟦<D as Disk>⟧ receipt.now.at ∷ [];
+        } }
+    {
+        self.owner.append_as::<Receipt<D>, OfReceipt>(receipt);
+        self.moments.append_as::<Receipt<D>, AtReceipt>(receipt);
     }
 }

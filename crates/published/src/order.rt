@@ -6,7 +6,7 @@ ghost use Rattle.recovery.specs.Found.{commands_of};
 ghost use Rattle.world.specs.World.{takens, Entry as Kept};
 ghost use Rattle.published.specs.Order.{IsLegal, WasTaken};
 
-use crate::site::Site;
+use crate::life::Life;
 use crate::told::Told;
 use ownlog::{Front, Owner};
 use std::marker::{Model, PhantomData};
@@ -15,12 +15,12 @@ use world::Entry;
 /// The order of a run: a legal history from the state that its store was opened with. Only who owns it makes it longer. Contracts see it
 /// as its entries. It takes a word of memory, however long it is.
 #[derive(Drop)]
-pub struct Order<J: Site> {
+pub struct Order<L: Life> {
     pub(crate) owner: Owner<Entry>,
-    pub(crate) of: PhantomData<J>,
+    pub(crate) of: PhantomData<L>,
 }
 
-impl<J: Site> Model for Order<J> {
+impl<L: Life> Model for Order<L> {
     ghost use Rattle.std.specs.Prelude.{◌≡◌, List};
     ghost use Rattle.world.specs.World as spec;
     ghost use Rattle.published.specs.Order.{IsLegal};
@@ -29,21 +29,21 @@ impl<J: Site> Model for Order<J> {
 
     ghost view = { λ o. o.owner.items };
 
-    ghost invariant = { λ o. (o.owner.book ≡ J.book.ordered) × IsLegal J.start o.owner.items };
+    ghost invariant = { λ o. (o.owner.book ≡ L.book.ordered) × IsLegal L.start o.owner.items };
 }
 
-impl<J: Site> Order<J> {
+impl<L: Life> Order<L> {
     /// Puts a command behind the order that the rule of acceptance takes there. It never fails, and takes no memory.
     #[tactic(auto, using(crate::proofs::Orders::legal_more))]
     pub fn put(&mut self, entry: &Entry)
-        requires { WasTaken (fold J.start (takens self.old)) entry.now }
+        requires { WasTaken (fold L.start (takens self.old)) entry.now }
         ensures { self.new ≡ self.old ++ entry.now ∷ [] }
     {
         self.owner.append(entry);
     }
 
     /// What is published begins the order, as a token names it. It takes no memory.
-    pub fn covers<D>(&mut self, told: &Told<D, J>)
+    pub fn covers<D>(&mut self, told: &Told<D, L>)
         ensures begins { IsPrefix (commands_of told.now) (takens self.old) }
         ensures same { self.new ≡ self.old }
     {
@@ -51,7 +51,7 @@ impl<J: Site> Order<J> {
     }
 
     /// The entries of a token begin the order. It takes no memory.
-    pub fn holds(&mut self, ordered: &Ordered<J>)
+    pub fn holds(&mut self, ordered: &Ordered<L>)
         ensures begins { IsPrefix ordered.now self.old }
         ensures same { self.new ≡ self.old }
     {
@@ -59,7 +59,7 @@ impl<J: Site> Order<J> {
     }
 
     /// A token of the whole order. It takes no memory.
-    pub fn ordered(&self) -> Ordered<J>
+    pub fn ordered(&self) -> Ordered<L>
         ensures { result ≡ self.now }
     {
         Ordered {
@@ -71,12 +71,12 @@ impl<J: Site> Order<J> {
 
 /// A prefix of the run's order that was seen, which is a legal history. Contracts see it as its entries. It takes no memory.
 #[derive(Drop)]
-pub struct Ordered<J: Site> {
+pub struct Ordered<L: Life> {
     pub(crate) front: Front<Entry>,
-    pub(crate) of: PhantomData<J>,
+    pub(crate) of: PhantomData<L>,
 }
 
-impl<J: Site> Model for Ordered<J> {
+impl<L: Life> Model for Ordered<L> {
     ghost use Rattle.std.specs.Prelude.{◌≡◌, List};
     ghost use Rattle.world.specs.World as spec;
     ghost use Rattle.published.specs.Order.{IsLegal};
@@ -85,12 +85,12 @@ impl<J: Site> Model for Ordered<J> {
 
     ghost view = { λ o. o.front.items };
 
-    ghost invariant = { λ o. (o.front.book ≡ J.book.ordered) × IsLegal J.start o.front.items };
+    ghost invariant = { λ o. (o.front.book ≡ L.book.ordered) × IsLegal L.start o.front.items };
 }
 
-impl<J: Site> Ordered<J> {
+impl<L: Life> Ordered<L> {
     /// Another token of the same entries. It takes no memory.
-    pub fn copy(&self) -> Ordered<J>
+    pub fn copy(&self) -> Ordered<L>
         ensures { result ≡ self.now }
     {
         Ordered {
@@ -99,15 +99,15 @@ impl<J: Site> Ordered<J> {
         }
     }
 
-    /// It is a legal history from the run's start.
-    pub fn legal(&self)
-        ensures { IsLegal J.start self.now }
+    /// What each token of the order keeps, for the prover: it is a legal history from the run's start. It does nothing.
+    pub fn facts(&self)
+        ensures { IsLegal L.start self.now }
     {
         let _ = &self.front;
     }
 
     /// Two tokens of one run begin one order. It takes no memory.
-    pub fn meets(&self, other: &Ordered<J>)
+    pub fn meets(&self, other: &Ordered<L>)
         ensures { (all : List Kept) × IsPrefix self.now all × IsPrefix other.now all }
     {
         self.front.meets(&other.front);

@@ -1,27 +1,31 @@
 //! The token of what was published.
 ghost use Rattle.std.specs.Prelude.{◌≡◌, ◌⊎◌, ◌≤◌, ◌<◌, ◌+◌, ◌^◌, ◌∷◌, ◌++◌, [], ◌↔◌, true, length, IsTrue, MatchBool};
 ghost use mathlib.Core.List.{IsPrefix};
+ghost use Rattle.revision.specs.State.{fold};
 ghost use Rattle.recovery.specs.Found.{commands_of};
+ghost use Rattle.recovery.specs.Moment.{IsMomentOf, moment_of};
 ghost use Rattle.world.specs.World.{takens};
 ghost use Rattle.published.specs.Batches.{IsShorter};
+ghost use Rattle.published.specs.Moments.{AreMoments};
 
-use crate::batch::OfReceipt;
+use crate::life::Life;
 use crate::log::Log;
 use crate::mark::Mark;
+use crate::moments::Moments;
 use crate::order::Ordered;
-use crate::site::Site;
+use disk::Disk;
 use recovery::Receipt;
 use std::marker::{Model, PhantomData};
 
-/// A token of what was published: a prefix of the run's log that was seen. Its commands are a prefix of the run's order. Contracts
-/// see it as its batches, the oldest first.
+/// A token of what was published: a prefix of the run's log that was seen, with the moments of its batches. Its commands are a prefix of the
+/// run's order. Contracts see it as its batches, the oldest first; `moments` gives the rest.
 #[derive(Drop)]
-pub struct Told<D, J: Site> {
+pub struct Told<D, L: Life> {
     pub(crate) mark: Mark,
-    pub(crate) of: PhantomData<(D, J)>,
+    pub(crate) of: PhantomData<(D, L)>,
 }
 
-impl<D, J: Site> Model for Told<D, J> {
+impl<D, L: Life> Model for Told<D, L> {
     ghost use Rattle.std.specs.Prelude.{◌≡◌, List, [], ◌∷◌};
     ghost use Rattle.revision.specs.Command.{Taken};
 
@@ -29,10 +33,10 @@ impl<D, J: Site> Model for Told<D, J> {
 
     ghost view = { λ t. t.mark.batches };
 
-    ghost invariant = { λ t. (t.mark.book ≡ J.book) × (t.mark.start ≡ J.start ∷ []) };
+    ghost invariant = { λ t. (t.mark.book ≡ L.book) × (t.mark.start ≡ L.start ∷ []) };
 }
 
-impl<D, J: Site> Told<D, J> {
+impl<D, L: Life> Told<D, L> {
     /// How many commands its batches have. It takes no memory.
     pub fn len(&self) -> u64
         ensures { result ≡ length (commands_of self.now) }
@@ -41,7 +45,7 @@ impl<D, J: Site> Told<D, J> {
     }
 
     /// Another token of the same batches. It takes no memory.
-    pub fn copy(&self) -> Told<D, J>
+    pub fn copy(&self) -> Told<D, L>
         ensures { result ≡ self.now }
     {
         Told {
@@ -51,7 +55,7 @@ impl<D, J: Site> Told<D, J> {
     }
 
     /// Whether the other token begins with this one: of two tokens of a run one begins the other. It takes no memory.
-    pub fn begins(&self, other: &Told<D, J>) -> bool
+    pub fn begins(&self, other: &Told<D, L>) -> bool
         ensures { MatchBool result (IsPrefix self.now other.now) (IsShorter other.now self.now) }
     {
         self.mark.log.meets(&other.mark.log);
@@ -59,7 +63,7 @@ impl<D, J: Site> Told<D, J> {
     }
 
     /// Whether both tokens name the same batches. It takes no memory.
-    pub fn is_same(&self, other: &Told<D, J>) -> bool
+    pub fn is_same(&self, other: &Told<D, L>) -> bool
         ensures { IsTrue result ↔ (self.now ≡ other.now) }
     {
         self.mark.log.meets(&other.mark.log);
@@ -67,7 +71,7 @@ impl<D, J: Site> Told<D, J> {
     }
 
     /// The longer of two tokens, which the other begins. It takes no memory.
-    pub fn longer(&self, other: &Told<D, J>) -> Told<D, J>
+    pub fn longer(&self, other: &Told<D, L>) -> Told<D, L>
         ensures one { (result ≡ self.now) ⊎ (result ≡ other.now) }
         ensures this { IsPrefix self.now result }
         ensures that { IsPrefix other.now result }
@@ -80,7 +84,7 @@ impl<D, J: Site> Told<D, J> {
     }
 
     /// Becomes the longer of the two. It takes no memory.
-    pub fn learn(&mut self, other: &Told<D, J>)
+    pub fn learn(&mut self, other: &Told<D, L>)
         ensures one { (self.new ≡ self.old) ⊎ (self.new ≡ other.now) }
         ensures this { IsPrefix self.old self.new }
         ensures that { IsPrefix other.now self.new }
@@ -89,7 +93,7 @@ impl<D, J: Site> Told<D, J> {
     }
 
     /// All that a token of the order has is published, where that is no more than what is published. It takes no memory.
-    pub fn covers(&self, ordered: &Ordered<J>)
+    pub fn covers(&self, ordered: &Ordered<L>)
         requires { length ordered.now ≤ length (commands_of self.now) }
         ensures { IsPrefix (takens ordered.now) (commands_of self.now) }
     {
@@ -97,7 +101,7 @@ impl<D, J: Site> Told<D, J> {
     }
 
     /// What is published begins the order that a token has, where that is no shorter. It takes no memory.
-    pub fn begins_order(&self, ordered: &Ordered<J>)
+    pub fn begins_order(&self, ordered: &Ordered<L>)
         requires { length (commands_of self.now) ≤ length ordered.now }
         ensures { IsPrefix (commands_of self.now) (takens ordered.now) }
     {
@@ -105,7 +109,7 @@ impl<D, J: Site> Told<D, J> {
     }
 
     /// A token of the order that has all its commands first. It takes no memory.
-    pub fn ordered(&self) -> Ordered<J>
+    pub fn ordered(&self) -> Ordered<L>
         ensures { IsPrefix (commands_of self.now) (takens result) }
     {
         Ordered {
@@ -114,17 +118,55 @@ impl<D, J: Site> Told<D, J> {
         }
     }
 
-    /// Publishes a batch that was committed after the batches of this token, which has to be of the whole log, and gives the token that ends
-    /// with it. The batch has to be the next part of the order, and the log counts fewer than 2^64 commands. It takes no memory.
-    pub fn add(&self, log: &mut Log<D, J>, receipt: &Receipt<D>, ordered: &Ordered<J>) -> Told<D, J>
-        requires whole { log.old ≡ self.now }
-        requires some { 1 ≤ length receipt.now }
-        requires few { length (commands_of self.now) + length receipt.now < 2 ^ 64 }
-        requires next { IsPrefix (commands_of self.now ++ receipt.now) (takens ordered.now) }
-        ensures told { result ≡ self.now ++ receipt.now ∷ [] }
-        ensures log { log.new ≡ self.now ++ receipt.now ∷ [] }
+    /// The moments at which the commits of its batches had ended, one for each: at each a store held exactly what the batches up to this one
+    /// make of the run's start, over a device that was synced. It takes no memory.
+    pub fn moments(&self) -> Moments<L>
+        ensures { AreMoments L.start self.now result }
     {
-        log.owner.append_as::<Receipt<D>, OfReceipt>(receipt);
+        Moments {
+            front: self.mark.moments.copy(),
+            of: PhantomData,
+        }
+    }
+
+    /// What it has inside, without the run's name. It takes no memory.
+    pub fn mark(&self) -> Mark
+        ensures { result ≡ record { book = L.book; start = L.start ∷ []; batches = self.now } }
+    {
+        self.mark.copy()
+    }
+
+    /// The token of a mark of this run's log. It takes no memory.
+    pub fn of_mark(mark: Mark) -> Told<D, L>
+        requires book { mark.book ≡ L.book }
+        requires start { mark.start ≡ L.start ∷ [] }
+        ensures { result ≡ mark.batches }
+    {
+        Told {
+            mark,
+            of: PhantomData,
+        }
+    }
+}
+
+impl<D: Disk, L: Life> Told<D, L> {
+    /// Publishes a batch that was committed after the batches of this token, which has to be of the whole log, and gives the token that ends
+    /// with it. When its commit ended, the store held what the batch makes of what these have made. The batch has to be the next part of the
+    /// order, and the log counts fewer than 2^64 commands. It takes no memory.
+    pub fn add(&self, log: &mut Log<D, L>, receipt: &Receipt<D>, ordered: &Ordered<L>) -> Told<D, L>
+        requires whole { log.old.batches ≡ self.now }
+        requires some { 1 ≤ length receipt.now.batch }
+        requires few { length (commands_of self.now) + length receipt.now.batch < 2 ^ 64 }
+        requires next { IsPrefix (commands_of self.now ++ receipt.now.batch) (takens ordered.now) }
+        requires moment { IsMomentOf (fold L.start (commands_of (self.now ++ receipt.now.batch ∷ [])))
+            (moment_of ⟦<D as Disk>⟧ receipt.now.at) }
+        ensures told { result ≡ self.now ++ receipt.now.batch ∷ [] }
+        ensures log { log.new ≡ record {
+          batches = self.now ++ receipt.now.batch ∷ [];
+          moments = log.old.moments ++ moment_of ⟦<D as Disk>⟧ receipt.now.at ∷ [];
+        } }
+    {
+        log.put(receipt);
         Told {
             mark: Mark {
                 batches: self.mark.batches + 1,
@@ -132,26 +174,8 @@ impl<D, J: Site> Told<D, J> {
                 log: log.owner.front(),
                 order: ordered.front.copy(),
                 start: self.mark.start.copy(),
+                moments: log.moments.front(),
             },
-            of: PhantomData,
-        }
-    }
-
-    /// What it has inside, without the run's name. It takes no memory.
-    pub fn mark(&self) -> Mark
-        ensures { result ≡ record { book = J.book; start = J.start ∷ []; batches = self.now } }
-    {
-        self.mark.copy()
-    }
-
-    /// The token of a mark of this run's log. It takes no memory.
-    pub fn of_mark(mark: Mark) -> Told<D, J>
-        requires book { mark.book ≡ J.book }
-        requires start { mark.start ≡ J.start ∷ [] }
-        ensures { result ≡ mark.batches }
-    {
-        Told {
-            mark,
             of: PhantomData,
         }
     }

@@ -1,11 +1,10 @@
 -- From an empty store that isn't open yet to one that begins with documents, cell by cell.
-use Rattle.std.proofs.Common.{◌≡◌, inl, inr, ℕ, zero, suc, ◌+◌, ◌-◌, ◌*◌, ◌^◌, ◌≤◌, ◌<◌, true, Option, Some, None, List, [], ◌∷◌, ◌++◌, length, map, replicate, take, drop, get_or, refl, sym, ◌∙◌, ap, subst, arith, length-append}
+use Rattle.std.proofs.Common.{◌≡◌, inl, inr, ℕ, zero, suc, ◌+◌, ◌-◌, ◌*◌, ◌≤◌, ◌<◌, true, Some, None, List, [], ◌∷◌, ◌++◌, length, map, replicate, take, drop, get_or, refl, sym, ◌∙◌, ap, subst, arith, length-append}
 use Rattle.std.specs.Prelude.{slice_get}
 use Rattle.std.proofs.lemmas.Bool.{cases_eq, cases_lt}
-use Rattle.std.proofs.lemmas.List.{length-map, length-replicate, drop-drop, take_all}
+use Rattle.std.proofs.lemmas.List.{length-map, length-replicate, drop-drop}
 use Rattle.std.proofs.lemmas.List.Elements.{All-nil}
 use Rattle.std.proofs.lemmas.Option.{slice_get_within, get_or_from_slice_get}
-use Rattle.std.proofs.Math.Nat.{mul-le-mul_right}
 use Rattle.disk.specs.Device.{History, overwritten, SameOutside, IsWrite, IsSync, IsAtMostOneStep}
 use Rattle.disk.specs.Crash.{Leaves}
 use Rattle.disk.proofs.CallerLemmas.{same_at, byte_overwritten, overwritten_same_outside, goes_on_first_write, goes_on_sync, goes_on_run, leaves_map}
@@ -20,8 +19,8 @@ use Rattle.milestone.specs.OneCell.{HoldsPair}
 use Rattle.milestone.proofs.CallerLemmas.{agree_within, cell_fits}
 use Rattle.segments.specs.Table.{slot_place}
 use Rattle.recovery.specs.declared.shape.Shape.{Shape}
-use Rattle.recovery.specs.Shape.{is_in_range, layout_length, cells_place, slots_place}
-use Rattle.recovery.specs.Layout.{IsClosed, HoldsCells, IsLaidOut}
+use Rattle.recovery.specs.Shape.{is_in_range, cells_place, slots_place}
+use Rattle.recovery.specs.Layout.{HoldsCells, IsLaidOut}
 use Rattle.recovery.specs.Found.{RunsWith, limits_of}
 use Rattle.recovery.specs.Formatting.{empty_table, IsUnformatted, MayBegin, IsBegunStore, IsUnformattedOrBegun, IsPrepared, IsPreparedWith}
 use Rattle.recovery.proofs.Superblocks.{ranges_of}
@@ -85,7 +84,7 @@ begun_store shape start content in_range begins is gate = record { laid_out = la
     }
 
 -- bytes behind what has changed
-part_behind : (place count bound : ℕ) (old content : List ℕ) → bound ≤ place → drop bound content ≡ drop bound old → take count (drop place content) ≡ take count (drop place old)
+pub part_behind : (place count bound : ℕ) (old content : List ℕ) → bound ≤ place → drop bound content ≡ drop bound old → take count (drop place content) ≡ take count (drop place old)
 part_behind place count bound old content behind same =
     let sum : bound + (place - bound) ≡ place = omega (arith, behind) in
     let at : (l : List ℕ) → drop place l ≡ drop (place - bound) (drop bound l) =
@@ -218,13 +217,3 @@ cell_keeps shape start number cell begins there =
 pub fits_first : (shape : Shape) (number : ℕ) (cell : Cell) → is_in_range shape ≡ true → IsCell number cell → CellKeeps (limits_of shape) cell
     → 5 + length (cell_body number cell) ≤ shape.cell
 fits_first shape number cell in_range is keeps = omega (arith, cell_fits number (limits_of shape) cell refl is keeps, (ranges_of shape in_range).cell_low)
-
--- where its cells lie
-pub first_within : (shape : Shape) (number size : ℕ) → number < shape.docs → layout_length shape ≤ size → cells_place shape number + 2 * shape.cell ≤ size
-first_within shape number size below long = omega (arith, cells_before shape number below, long)
-
-pub first_bound : (shape : Shape) (number : ℕ) → is_in_range shape ≡ true → number < shape.docs → cells_place shape number + 2 * shape.cell < 2 ^ 62
-first_bound shape number in_range below =
-    let ranges = ranges_of shape in_range in
-    let most : number * (2 * shape.cell) ≤ 65536 * (2 * shape.cell) = mul-le-mul_right (2 * shape.cell) (omega (arith, below, ranges.docs)) in
-    omega (arith, most, ranges.cell)

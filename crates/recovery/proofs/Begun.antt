@@ -1,59 +1,62 @@
 -- What a step of a run leaves that was refused.
 use Rattle.std.proofs.Common.{◌≡◌, ◌⊎◌, inl, inr, ℕ, ◌+◌, ◌≤◌, ◌<◌, false, List, [], ◌∷◌, ◌++◌, length, take, get_or, refl, ap, sym, arith, ◌∙◌}
 use Rattle.std.proofs.lemmas.List.{take_more}
-use Rattle.std.specs.Prelude.{Result, Ok, Err, OnErr, IfErr, IsErrOf}
+use Rattle.std.specs.Prelude.{Result, Ok, Err, IfErr}
 use Rattle.disk.specs.declared.device.Disk.{Ghosts}
 use Rattle.disk.specs.Crash.{LeavesOnly}
 use Rattle.disk.proofs.CallerLemmas.{leaves_map}
+use Rattle.refusal.specs.Refusal.{IsOneOf}
 use Rattle.refusal.specs.declared.Refusal.{Refusal}
 use Rattle.refusal.specs.declared.Refusal.TheVariants.{StillNeeded, NoMemory, Fault}
 use Rattle.revision.specs.Command.{Taken}
 use Rattle.milestone.specs.Job.{Job}
 use Rattle.recovery.specs.declared.run.StoreStep.TheVariants.{Commit, Milestone, Retire}
 use Rattle.recovery.specs.declared.store.Store.{Store}
+use Rattle.recovery.specs.Commit.{IsCommitRefused}
 use Rattle.recovery.specs.Found.{FoundAs}
-use Rattle.recovery.specs.Jobs.{without_job}
-use Rattle.recovery.specs.Open.{IsOpen, IsUnchanged, IsWithOrWithout, device_of, state_of, known_marks, kept_jobs, has_failed}
+use Rattle.recovery.specs.Milestones.{IsUnput, LeavesOthers}
+use Rattle.recovery.specs.Retiring.{IsUnretired, LeavesDocuments}
+use Rattle.recovery.specs.Open.{IsOpen, IsWithOrWithout, device_of, state_of, has_failed}
 use Rattle.recovery.specs.declared.run.StoreStep.{StoreStep}
-use Rattle.recovery.specs.Begun.{IsLeftBy, IsLeftByMemory, jobs_behind, jobs_after}
+use Rattle.recovery.specs.Begun.{IsLeftBy, jobs_behind, jobs_after}
+use Rattle.recovery.proofs.Refusals.{memory_no_fault}
 
 module _ {D : Type 0} {disk : Ghosts D} (old new : Store D disk) where
-  pub left_commit : {A : Type 0} (batch : List Taken) (refusal : Refusal) → state_of new ≡ state_of old → known_marks new ≡ known_marks old
-      → kept_jobs new ≡ kept_jobs old → length (disk.past (device_of new)) ≤ length (disk.past (device_of old)) + 8
-      → (has_failed old ≡ false → IsOpen old → LeavesOnly disk (IsWithOrWithout (state_of old) batch) (device_of old) (device_of new))
-      → (IsErrOf {T = A} {E = Refusal} (Err refusal) NoMemory → IsUnchanged old new) → IsLeftBy (Commit batch) refusal old new
-  left_commit batch refusal state marks jobs calls any_moment given_up = record {
-    state = state;
-    marks = marks;
-    jobs = jobs;
+  pub left_commit : (batch : List Taken) (refusal : Refusal) → IsCommitRefused refusal batch old new
+      → length (disk.past (device_of new)) ≤ length (disk.past (device_of old)) + 8
+      → (has_failed old ≡ false → IsOpen old → LeavesOnly disk (IsWithOrWithout (state_of old) batch) (device_of old) (device_of new)) → IsLeftBy (Commit batch) refusal old new
+  left_commit batch refusal left calls any_moment = record {
+    state = left.state;
+    marks = left.marks;
+    jobs = left.jobs;
     calls = calls;
     any_moment = any_moment;
-    memory = λ is. given_up (ap (λ (r : Refusal). Err r) is);
+    memory = λ is. left.unchanged (memory_no_fault is);
   }
 
-  pub left_milestone : {A : Type 0} (document revision : ℕ) (result : Result A Refusal) → state_of new ≡ state_of old → known_marks new ≡ known_marks old
-      → without_job document (kept_jobs new) ≡ without_job document (kept_jobs old) → length (disk.past (device_of new)) ≤ length (disk.past (device_of old)) + 6
+  pub left_milestone : {A : Type 0} (document revision : ℕ) (result : Result A Refusal) → LeavesOthers document old new
+      → length (disk.past (device_of new)) ≤ length (disk.past (device_of old)) + 6
       → (has_failed old ≡ false → IsOpen old → LeavesOnly disk (λ content. FoundAs content (state_of old)) (device_of old) (device_of new))
-      → (IsErrOf result NoMemory → IsLeftByMemory (Milestone document revision) old new) → IfErr result (λ r. IsLeftBy (Milestone document revision) r old new)
-  left_milestone document revision (Ok answer) state marks jobs calls any_moment memory = tt
-  left_milestone document revision (Err refusal) state marks jobs calls any_moment memory = record {
-    state = state;
-    marks = marks;
-    jobs = jobs;
+      → IfErr result (λ r. IsUnput document revision r old new) → IfErr result (λ r. IsLeftBy (Milestone document revision) r old new)
+  left_milestone document revision (Ok answer) stays calls any_moment left = tt
+  left_milestone document revision (Err refusal) stays calls any_moment left = record {
+    state = stays.state;
+    marks = stays.marks;
+    jobs = stays.jobs;
     calls = omega (arith, calls);
     any_moment = λ unfailed is_open. leaves_map (λ content found. inl found) (any_moment unfailed is_open);
-    memory = λ is. memory (ap (λ (r : Refusal). Err r) is);
+    memory = left.memory;
   }
 
-  pub left_retire : {A : Type 0} (result : Result A Refusal) → state_of new ≡ state_of old → OnErr result (known_marks new ≡ known_marks old) → kept_jobs new ≡ kept_jobs old
+  pub left_retire : {A : Type 0} (result : Result A Refusal) → LeavesDocuments old new → IfErr result (λ r. IsUnretired r old new)
       → length (disk.past (device_of new)) ≤ length (disk.past (device_of old)) + 2
       → (has_failed old ≡ false → IsOpen old → LeavesOnly disk (λ content. FoundAs content (state_of old)) (device_of old) (device_of new))
-      → IfErr result (λ e. (e ≡ StillNeeded) ⊎ (e ≡ Fault)) → IfErr result (λ r. IsLeftBy Retire r old new)
-  left_retire (Ok answer) state marks jobs calls any_moment only = tt
-  left_retire (Err refusal) state marks jobs calls any_moment only = record {
-    state = state;
-    marks = marks;
-    jobs = jobs;
+      → IfErr result (λ e. IsOneOf e (StillNeeded ∷ Fault ∷ [])) → IfErr result (λ r. IsLeftBy Retire r old new)
+  left_retire (Ok answer) stays left calls any_moment only = tt
+  left_retire (Err refusal) stays left calls any_moment only = record {
+    state = stays.state;
+    marks = left.marks;
+    jobs = stays.jobs;
     calls = omega (arith, calls);
     any_moment = λ unfailed is_open. leaves_map (λ content found. inl found) (any_moment unfailed is_open);
     memory = no_memory only;

@@ -1,5 +1,5 @@
 -- What a content represents after an append to the ring, or within one.
-use Rattle.std.proofs.Common.{◌≡◌, ◌⊎◌, inl, inr, ℕ, ◌*◌, true, Option, List, [], ◌∷◌, ◌++◌, length, refl, sym, ◌∙◌, ap, subst}
+use Rattle.std.proofs.Common.{◌≡◌, inl, inr, ℕ, ◌*◌, true, Option, List, [], ◌∷◌, ◌++◌, length, refl, sym, ◌∙◌, ap, subst}
 use Rattle.std.proofs.lemmas.List.{length-set, map_push}
 use Rattle.std.proofs.lemmas.List.Elements.{All-append, All-cons, All-nil}
 use Rattle.disk.specs.declared.device.Disk.{Ghosts}
@@ -15,7 +15,7 @@ use Rattle.segments.specs.Slot.{Segment}
 use Rattle.segments.specs.Numbers.{NumbersDiffer}
 use Rattle.segments.specs.Table.{HoldsTable, IsAppended, numbers_of}
 use Rattle.segments.specs.Order.{bodies_of}
-use Rattle.segments.specs.Ring.{Fits, IsReady, HoldsInRing, FitsNow, SamePlaces, IsLeftByAppend, at_of, size_of, ring_size, known_numbers}
+use Rattle.segments.specs.Ring.{IsReady, HoldsInRing, FitsNow, SamePlaces, IsLeftByAppend, at_of, size_of, ring_size, known_numbers}
 use Rattle.segments.proofs.CallerLemmas.{opened_bodies, appended_bodies, opened_differs}
 use Rattle.recovery.specs.declared.store.Store.{Store}
 use Rattle.recovery.specs.Shape.{slots_place}
@@ -26,16 +26,13 @@ use Rattle.recovery.specs.steps.Appending.{IsDone}
 use Rattle.recovery.proofs.Layouts.{laid_out_again, slots_held, as_many}
 use Rattle.recovery.proofs.Folds.{commands_of-push, fold-limits}
 use Rattle.recovery.proofs.Runs.{found_as, found_open}
+pub use Rattle.segments.proofs.CallerLemmas.{same_ring as as_it_was}
 
 -- a table with the same bodies
 pub record SameBodies (before now : List (Option Segment)) : Type 0 where
   pub bodies : bodies_of now ≡ bodies_of before
   pub count : length now ≡ length before
   pub differ : NumbersDiffer (numbers_of now)
-
--- a content in which nothing was changed
-pub as_it_was : (content : List ℕ) (ring : Ring) (table : List (Option Segment)) → Fits content ring table → HoldsInRing content ring table content
-as_it_was content ring table fits = record { outside = record { same_length = refl; before = refl; after = refl }; holds = fits.holds }
 
 -- a call that is done holds its table among the slots
 pub held_now : (old new : List ℕ) (before after : Ring) (table : List (Option Segment)) → SamePlaces before after → FitsNow old before new after table → HoldsInRing old before table new

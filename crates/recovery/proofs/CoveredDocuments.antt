@@ -1,14 +1,14 @@
 -- What has become of each document while those that are marked in the oldest segment are covered, group by group.
-use Rattle.std.proofs.Common.{◌≡◌, ◌≢◌, ◌⊎◌, inl, inr, ℕ, zero, suc, ◌+◌, ◌*◌, ◌≤◌, ◌<◌, true, false, Bool, Option, None, List, [], ◌∷◌, filter, length, take, get_or, refl, sym, ◌∙◌, ap, subst, arith}
-use Rattle.std.specs.Prelude.{slice_get, nat_lt, cond, Some, Result, Ok, Err, IfOk, IfErr, IfSome, IsErrOf}
-use Rattle.std.proofs.lemmas.Bool.{cases_eq, false≢true}
+use Rattle.std.proofs.Common.{◌≡◌, ◌≢◌, ◌⊎◌, inl, inr, ℕ, zero, suc, ◌≤◌, ◌<◌, true, false, Bool, None, List, [], ◌∷◌, filter, length, take, get_or, refl, sym, ◌∙◌, ap, subst, arith}
+use Rattle.std.specs.Prelude.{slice_get, nat_lt, cond, Result, Ok, Err, IfOk, IfErr, IsErrOf}
+use Rattle.std.proofs.lemmas.Bool.{false≢true, cases_Bool}
 use Rattle.std.proofs.lemmas.List.{get_or_past}
 use Rattle.std.proofs.lemmas.List.Sums.{length-filter, count_by-le-length}
 use Rattle.std.proofs.lemmas.Option.{slice_get_past}
 use Rattle.disk.specs.declared.device.Disk.{Ghosts}
 use Rattle.refusal.specs.declared.Refusal.{Refusal}
 use Rattle.refusal.specs.declared.Refusal.TheVariants.{StillNeeded, NoMemory}
-use Rattle.revision.specs.State.{State, DocumentRecord, newest_revision}
+use Rattle.revision.specs.State.{State, newest_revision}
 use Rattle.history.specs.Cell.{Pair, cells_at}
 use Rattle.milestone.specs.Job.{Job}
 use Rattle.segments.specs.Numbers.{IsOldest}
@@ -18,9 +18,9 @@ use Rattle.recovery.specs.declared.store.Store.{Store}
 use Rattle.recovery.specs.Jobs.{jobs_for, without_job}
 use Rattle.recovery.specs.declared.marks.Mark.{Mark}
 use Rattle.recovery.specs.Marks.{is_of, within_segment, greatest_marked}
-use Rattle.recovery.specs.Open.{IsOpen, IsHalfFreed, IsLeft, IsRaised, AreBothNewest, device_of, ring_of, state_of, known_marks, kept_jobs}
+use Rattle.recovery.specs.Open.{IsOpen, IsHalfFreed, IsLeft, IsRaised, AreBothNewest, ring_of, state_of, known_marks, kept_jobs}
 use Rattle.recovery.specs.Unwritten.{IsUnchangedButJobs}
-use Rattle.recovery.specs.steps.Freeing.{reached_in, count_marked, IsGathered, AreCovered, AreCoveredTo, IsHalfCovered}
+use Rattle.recovery.specs.steps.Freeing.{count_marked, IsGathered, AreCovered, AreCoveredTo, IsHalfCovered}
 use Rattle.recovery.specs.steps.Group.{is_in, outside_jobs, IsGroupPut}
 use Rattle.recovery.proofs.Covering.{low_or_above}
 use Rattle.recovery.proofs.DroppedJobs.{outside_own, outside_other}
@@ -28,10 +28,6 @@ use Rattle.recovery.proofs.Newest.{still_parts}
 use Rattle.recovery.proofs.OtherJobs.{own_stay, others_without, none_own}
 use Rattle.recovery.proofs.Reaching.{marks_reached}
 use Rattle.recovery.proofs.Refusals.{refusal_or}
-
-one_of : (b : Bool) → (b ≡ true) ⊎ (b ≡ false)
-one_of true = inl refl
-one_of false = inr refl
 
 -- no more are marked among the first documents than among all
 pub count_to : (marked : List ℕ) (i : ℕ) → count_marked (take i marked) ≤ count_marked marked
@@ -83,7 +79,7 @@ module _ {D : Type 0} {disk : Ghosts D} where
       goes_on = put.goes_on;
       same_table = put.same_table ∙ so_far.same_table;
       spared = spared;
-      raised = λ n below some. elim (one_of (is_in ms n)) [
+      raised = λ n below some. elim (cases_Bool (is_in ms n)) [
         | inl own ↦ raised_now n own
         | inr away ↦ elim (low_or_above from n) [
           | inr before ↦ still n away before some
@@ -93,11 +89,11 @@ module _ {D : Type 0} {disk : Ghosts D} where
     }
       where
         spared : (n : ℕ) → (end ≤ n) ⊎ (get_or marked n 0 ≡ 0) → IsLeft start is_open new put.goes_on n
-        spared n (inl past) = elim (one_of (is_in ms n)) [
+        spared n (inl past) = elim (cases_Bool (is_in ms n)) [
           | inr away ↦ left n away (inl (omega (arith, past, goes_on)))
           | inl own ↦ absurd (omega (arith, past, (gathered.only n own).1))
         ]
-        spared n (inr none) = elim (one_of (is_in ms n)) [
+        spared n (inr none) = elim (cases_Bool (is_in ms n)) [
           | inr away ↦ left n away (inr none)
           | inl own ↦ absurd (omega (arith, none, (gathered.only n own).2))
         ]
@@ -149,7 +145,7 @@ module _ {D : Type 0} {disk : Ghosts D} where
   -- the jobs of documents that aren't marked stay
   pub jobs_more : (marked : List ℕ) (from end : ℕ) (ms : List Member) (start mid new : Store D disk) → IsGathered marked from end ms mid → kept_jobs new ≡ outside_jobs ms (kept_jobs mid)
       → (n : ℕ) → get_or marked n 0 ≡ 0 → jobs_for n (kept_jobs new) ≡ jobs_for n (kept_jobs mid)
-  jobs_more marked from end ms start mid new gathered jobs n none = elim (one_of (is_in ms n)) [
+  jobs_more marked from end ms start mid new gathered jobs n none = elim (cases_Bool (is_in ms n)) [
     | inl own ↦ absurd (omega (arith, none, (gathered.only n own).2))
     | inr away ↦ ap (λ (l : List Job). jobs_for n l) jobs ∙ outside_other ms n (kept_jobs mid) away
   ]
@@ -185,7 +181,7 @@ module _ {D : Type 0} {disk : Ghosts D} where
       spared = λ n none. half.spared n (omega (arith, all n, none));
       under_way = half.under_way;
       needs = λ none. omega (arith, none, half.needs, all half.under_way);
-      own = inl half.own;
+      own = half.own;
       dropped = half.dropped;
       others = λ n differ needed. half.others n differ (some n needed);
     }
@@ -227,7 +223,3 @@ memory_needs {A} refusal is told = let same : NoMemory ≡ StillNeeded = sym is 
 pub ok_map : {A E : Type 0} (P Q : A → Type 0) (result : Result A E) → ((v : A) → P v → Q v) → IfOk result P → IfOk result Q
 ok_map P Q (Ok v) implies has = implies v has
 ok_map P Q (Err fault) implies has = tt
-
-pub some_map : {A : Type 0} (P Q : A → Type 0) (result : Option A) → ((v : A) → P v → Q v) → IfSome result P → IfSome result Q
-some_map P Q None implies has = tt
-some_map P Q (Some v) implies has = implies v has

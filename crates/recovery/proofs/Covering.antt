@@ -1,13 +1,10 @@
 -- What has become of the cells of each document while the oldest segment is freed, and how many calls that takes.
-use Rattle.std.proofs.Common.{◌≡◌, ◌≢◌, ◌⊎◌, inl, inr, ℕ, zero, suc, ◌+◌, ◌*◌, ◌≤◌, ◌<◌, max, true, false, Bool, Option, List, [], ◌∷◌, ◌++◌, length, take, get_or, refl, sym, ◌∙◌, ap, subst, arith}
+use Rattle.std.proofs.Common.{◌≡◌, ◌≢◌, ◌⊎◌, inl, inr, ℕ, zero, suc, ◌+◌, ◌≤◌, ◌<◌, max, true, false, Bool, Option, List, [], ◌∷◌, ◌++◌, length, take, get_or, sym, ◌∙◌, ap, subst, arith}
 use Rattle.std.specs.Prelude.{Result, Ok, Err, OnOk, cond, ◌==◌, ◌&&◌}
-use Rattle.std.proofs.lemmas.Bool.{cases_eq}
-use Rattle.std.proofs.lemmas.Bool.Decides.{nat_tests}
 use Rattle.std.proofs.lemmas.List.{take_more}
 use Rattle.std.proofs.lemmas.List.Filters.{length-filter_more}
 use Rattle.disk.specs.declared.device.Disk.{Ghosts}
 use Rattle.refusal.specs.declared.Refusal.{Refusal}
-use Rattle.revision.specs.State.{State}
 use Rattle.history.specs.Cell.{Pair, cells_at}
 use Rattle.milestone.specs.Job.{Job}
 use Rattle.segments.specs.Slot.{Segment}
@@ -18,13 +15,13 @@ use Rattle.recovery.specs.declared.marks.Mark.{Mark}
 use Rattle.recovery.specs.declared.store.Store.{Store}
 use Rattle.recovery.specs.Cells.{lowest_known}
 use Rattle.recovery.specs.Marks.{marks_of, is_of, within_segment, revision_for, greatest_marked}
-use Rattle.recovery.specs.Jobs.{jobs_for, without_job}
+use Rattle.recovery.specs.Jobs.{jobs_for}
 use Rattle.recovery.specs.Marked.{MayRetire}
-use Rattle.recovery.specs.Open.{IsOpen, IsUnchanged, IsRetiredNow, IsFreedNow, IsHalfFreed, IsHalfRaised, HasNone, AreBothNewest, ring_of, state_of, known_marks, kept_jobs}
+use Rattle.recovery.specs.Open.{IsOpen, IsUnchanged, IsRetiredNow, IsFreedNow, HasNone, AreBothNewest, state_of, known_marks, kept_jobs}
 use Rattle.recovery.specs.steps.Freeing.{KeepsSegments, AreCovered}
 use Rattle.recovery.proofs.Going.{open_unchanged, unchanged_cells, unchanged_table}
 use Rattle.recovery.proofs.Marked.{one_oldest}
-use Rattle.recovery.proofs.Marking.{marked_push, marked_member, own, other_document, other_segment}
+use Rattle.recovery.proofs.Marking.{marked_push, own, other_document, other_segment}
 use Rattle.recovery.proofs.Newest.{newest_lowest}
 use Rattle.recovery.proofs.Reaching.{marks_reached}
 use Rattle.recovery.proofs.Retirement.{known, oldest_here, may_retire}

@@ -46,7 +46,7 @@ cells-own : (pairs : List Pair) (pair : Pair) → cells_at (pairs ++ pair ∷ []
 cells-own [] pair = refl
 cells-own (p ∷ pairs) pair = cells-own pairs pair
 
-cells-past : (pairs : List Pair) (n : ℕ) → length pairs ≤ n → cells_at pairs n ≡ no_cells
+pub cells-past : (pairs : List Pair) (n : ℕ) → length pairs ≤ n → cells_at pairs n ≡ no_cells
 cells-past pairs n le = ap (λ o. unwrap_or o no_cells) (slice_get_past pairs n le)
 
 -- What was read of the first documents, by cells that are those of each of them, is so.

@@ -2,7 +2,7 @@
 use Rattle.std.proofs.Common.{◌≡◌, inl, inr, ℕ, ◌+◌, ◌-◌, ◌*◌, ◌≤◌, ◌<◌, true, Option, Some, None, zero, suc, List, [], ◌∷◌, length, replicate, take, drop, get_or, refl, sym, ◌∙◌, ap, subst, arith}
 use Rattle.std.proofs.Math.Nat.{mul-le-mul_left}
 use Rattle.std.proofs.lemmas.Bool.{cases_eq, cases_lt}
-use Rattle.std.proofs.lemmas.List.{take_at, get_or-take, get_or-drop, get_or-replicate, get_or_past, length-replicate}
+use Rattle.std.proofs.lemmas.List.{take_at, get_or-replicate, get_or_past, length-replicate}
 use Rattle.std.proofs.Math.ListN.{get_or-map}
 use Rattle.std.specs.List.{flat_map}
 use Rattle.std.proofs.lemmas.List.Elements.{All-nil}
@@ -12,7 +12,7 @@ use Rattle.disk.proofs.CallerLemmas.{same_at, drop_overwritten, overwritten_same
 use Rattle.journal.specs.Area.{open_gate}
 use Rattle.journal.specs.BatchSpelling.{IsBatch}
 use Rattle.revision.specs.Invariants.{IsLimits}
-use Rattle.history.specs.Cell.{Pair, no_cells, cells_at}
+use Rattle.history.specs.Cell.{Pair, no_cells}
 use Rattle.history.specs.Shown.{no_order}
 use Rattle.history.proofs.CallerLemmas.{begins as begins_empty}
 use Rattle.milestone.specs.OneCell.{HoldsPair}
@@ -27,10 +27,8 @@ use Rattle.recovery.specs.Found.{RunsWith, limits_of, empty_state}
 use Rattle.recovery.specs.Formatting.{empty_table, IsUnformatted, IsEmptyStore, IsUnformattedOrEmpty, IsPrepared, IsOnlySynced, LeavesFromSync}
 use Rattle.recovery.proofs.Superblocks.{ranges_of}
 use Rattle.recovery.proofs.Runs.{found_as}
-
--- the first byte of a part
-first_byte : (at size : ℕ) (content : List ℕ) → 0 < size → get_or (take size (drop at content)) 0 0 ≡ get_or content at 0
-first_byte at size content some = get_or-take size (drop at content) 0 0 some ∙ get_or-drop at content 0 0 ∙ ap (λ k. get_or content k 0) (omega arith)
+pub use Rattle.history.proofs.CallerLemmas.{none-open as no_pair}
+use Rattle.segments.proofs.CallerLemmas.{first_byte}
 
 -- a gate that is written closed is closed, and no other one is opened
 pub closed_at : (old : List ℕ) (at : ℕ) → at + 1 ≤ length old → IsClosed (overwritten old at (0 ∷ [])) at
@@ -112,12 +110,6 @@ slots_empty shape content in_range closed = record {
   };
 }
 
--- no document has a cell
-pub no_pair : (count number : ℕ) → cells_at (replicate count no_cells) number ≡ no_cells
-no_pair zero number = refl
-no_pair (suc count) zero = refl
-no_pair (suc count) (suc number) = no_pair count number
-
 -- the two cells of each document are closed where all their gates are
 pub cells_empty : (shape : Shape) (content : List ℕ) → is_in_range shape ≡ true → ((k : ℕ) → k < 2 * shape.docs → IsClosed content (cell_place shape k))
     → HoldsCells content shape (replicate shape.docs no_cells)
@@ -197,12 +189,6 @@ opened shape old in_range is =
     let fits : 0 + 1 ≤ length old = omega (arith, is.long) in
     empty_store shape (overwritten old 0 (open_gate ∷ [])) in_range (still_prepared shape old (overwritten old 0 (open_gate ∷ [])) is (overwritten_same_outside old 0 (open_gate ∷ []) fits))
     (byte_overwritten old 0 (open_gate ∷ []) 0 (omega arith) (omega arith, omega arith))
-
--- a read changes nothing of that
-pub still_synced : {old mid new : History} → IsOnlySynced old mid → new.now.seen ≡ mid.now.seen → new.now.unsynced ≡ mid.now.unsynced → new.past ≡ mid.past → IsOnlySynced old new
-still_synced {old} {mid} {new} synced seen unsynced past =
-    let same : mid ≡ new = λ i. record { now = record { seen = sym seen i; unsynced = sym unsynced i }; past = sym past i } in
-    subst (λ (h : History). IsOnlySynced old h) same synced
 
 pub nothing_done : (at_start : History) → IsOnlySynced at_start at_start
 nothing_done at_start = record { seen = refl; time = NoStep refl }

@@ -1,22 +1,22 @@
 -- What calls of a store say of its device's faults, one after another, and what that says of the store.
-use Rattle.std.proofs.Common.{◌≡◌, ◌≢◌, ◌⊎◌, inl, inr, ◌↔◌, ℕ, Bool, List, false, refl, sym, ◌∙◌, ap, subst}
+use Rattle.std.proofs.Common.{◌≡◌, ◌≢◌, ◌↔◌, ℕ, Bool, List, false, refl, sym, ◌∙◌, ap, subst}
 use Rattle.std.specs.Prelude.{Result, Ok, Err, OnOk, IfErr, IsErrOf}
 use Rattle.std.proofs.lemmas.Bool.{false≢true}
 use Rattle.disk.specs.declared.device.Disk.{Ghosts}
 use Rattle.disk.specs.Device.{Rose}
 use Rattle.disk.specs.Crash.{LeavesOnly}
 use Rattle.refusal.specs.declared.Refusal.{Refusal}
-use Rattle.refusal.specs.declared.Refusal.TheVariants.{StillNeeded, Fault}
+use Rattle.refusal.specs.declared.Refusal.TheVariants.{Fault}
 use Rattle.recovery.specs.declared.store.Store.{Store}
 use Rattle.recovery.specs.Faults.{FailsAtFaults}
 use Rattle.recovery.specs.Found.{FoundAs}
 use Rattle.recovery.specs.Goes.{Goes}
 use Rattle.recovery.specs.Unwritten.{IsUnchangedButJobs}
-use Rattle.recovery.specs.Open.{IsOpen, IsUnchanged, IsRetiredNow, device_of, state_of, has_failed}
+use Rattle.recovery.specs.Open.{IsOpen, IsUnchanged, device_of, state_of, has_failed}
 use Rattle.recovery.proofs.Refusals.{refusal_or, ok≢err}
 use Rattle.recovery.proofs.Going.{goes_call, goes_still}
 use Rattle.recovery.proofs.Runs.{found_as, found_open}
-use Rattle.recovery.proofs.PutAtOnce.{is_false, refused_unfailed, goes_on_retired, goes_on_needed}
+use Rattle.recovery.proofs.PutAtOnce.{is_false, refused_unfailed}
 
 module _ {D : Type 0} {disk : Ghosts D} where
   -- no call of a store that had not failed, where no fault is told
@@ -87,20 +87,6 @@ module _ {D : Type 0} {disk : Ghosts D} where
   pub faults_told : {A B : Type 0} {old new : Store D disk} (refusal : Refusal) → FailsAtFaults {A = A} (Err refusal) old new → FailsAtFaults {A = B} (Err refusal) old new
   faults_told refusal faults = faults_as refusal refusal (λ is. is) (λ is. is) faults
 
-  -- one of a store that had not failed, told by an Ok where it told no fault
-  pub faults_passed : {A B : Type 0} {old new : Store D disk} (result : Result A Refusal) (told : B) → has_failed old ≡ false → ¬ IsErrOf result Fault
-      → FailsAtFaults result old new → FailsAtFaults (Ok told) old new
-  faults_passed (Ok answer) told works other faults = faults_ok answer told faults
-  faults_passed {A} {B} {old} {new} (Err refusal) told works other faults = record {
-    failed_before = λ failed. absurd (false≢true (sym works ∙ failed));
-    fault = λ is. absurd (ok≢err told Fault is);
-    no_fault = tt;
-    good = faults.no_fault (λ is. other (ap (λ (r : Refusal). Err r) is));
-    fails = λ unfailed. (λ failed. absurd (other ((faults.fails works).0 failed)), λ is. absurd (ok≢err told Fault is));
-    works = is_false (has_failed new) (λ failed. other ((faults.fails works).0 failed));
-    honest = faults.honest;
-  }
-
   -- what one call keeps, by what it says of the faults
   pub goes_by : {P : List ℕ → Type 0} {A : Type 0} {old new : Store D disk} (result : Result A Refusal) → FailsAtFaults result old new
       → (has_failed old ≡ false → IsOpen old → LeavesOnly disk P (device_of old) (device_of new))
@@ -113,15 +99,15 @@ module _ {D : Type 0} {disk : Ghosts D} where
       is_false (has_failed new) (λ failed. other (ap (refusal_or {T = A} Fault) ((faults.fails (refused_unfailed {A = A} old new refusal faults.failed_before other)).0 failed)))
 
   -- so it is open where it was
-  pub done_by : {A : Type 0} {P : List ℕ → Type 0} {old new : Store D disk} (result : Result A Refusal) → FailsAtFaults result old new → Goes P old new
-      → OnOk result (IsOpen old → IsOpen new)
-  done_by (Ok answer) faults goes = goes.opens faults.works
-  done_by (Err refusal) faults goes = tt
-
   pub kept_by : {A : Type 0} {P : List ℕ → Type 0} {old new : Store D disk} (result : Result A Refusal) → FailsAtFaults result old new → Goes P old new
       → IfErr result (λ e. e ≢ Fault → IsOpen old → IsOpen new)
   kept_by (Ok answer) faults goes = tt
   kept_by (Err refusal) faults goes = λ other. goes.opens (works_still refusal faults other)
+
+  pub done_by : {A : Type 0} {P : List ℕ → Type 0} {old new : Store D disk} (result : Result A Refusal) → FailsAtFaults result old new → Goes P old new
+      → OnOk result (IsOpen old → IsOpen new)
+  done_by (Ok answer) faults goes = goes.opens faults.works
+  done_by (Err refusal) faults goes = tt
 
   -- the kept jobs alone changed afterwards
   pub faults_but_jobs : {A : Type 0} (result : Result A Refusal) (old mid new : Store D disk) → has_failed old ≡ false → IsUnchangedButJobs mid new
@@ -138,11 +124,3 @@ module _ {D : Type 0} {disk : Ghosts D} where
 
   pub goes_but_jobs : (old new : Store D disk) → IsUnchangedButJobs old new → (IsOpen old → IsOpen new) → Goes (λ content. FoundAs content (state_of old)) old new
   goes_but_jobs old new same opens = goes_still same.device same.failed opens (λ is_open. found_as _ _ (found_open old is_open))
-
-  -- a retirement, by its clauses
-  pub retire_goes : (old new : Store D disk) (result : Result (Unit {0}) Refusal) → FailsAtFaults result old new
-      → (has_failed old ≡ false → IsOpen old → LeavesOnly disk (λ content. FoundAs content (state_of old)) (device_of old) (device_of new))
-      → IfErr result (λ e. (e ≡ StillNeeded) ⊎ (e ≡ Fault)) → (IsErrOf result StillNeeded → IsUnchanged old new)
-      → OnOk result ((is_open : IsOpen old) → IsRetiredNow is_open.cells is_open.table new) → Goes (λ content. FoundAs content (state_of old)) old new
-  retire_goes old new result faults any_moment only untouched done =
-      goes_by result faults any_moment (goes_on_retired old new result done) (goes_on_needed old new result only untouched)

@@ -1,15 +1,13 @@
 -- A commit after a segment was freed for it.
-use Rattle.std.proofs.Common.{◌≡◌, ◌↔◌, ◌⊎◌, inl, inr, true, false, Bool, refl, ℕ, ◌+◌, ◌*◌, ◌≤◌, List, length, sym, ◌∙◌, ap, arith}
+use Rattle.std.proofs.Common.{◌≡◌, ◌⊎◌, inl, inr, refl, ℕ, ◌+◌, ◌≤◌, List, length, sym, ◌∙◌, ap, arith}
 use Rattle.std.specs.Prelude.{Result, Ok, Err, IfErr, IsErrOf}
-use Rattle.std.proofs.lemmas.Bool.{false≢true}
 use Rattle.disk.specs.declared.device.Disk.{Ghosts}
 use Rattle.refusal.specs.declared.Refusal.{Refusal}
 use Rattle.refusal.specs.declared.Refusal.TheVariants.{JournalFull, StillNeeded, Stranger, NoMemory, Fault}
 use Rattle.milestone.specs.Job.{Job}
 use Rattle.recovery.specs.declared.store.Store.{Store}
 use Rattle.recovery.specs.Freed.{HasFew, IsUnfreed, KeepsOthers, CostsAtMost}
-use Rattle.recovery.specs.Open.{IsUnchanged, device_of, kept_jobs}
-use Rattle.recovery.proofs.HandedOut.{same_error}
+use Rattle.recovery.specs.Open.{device_of, kept_jobs}
 use Rattle.recovery.proofs.Refusals.{ok≢err, refusal_or}
 use Rattle.recovery.proofs.SparedJobs.{spared_same}
 
@@ -65,17 +63,13 @@ module _ {D : Type 0} {disk : Ghosts D} where
 
 -- a commit doesn't tell that a segment is needed, nor does freeing tell that there is no room
 abbrev pub OfCommit : Refusal → Type 0
-OfCommit e = ((e ≡ JournalFull) ⊎ (e ≡ Stranger)) ⊎ ((e ≡ NoMemory) ⊎ (e ≡ Fault))
+OfCommit e = (e ≡ JournalFull) ⊎ ((e ≡ Stranger) ⊎ ((e ≡ NoMemory) ⊎ (e ≡ Fault)))
 
-one_needed : (refusal : Refusal) → OfCommit refusal → refusal ≡ StillNeeded → ⊥
-one_needed refusal (inl (inl is)) needed = let same : JournalFull ≡ StillNeeded = sym is ∙ needed in cc
-one_needed refusal (inl (inr is)) needed = let same : Stranger ≡ StillNeeded = sym is ∙ needed in cc
-one_needed refusal (inr (inl is)) needed = let same : NoMemory ≡ StillNeeded = sym is ∙ needed in cc
-one_needed refusal (inr (inr is)) needed = let same : Fault ≡ StillNeeded = sym is ∙ needed in cc
-
-pub no_needed : {A : Type 0} (result : Result A Refusal) → IfErr result (λ e. OfCommit e) → IsErrOf result StillNeeded → ⊥
-no_needed (Ok answer) only told = ok≢err answer StillNeeded told
-no_needed {A} (Err refusal) only told = one_needed refusal only (ap (refusal_or {T = A} StillNeeded) told)
+pub no_needed : (refusal : Refusal) → OfCommit refusal → refusal ≡ StillNeeded → ⊥
+no_needed refusal (inl is) needed = let same : JournalFull ≡ StillNeeded = sym is ∙ needed in cc
+no_needed refusal (inr (inl is)) needed = let same : Stranger ≡ StillNeeded = sym is ∙ needed in cc
+no_needed refusal (inr (inr (inl is))) needed = let same : NoMemory ≡ StillNeeded = sym is ∙ needed in cc
+no_needed refusal (inr (inr (inr is))) needed = let same : Fault ≡ StillNeeded = sym is ∙ needed in cc
 
 -- nor does a retirement take memory
 pub no_memory : {A : Type 0} (result : Result A Refusal) → IfErr result (λ e. (e ≡ StillNeeded) ⊎ (e ≡ Fault)) → IsErrOf result NoMemory → ⊥
@@ -87,12 +81,6 @@ not_full refusal (inl is) full = let same : StillNeeded ≡ JournalFull = sym is
 not_full refusal (inr (inl is)) full = let same : NoMemory ≡ JournalFull = sym is ∙ full in cc
 not_full refusal (inr (inr is)) full = let same : Fault ≡ JournalFull = sym is ∙ full in cc
 
--- nor is a journal with room told to be full
-pub no_full : {A X : Type 0} (result : Result A Refusal) (failed room : Bool) → (failed ≡ true → IsErrOf result Fault × X)
-    → (failed ≡ false → (IsErrOf result JournalFull ↔ (room ≡ false))) → room ≡ true → IsErrOf result JournalFull → ⊥
-no_full result true room before full is told = let same : JournalFull ≡ Fault = same_error result JournalFull Fault told (before refl).0 in cc
-no_full result false room before full is told = false≢true (sym ((full refl).0 told) ∙ is)
-
 pub no_stranger_freed : (refusal : Refusal) → (refusal ≡ StillNeeded) ⊎ ((refusal ≡ NoMemory) ⊎ (refusal ≡ Fault)) → refusal ≡ Stranger → ⊥
 no_stranger_freed refusal (inl is) stranger = let same : StillNeeded ≡ Stranger = sym is ∙ stranger in cc
 no_stranger_freed refusal (inr (inl is)) stranger = let same : NoMemory ≡ Stranger = sym is ∙ stranger in cc
@@ -100,9 +88,9 @@ no_stranger_freed refusal (inr (inr is)) stranger = let same : Fault ≡ Strange
 
 -- what each of them tells, a commit that makes room may tell
 pub of_commit : (refusal : Refusal) → OfCommit refusal → ((refusal ≡ JournalFull) ⊎ ((refusal ≡ StillNeeded) ⊎ (refusal ≡ Stranger))) ⊎ ((refusal ≡ NoMemory) ⊎ (refusal ≡ Fault))
-of_commit refusal (inl (inl full)) = inl (inl full)
-of_commit refusal (inl (inr stranger)) = inl (inr (inr stranger))
-of_commit refusal (inr other) = inr other
+of_commit refusal (inl full) = inl (inl full)
+of_commit refusal (inr (inl stranger)) = inl (inr (inr stranger))
+of_commit refusal (inr (inr other)) = inr other
 
 pub of_freeing : (refusal : Refusal) → (refusal ≡ StillNeeded) ⊎ ((refusal ≡ NoMemory) ⊎ (refusal ≡ Fault))
     → ((refusal ≡ JournalFull) ⊎ ((refusal ≡ StillNeeded) ⊎ (refusal ≡ Stranger))) ⊎ ((refusal ≡ NoMemory) ⊎ (refusal ≡ Fault))

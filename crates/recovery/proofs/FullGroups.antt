@@ -1,6 +1,7 @@
 -- How many groups there are of milestones that are put together: all of them but the last are full.
-use Rattle.std.proofs.Common.{◌≡◌, ℕ, zero, suc, ◌+◌, ◌-◌, ◌*◌, ◌/◌, ◌≤◌, ◌<◌, Option, List, [], ◌∷◌, ◌++◌, length, get_or, refl, sym, ◌∙◌, ap, subst, arith}
-use Rattle.std.specs.Prelude.{nat_lt, cond, slice_get}
+use Rattle.std.proofs.Common.{◌≡◌, ℕ, zero, suc, ◌+◌, ◌-◌, ◌*◌, ◌/◌, ◌≤◌, ◌<◌, Option, List, [], ◌∷◌, ◌++◌, length, get_or, refl, sym, ◌∙◌, ap, arith}
+use Rattle.std.specs.Prelude.{nat_lt, cond}
+use Rattle.std.proofs.lemmas.List.{length-append}
 use Rattle.disk.specs.declared.device.Disk.{Ghosts}
 use Rattle.disk.specs.Counted.{synced_moments, syncs_of}
 use Rattle.disk.specs.Crash.{history_of}
@@ -9,7 +10,7 @@ use Rattle.recovery.specs.declared.group.Member.{Member}
 use Rattle.recovery.specs.declared.store.Store.{Store}
 use Rattle.recovery.specs.Freed.{bytes_in, bytes_at, bytes_below, bytes_for, most_bytes, SyncsAtMost}
 use Rattle.recovery.specs.Open.{device_of, state_of}
-use Rattle.recovery.specs.steps.Freeing.{bytes_to, bytes_of, AreFull, SyncsBy}
+use Rattle.recovery.specs.steps.Freeing.{bytes_to, bytes_of, AreBounded, AreFull, SyncsBy}
 use Rattle.recovery.specs.steps.Group.{IsNewestOf}
 
 -- one document more
@@ -39,6 +40,23 @@ bytes_same state f g (suc n) same =
 pub bytes_push : (ms : List Member) (m : Member) → bytes_of (ms ++ m ∷ []) ≡ bytes_of ms + length m.bytes.items
 bytes_push [] m = omega arith
 bytes_push (first ∷ others) m = omega (arith, bytes_push others m)
+
+-- all but the last have the same bytes in the same list
+front_bytes : (ms front : List Member) (m last : Member) → ms ++ m ∷ [] ≡ front ++ last ∷ [] → bytes_of front ≡ bytes_of ms
+front_bytes [] [] m last is = refl
+front_bytes [] (first ∷ others) m last is = absurd (omega (arith, ap (λ (l : List Member). length l) is, length-append others (last ∷ [])))
+front_bytes (first ∷ others) [] m last is = absurd (omega (arith, ap (λ (l : List Member). length l) is, length-append others (m ∷ [])))
+front_bytes (one ∷ ms) (other ∷ front) m last is =
+    let same : one ≡ other = cc in
+    let behind : ms ++ m ∷ [] ≡ front ++ last ∷ [] = cc in
+    omega (arith, front_bytes ms front m last behind, ap (λ (x : Member). length x.bytes.items) same)
+
+-- where there are few bytes one member more may come
+pub bounded_few : (ms : List Member) → bytes_of ms < most_bytes → AreBounded ms
+bounded_few ms few front last is = omega (arith, few, ap (λ (l : List Member). bytes_of l) is, bytes_push front last)
+
+pub bounded_push : (ms : List Member) (m : Member) → bytes_of ms < most_bytes → AreBounded (ms ++ m ∷ [])
+bounded_push ms m few front last is = omega (arith, few, front_bytes ms front m last is)
 
 -- a newest milestone has the bytes of its document
 pub newest_bytes : {D : Type 0} {disk : Ghosts D} (store : Store D disk) (m : Member) → IsNewestOf store m → length m.bytes.items ≡ bytes_at (state_of store) m.document

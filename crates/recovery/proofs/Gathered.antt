@@ -1,6 +1,6 @@
 -- The milestones that are gathered for a group, and the table by which they are.
 use Rattle.std.proofs.Common.{◌≡◌, ◌≢◌, ◌⊎◌, inl, inr, ℕ, zero, suc, ◌+◌, ◌≤◌, ◌<◌, true, false, Bool, List, [], ◌∷◌, ◌++◌, filter, length, take, get_or, set, replicate, max, refl, sym, ◌∙◌, ap, subst, arith}
-use Rattle.std.specs.Prelude.{nat_lt, cond, ◌==◌, ◌||◌, Err, IsErrOf}
+use Rattle.std.specs.Prelude.{nat_lt, cond, ◌==◌, ◌||◌, Result, Ok, Err, IsErrAnd, IsErrOf}
 use Rattle.std.proofs.lemmas.Bool.{cases_eq, false≢true}
 use Rattle.std.proofs.lemmas.Bool.Decides.{nat_tests}
 use Rattle.std.proofs.lemmas.List.{take-append-le, take_all, length-append, length-replicate, get_or-replicate}
@@ -15,7 +15,7 @@ use Rattle.recovery.specs.Freed.{bytes_at}
 use Rattle.recovery.specs.Open.{state_of}
 use Rattle.recovery.specs.Marks.{is_of, within_segment, greatest_marked}
 use Rattle.recovery.specs.steps.Freeing.{count_marked, IsGathered}
-use Rattle.recovery.specs.steps.Group.{is_in, AreDistinct, Each, IsNewestOf, IsGroup}
+use Rattle.recovery.specs.steps.Group.{is_in, AreDistinct, Each, IsNewestOf}
 use Rattle.recovery.proofs.Covering.{low_or_above, next_mark, marks_more, own_revision, no_revision}
 use Rattle.recovery.proofs.FullGroups.{bytes_next, bytes_push, newest_bytes}
 use Rattle.recovery.proofs.Members.{is_in_push}
@@ -209,6 +209,10 @@ module _ (segment count place : ℕ) (marks : List Mark) (mark : Mark) (inside :
 pub told_fault : {A : Type 0} (refusal : Refusal) → (refusal ≡ StillNeeded) ⊎ (refusal ≡ NoMemory) → ¬ IsErrOf {T = A} {E = Refusal} (Err refusal) Fault
 told_fault {A} refusal (inl is) told = let same : StillNeeded ≡ Fault = sym is ∙ ap (refusal_or {T = A} Fault) told in cc
 told_fault {A} refusal (inr is) told = let same : NoMemory ≡ Fault = sym is ∙ ap (refusal_or {T = A} Fault) told in cc
+
+pub told_memory : {A : Type 0} (result : Result A Refusal) → IsErrAnd result (λ e. e ≡ NoMemory) → ¬ IsErrOf result Fault
+told_memory (Ok answer) memory told = memory
+told_memory {A} (Err refusal) memory told = let same : NoMemory ≡ Fault = sym memory ∙ ap (refusal_or {T = A} Fault) told in cc
 
 pub memory_or_needed : {A : Type 0} (refusal : Refusal) → IsErrOf {T = A} {E = Refusal} (Err refusal) StillNeeded → refusal ≡ StillNeeded
 memory_or_needed {A} refusal told = ap (refusal_or {T = A} StillNeeded) told

@@ -1,6 +1,6 @@
 -- Commands that are put into the lists of their documents.
 use Rattle.std.proofs.Common.{◌≡◌, ℕ, zero, suc, ◌+◌, ◌≤◌, ◌<◌, Bool, true, false, cond, List, [], ◌∷◌, ◌++◌, length, get_or, set, take, map, refl, sym, ap, subst, ◌∙◌, ⊎_elim, arith, append_assoc, length-set}
-use Rattle.std.specs.Prelude.{◌&&◌, ◌==◌, nat_lt, All}
+use Rattle.std.specs.Prelude.{◌&&◌, nat_lt, All}
 use Rattle.std.specs.List.{flat_map, filter}
 use Rattle.std.proofs.lemmas.Bool.{and_left, and_right, and_from, le-ltb, lt-ltb, cases_eq, eq-eqb, ne_eqb}
 use Rattle.std.proofs.lemmas.List.{length-map, get_or-set_same, get_or-set_other, get_or-map, map_push, take_more, append-nil}
@@ -12,17 +12,14 @@ use Rattle.journal.specs.BatchSpelling.{IsBatch, batch}
 use Rattle.journal.proofs.CallerLemmas.{one_spelling}
 use Rattle.segments.specs.Slot.{Segment}
 use Rattle.recovery.specs.Found.{SpellBatches, commands_of}
-use Rattle.recovery.proofs.Folds.{commands_of-push}
+use Rattle.recovery.proofs.Folds.{commands_of-push, and_assoc}
 use Rattle.recovery.specs.steps.Reading.{are_below, AreByDocument, SpellGroups, commands_in, AreAdded}
+use Rattle.history.proofs.CallerLemmas.{of_document-append}
 
 -- those above a revision are what a filter keeps
 pub above-filter : (revision : ℕ) (entries : List Taken) → filter (λ (t : Taken). nat_lt revision t.revision) entries ≡ above revision entries
 above-filter revision [] = refl
 above-filter revision (t ∷ others) = ap (λ (l : List Taken). cond (nat_lt revision t.revision) (t ∷ l) l) (above-filter revision others)
-
-and_assoc : (a b c : Bool) → a && (b && c) ≡ (a && b) && c
-and_assoc true b c = refl
-and_assoc false b c = refl
 
 below-append : (docs : ℕ) (a b : List Taken) → are_below docs (a ++ b) ≡ are_below docs a && are_below docs b
 below-append docs [] b = refl
@@ -43,15 +40,6 @@ below-part docs f (x ∷ xs) zero d lt fails = below-append docs (f x) (flat_map
 below-part docs f (x ∷ xs) (suc i) d lt fails =
     below-append docs (f x) (flat_map f xs)
     ∙ and_right (are_below docs (f x)) (are_below docs (flat_map f xs)) (below-part docs f xs i d (omega (arith, lt)) fails)
-
-of_document-append : (number : ℕ) (a b : List Taken) → of_document number (a ++ b) ≡ of_document number a ++ of_document number b
-of_document-append number [] b = refl
-of_document-append number (t ∷ a) b = step (t.document == number) (of_document-append number a b)
-  where
-    step : (v : Bool) → of_document number (a ++ b) ≡ of_document number a ++ of_document number b
-        → cond v (t ∷ of_document number (a ++ b)) (of_document number (a ++ b)) ≡ cond v (t ∷ of_document number a) (of_document number a) ++ of_document number b
-    step true later = ap (λ (l : List Taken). t ∷ l) later
-    step false later = later
 
 -- one command more
 by-document-one : (entries : List Taken) (lists : List (List Taken)) (t : Taken) → AreByDocument entries lists → t.document < length lists

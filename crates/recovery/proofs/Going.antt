@@ -1,13 +1,12 @@
 -- How what calls of a store keep is shown for one call, and holds over others.
-use Rattle.std.proofs.Common.{◌≡◌, ◌≢◌, ◌↔◌, ◌⊎◌, inl, inr, ℕ, Bool, true, false, List, [], refl, sym, ◌∙◌, ap, subst}
+use Rattle.std.proofs.Common.{◌≡◌, ◌≢◌, ◌↔◌, ◌⊎◌, inl, inr, ℕ, true, false, List, [], refl, sym, ◌∙◌, ap, subst}
 use Rattle.std.specs.Prelude.{Result, Ok, Err, OnOk, IfErr, IsErrOf}
-use Rattle.std.proofs.lemmas.Bool.{false≢true}
+use Rattle.std.proofs.lemmas.Bool.{false≢true, cases_Bool}
 use Rattle.disk.specs.declared.device.Disk.{Ghosts}
 use Rattle.disk.specs.Crash.{LeavesOnly, MayLeaveNow, history_of}
 use Rattle.disk.proofs.CallerLemmas.{begins, leaves_map, goes_on_run, synced_leaves}
 use Rattle.refusal.specs.declared.Refusal.{Refusal}
 use Rattle.refusal.specs.declared.Refusal.TheVariants.{Fault}
-use Rattle.revision.specs.Command.{Taken}
 use Rattle.revision.specs.State.{State}
 use Rattle.history.specs.Running.{Runs}
 use Rattle.milestone.specs.declared.cells.Cells.{Cells}
@@ -25,11 +24,6 @@ use Rattle.recovery.specs.Found.{FoundAs, HoldsParts, limits_of, commands_of}
 use Rattle.recovery.specs.Open.{IsOpen, IsUnchanged, device_of, state_of, has_failed}
 use Rattle.recovery.specs.Goes.{Goes}
 use Rattle.recovery.proofs.Runs.{found_as, found_open}
-
--- a truth value is one or the other
-either : (b : Bool) → (b ≡ true) ⊎ (b ≡ false)
-either true = inl refl
-either false = inr refl
 
 module _ {D : Type 0} {disk : Ghosts D} where
   -- a store that a call left unchanged is open still
@@ -99,7 +93,7 @@ module _ {D : Type 0} {disk : Ghosts D} where
           → OnOk result (IsOpen old → IsOpen new) → IfErr result (λ e. e ≢ Fault → IsOpen old → IsOpen new)
           → has_failed new ≡ false → IsOpen old → IsOpen new
       opens (Ok answer) failed_before fails done kept works = done
-      opens (Err refusal) failed_before fails done kept works = kept (λ fault. by_case fault (either (has_failed old)))
+      opens (Err refusal) failed_before fails done kept works = kept (λ fault. by_case fault (cases_Bool (has_failed old)))
         where
           by_case : refusal ≡ Fault → (has_failed old ≡ true) ⊎ (has_failed old ≡ false) → ⊥
           by_case fault (inl failed) = false≢true (sym works ∙ ((failed_before failed).1.failed ∙ failed))
@@ -133,8 +127,8 @@ module _ {D : Type 0} {disk : Ghosts D} where
   -- some calls, and then others
   pub goes_on : {P : List ℕ → Type 0} {old mid new : Store D disk} → Goes P old mid → Goes P mid new → Goes P old new
   goes_on {P} {old} {mid} {new} first second = record {
-    any_moment = λ works is_open. moments works is_open (either (has_failed mid));
-    opens = λ works is_open. second.opens works (first.opens (worked works (either (has_failed mid))) is_open);
+    any_moment = λ works is_open. moments works is_open (cases_Bool (has_failed mid));
+    opens = λ works is_open. second.opens works (first.opens (worked works (cases_Bool (has_failed mid))) is_open);
     stays = λ failed. let one = first.stays failed in let two = second.stays one.1 in (two.0 ∙ one.0, two.1);
   }
     where
@@ -155,3 +149,7 @@ module _ {D : Type 0} {disk : Ghosts D} where
   -- no call, where the state is held by the content
   pub goes_nowhere : (store : Store D disk) → Goes (λ content. FoundAs content (state_of store)) store store
   goes_nowhere store = goes_none store (λ is_open. found_as _ _ (found_open store is_open))
+
+  -- nothing has changed
+  pub goes_unchanged : {old new : Store D disk} → IsUnchanged old new → Goes (λ content. FoundAs content (state_of old)) old new
+  goes_unchanged {old} same = goes_still same.device same.failed (open_unchanged same) (λ is_open. found_as _ _ (found_open old is_open))

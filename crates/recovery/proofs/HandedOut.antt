@@ -1,6 +1,6 @@
 -- A job that is handed out, or why there is none.
 use Rattle.std.proofs.Common.{◌≡◌, ◌≢◌, ℕ, zero, suc, ◌≤◌, true, Option, Some, None, List, [], ◌∷◌, map, sym, ◌∙◌, ap, subst, arith}
-use Rattle.std.specs.Prelude.{Result, Ok, Err, IfOk, IfErr, OnOk, OnErr, IsOkUnless, slice_get}
+use Rattle.std.specs.Prelude.{Result, Ok, Err, IfErr, IsErrAnd, OnOk, OnErr, slice_get}
 use Rattle.std.proofs.lemmas.Bool.Decides.{nat_tests}
 use Rattle.std.proofs.lemmas.Option.{slice_get_within}
 use Rattle.std.proofs.lemmas.List.Elements.{All-push}
@@ -44,16 +44,9 @@ none≢some is = cc
 pub same_some : {A : Type 0} (x y : A) → ◌≡◌ {A = Option A} (Some x) (Some y) → x ≡ y
 same_some x y is = cc
 
-pub on_ok : {A : Type 0} {P : Type 0} (result : Result A Refusal) → P → OnOk result P
-on_ok (Ok answer) has = has
-on_ok (Err refusal) has = tt
-
-pub memory_alone : {A : Type 0} (P : Refusal → Type 0) (result : Result A Refusal) → IsOkUnless result NoMemory → IfErr result (λ e. e ≢ NoMemory → P e)
-memory_alone P (Ok answer) only = tt
-memory_alone P (Err refusal) only = λ other. absurd (other only)
-
-pub err_of : {A : Type 0} (P : Refusal → Type 0) (result : Result A Refusal) (e : Refusal) → result ≡ Err e → P e → IfErr result P
-err_of P result e is has = subst (λ r. IfErr r P) (sym is) has
+pub memory_told : {A : Type 0} (P : Refusal → Type 0) (result : Result A Refusal) → IsErrAnd result (λ e. e ≡ NoMemory) → IfErr result (λ e. e ≢ NoMemory → P e)
+memory_told P (Ok answer) told = absurd told
+memory_told P (Err refusal) told = λ other. absurd (other told)
 
 pub same_error : {A : Type 0} (result : Result A Refusal) (x y : Refusal) → result ≡ Err x → result ≡ Err y → x ≡ y
 same_error result x y one other = cc
@@ -76,7 +69,7 @@ module _ (state : State) (is_state : IsState state) (document revision highest :
   pub content_here : is_content (content_at found.past revision) ≡ true
   content_here = let here = held_here found highest revision none in ((is_state.each document found there).each revision here.1 here.2).content
 
-  one_job : (job : Job) → job.document ≡ document → cell_of_job job ≡ cell_of found revision → IsJobTo state.documents document revision job
+  pub one_job : (job : Job) → job.document ≡ document → cell_of_job job ≡ cell_of found revision → IsJobTo state.documents document revision job
   one_job job number is = let here = held_here found highest revision none in record {
     number = number;
     found = found;
@@ -87,7 +80,7 @@ module _ (state : State) (is_state : IsState state) (document revision highest :
     is = is;
   }
 
-  one_keeps : (job : Job) → job.document ≡ document → cell_of_job job ≡ cell_of found revision → KeepsLimits state.limits job
+  pub one_keeps : (job : Job) → job.document ≡ document → cell_of_job job ≡ cell_of found revision → KeepsLimits state.limits job
   one_keeps job number is =
       let here = held_here found highest revision none in
       let past = is_state.each document found there in
@@ -105,22 +98,12 @@ module _ (state : State) (is_state : IsState state) (document revision highest :
         });
       }
 
-  pub job_given : (result : Result Job Refusal) → IfOk result (λ job. job.document ≡ document) → IfOk result (λ job. cell_of_job job ≡ cell_of found revision)
-      → IfOk result (λ job. IsJobTo state.documents document revision job)
-  job_given (Ok job) number is = one_job job number is
-  job_given (Err refusal) number is = tt
-
-  pub job_keeps : (result : Result Job Refusal) → IfOk result (λ job. job.document ≡ document) → IfOk result (λ job. cell_of_job job ≡ cell_of found revision)
-      → IfOk result (λ job. KeepsLimits state.limits job)
-  job_keeps (Ok job) number is = one_keeps job number is
-  job_keeps (Err refusal) number is = tt
-
 -- jobs that keep the limits, with one more
 pub all_keep_with : (limits : Limits) (job : Job) (jobs : List Job) → KeepsLimits limits job → AllKeep limits jobs → AllKeep limits (with_job job jobs)
 all_keep_with limits job jobs one all =
     All-push (KeepsLimits limits) (without_job job.document jobs) job (all_passing (KeepsLimits limits) (λ other. not (other.document == job.document)) jobs all) one
 
-pub keep_after : {A : Type 0} (result : Result A Refusal) (limits : Limits) (job : Job) (jobs now : List Job) → OnOk result (now ≡ with_job job jobs) → OnErr result (now ≡ jobs)
+pub keep_after : {A E : Type 0} (result : Result A E) (limits : Limits) (job : Job) (jobs now : List Job) → OnOk result (now ≡ with_job job jobs) → OnErr result (now ≡ jobs)
     → KeepsLimits limits job → AllKeep limits jobs → AllKeep limits now
 keep_after (Ok answer) limits job jobs now ok err one all = subst (AllKeep limits) (sym ok) (all_keep_with limits job jobs one all)
-keep_after (Err refusal) limits job jobs now ok err one all = subst (AllKeep limits) (sym err) all
+keep_after (Err no_memory) limits job jobs now ok err one all = subst (AllKeep limits) (sym err) all

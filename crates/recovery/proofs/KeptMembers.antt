@@ -1,7 +1,7 @@
 -- Members that come of kept jobs.
 use Rattle.std.proofs.Common.{◌≡◌, ◌≢◌, ◌⊎◌, inl, inr, ℕ, zero, suc, ◌+◌, ◌*◌, ◌≤◌, ◌<◌, true, false, Bool, Some, List, [], ◌∷◌, ◌++◌, filter, length, take, get_or, not, refl, sym, ◌∙◌, ap, subst, arith}
 use Rattle.std.specs.Prelude.{◌==◌, ◌||◌, cond, slice_get, Contains, All}
-use Rattle.std.proofs.lemmas.Bool.{cases_eq, false≢true, eq-eqb}
+use Rattle.std.proofs.lemmas.Bool.{cases_eq, false≢true, eq-eqb, not-true, or_parts}
 use Rattle.std.proofs.lemmas.Bool.Decides.{nat_tests}
 use Rattle.std.proofs.lemmas.List.{length-append}
 use Rattle.std.proofs.lemmas.List.Elements.{All-nil, All-cons, All-head, All-tail, All-contains, Contains-append_left, Contains-append_right, Contains-push_cases}
@@ -17,15 +17,18 @@ use Rattle.milestone.specs.Job.{Job, cell_of_job}
 use Rattle.recovery.specs.declared.group.Member.{Member}
 use Rattle.recovery.specs.declared.store.Store.{Store}
 use Rattle.recovery.specs.Found.{limits_of}
+use Rattle.recovery.specs.Freed.{most_bytes}
 use Rattle.recovery.specs.Jobs.{highest, CanBePut, CanAllBePut, KeepsLimits}
 use Rattle.recovery.specs.Open.{IsOpen, device_of, known_cells, kept_jobs}
 use Rattle.recovery.specs.PutJobs.{has_job, without_jobs, with_all_put, AreOfOneEach, AreNotKept, ArePut, ArePutOf, CostsTogether, HaveRoom}
+use Rattle.recovery.specs.steps.Freeing.{bytes_of, AreBounded}
 use Rattle.recovery.specs.steps.Group.{is_in, put_in, outside_jobs, StandTogether, Each, AreDistinct, Spells, AreSpelled, HaveClosed, HasPlaces, IsMadeOfKept, AreKept}
 use Rattle.recovery.proofs.Covering.{low_or_above}
 use Rattle.recovery.proofs.DroppedJobs.{none_dropped}
+use Rattle.recovery.proofs.FullGroups.{bounded_few, bounded_push}
 use Rattle.recovery.proofs.Gathered.{each_push, distinct_push}
 use Rattle.recovery.proofs.KeptJobs.{passing_have}
-use Rattle.recovery.proofs.Members.{is_in_push, or_all, or_first, or_second}
+use Rattle.recovery.proofs.Members.{is_in_push, or_all}
 use Rattle.recovery.proofs.Mixed.{cells_past}
 use Rattle.recovery.proofs.OneRound.{costs_still, costs_wider}
 use Rattle.recovery.proofs.PutGroups.{member_of, length-framed}
@@ -40,11 +43,7 @@ pub each_behind : (first : Member) (others : List Member) (P : Member → Type 0
 each_behind first others P each k m inside is = each (suc k) m (omega (arith, inside)) is
 
 pub distinct_behind : (first : Member) (others : List Member) → AreDistinct (first ∷ others) → AreDistinct others
-distinct_behind first others distinct k m inside is = or_second (first.document == m.document) (is_in (take k others) m.document) (distinct (suc k) m (omega (arith, inside)) is)
-
-not_true : (b : Bool) → not b ≡ true → b ≡ false
-not_true true is = absurd (false≢true is)
-not_true false is = refl
+distinct_behind first others distinct k m inside is = (or_parts (first.document == m.document) (is_in (take k others) m.document) (distinct (suc k) m (omega (arith, inside)) is)).1
 
 same_filter : (f g : Job → Bool) (jobs : List Job) → ((job : Job) → f job ≡ g job) → filter f jobs ≡ filter g jobs
 same_filter f g [] same = refl
@@ -79,7 +78,7 @@ module _ {D : Type 0} {disk : Ghosts D} (store : Store D disk) (composed : List 
       by_test true is =
           let one = member_of others first.document (λ m. m.document ≢ first.document)
           (λ k m inside at same.
-          false≢true (sym (or_first (first.document == m.document) (is_in (take k others) m.document) (distinct (suc k) m (omega (arith, inside)) at)) ∙ eq-eqb first.document m.document (sym same))) is in
+          false≢true (sym (or_parts (first.document == m.document) (is_in (take k others) m.document) (distinct (suc k) m (omega (arith, inside)) at)).0 ∙ eq-eqb first.document m.document (sym same))) is in
           absurd (one.2 one.1)
 
   pub put_once : (ms : List Member) (made : Each ms (IsMadeOfKept composed store)) → AreDistinct ms → AreOfOneEach (jobs_put ms made)
@@ -104,7 +103,7 @@ module _ {D : Type 0} {disk : Ghosts D} (store : Store D disk) (composed : List 
   spelled_among (first ∷ others) made distinct (suc k) m inside is =
       let one = each_first first others (IsMadeOfKept composed store) made in
       let behind = each_behind first others (IsMadeOfKept composed store) made in
-      let away = or_first (first.document == m.document) (is_in (take k others) m.document) (distinct (suc k) m inside is) in
+      let away = (or_parts (first.document == m.document) (is_in (take k others) m.document) (distinct (suc k) m inside is)).0 in
       let test : (one.job.document == m.document) ≡ false = ap (λ j. j == m.document) (sym one.of) ∙ away in
       let cell : cell_among (jobs_put (first ∷ others) made) m.document ≡ cell_among (jobs_put others behind) m.document =
       ap (λ (b : Bool). cond b (cell_of_job one.job) (cell_among (jobs_put others behind) m.document)) test in
@@ -222,7 +221,7 @@ module _ {D : Type 0} {disk : Ghosts D} (store : Store D disk) (composed : List 
           passing_have (CanBePut is_open.order is_open.cells) (CanBePut is_open.order pairs) (λ job. not (is_in ms job.document))
           (λ job passes has. record {
             is_cell = has.is_cell;
-            not_below = subst (λ (p : Pair). highest p ≤ job.revision) (sym (same job.document (not_true (is_in ms job.document) passes))) has.not_below;
+            not_below = subst (λ (p : Pair). highest p ≤ job.revision) (sym (same job.document (not-true (is_in ms job.document) passes))) has.not_below;
           }) (kept_jobs store) is_open.kept
 
   -- what a composed job that is kept comes to is spelled
@@ -311,6 +310,10 @@ module _ {D : Type 0} {disk : Ghosts D} (store : Store D disk) where
   pub few_next : (job : Job) (ms now : List Member) (k : ℕ) → length ms ≤ k → IsAdded job ms now → length now ≤ k + 1
   few_next job ms now k few (inl (same, passed)) = omega (arith, few, ap (λ (l : List Member). length l) same)
   few_next job ms now k few (inr (m, more, away, of, made)) = omega (arith, few, ap (λ (l : List Member). length l) more, length-append ms (m ∷ []))
+
+  pub bounded_next : (job : Job) (ms now : List Member) → bytes_of ms < most_bytes → IsAdded job ms now → AreBounded now
+  bounded_next job ms now few (inl (same, passed)) = subst (λ (l : List Member). AreBounded l) (sym same) (bounded_few ms few)
+  bounded_next job ms now few (inr (m, more, away, of, made)) = subst (λ (l : List Member). AreBounded l) (sym more) (bounded_push ms m few)
 
 pub some_length : (n : ℕ) → (n ≡ 0) ⊎ (1 ≤ n)
 some_length zero = inl refl

@@ -1,10 +1,8 @@
 -- A layout stays when the slots alone change.
-use Rattle.std.proofs.Common.{◌≡◌, ℕ, ◌+◌, ◌-◌, ◌*◌, ◌≤◌, ◌<◌, true, Option, List, length, take, drop, sym, ◌∙◌, ap, subst, arith}
-use Rattle.std.proofs.lemmas.List.{take-take, drop-take, length-map}
-use Rattle.std.proofs.Math.Nat.{mul-le-mul_right}
+use Rattle.std.proofs.Common.{◌≡◌, ℕ, ◌+◌, ◌-◌, ◌*◌, ◌≤◌, ◌<◌, Option, List, length, sym, ◌∙◌, ap, subst, arith}
+use Rattle.std.proofs.lemmas.List.{length-map}
 use Rattle.disk.specs.Device.{SameOutside}
 use Rattle.disk.proofs.CallerLemmas.{same_at}
-use Rattle.revision.specs.State.{Limits, State}
 use Rattle.history.specs.Cell.{Pair, cells_at}
 use Rattle.milestone.proofs.CallerLemmas.{agree_within}
 use Rattle.segments.specs.Slot.{Segment, number_of}
@@ -12,17 +10,12 @@ use Rattle.segments.specs.Table.{HoldsTable}
 use Rattle.segments.specs.declared.ring.Ring.{Ring}
 use Rattle.segments.specs.Ring.{Fits, at_of, size_of, known_numbers}
 use Rattle.recovery.specs.declared.shape.Shape.{Shape}
-use Rattle.recovery.specs.Shape.{is_in_range, cells_place, slots_place}
+use Rattle.recovery.specs.Shape.{cells_place, slots_place}
 use Rattle.recovery.specs.Layout.{HoldsSlots, IsLaidOut}
-use Rattle.recovery.specs.Found.{limits_of}
 use Rattle.recovery.specs.steps.Reading.{IsRingOf}
 use Rattle.recovery.proofs.Superblocks.{ranges_of}
-
--- a part of one size more lies before the end of all of them
-pub part_before : (k count size : ℕ) → k < count → k * size + size ≤ count * size
-part_before k count size below =
-    let above : k + 1 ≤ count = omega arith in
-    omega (arith, mul-le-mul_right size above)
+pub use Rattle.segments.proofs.CallerLemmas.{slot_before as part_before}
+pub use Rattle.disk.proofs.CallerLemmas.{range_before as part_same}
 
 -- a ring knows one number for each slot of its table
 pub as_many : (content : List ℕ) (ring : Ring) (table : List (Option Segment)) → Fits content ring table → length (known_numbers ring) ≡ length table
@@ -39,19 +32,6 @@ slots_held content shape at size table is_at is_size count holds = record {
 pub slots_of : (content : List ℕ) (shape : Shape) (ring : Ring) (table : List (Option Segment)) → IsRingOf shape ring → Fits content ring table → HoldsSlots content shape table
 slots_of content shape ring table place fits =
     slots_held content shape (at_of ring) (size_of ring) table place.at place.size (sym (as_many content ring table fits) ∙ place.count) fits.holds
-
--- a slot has 19 bytes more than an entry may take
-pub slot_width : (shape : Shape) (state : State) → is_in_range shape ≡ true → state.limits ≡ limits_of shape → shape.slot ≡ state.limits.width + 19
-slot_width shape state in_range limits =
-    let width : state.limits.width ≡ shape.slot - 19 = ap (λ (l : Limits). l.width) limits in
-    omega (arith, width, (ranges_of shape in_range).slot_low)
-
--- bytes before what has changed
-pub part_same : (place count bound : ℕ) (old content : List ℕ) → place + count ≤ bound → take bound content ≡ take bound old → take count (drop place content) ≡ take count (drop place old)
-part_same place count bound old content within same =
-    let part : (l : List ℕ) → take count (drop place l) ≡ drop place (take (place + count) (take bound l)) =
-    λ l. sym (drop-take place count l) ∙ ap (λ (m : List ℕ). drop place m) (sym (take-take (place + count) bound l within)) in
-    part content ∙ ap (λ (m : List ℕ). drop place (take (place + count) m)) same ∙ sym (part old)
 
 -- the cells of a document lie before the slots
 pub cells_before : (shape : Shape) (number : ℕ) → number < shape.docs → cells_place shape number + 2 * shape.cell ≤ slots_place shape

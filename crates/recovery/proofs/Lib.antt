@@ -1,4 +1,5 @@
 pub mod CallerLemmas
+pub mod CellsAlone
 pub mod EmptyStores
 pub mod Beginning
 pub mod Superblocks
@@ -8,6 +9,7 @@ pub mod Refusals
 pub mod Commits
 pub mod Runs
 pub mod Going
+pub mod Committing
 pub mod KeptJobs
 pub mod HandedOut
 pub mod OtherJobs
@@ -39,6 +41,7 @@ pub mod Rooms
 pub mod PutCells
 pub mod Putting
 pub mod PutAtOnce
+pub mod WhereDue
 pub mod Unwritten
 pub mod Begun
 pub mod KeptFrom

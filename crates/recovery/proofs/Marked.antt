@@ -1,12 +1,11 @@
 -- Marks of a table whose slots change.
-use Rattle.std.proofs.Common.{◌≡◌, ◌≢◌, inl, inr, ℕ, zero, suc, ◌≤◌, ◌<◌, max, true, false, not, Option, Some, None, List, [], ◌∷◌, ◌++◌, length, map, set, filter, refl, sym, ◌∙◌, ap, subst, arith}
+use Rattle.std.proofs.Common.{◌≡◌, ◌≢◌, inl, inr, ℕ, ◌≤◌, ◌<◌, max, true, false, not, Option, Some, None, List, [], ◌∷◌, ◌++◌, length, map, set, filter, refl, sym, ◌∙◌, ap, subst, arith}
 use Rattle.std.specs.Prelude.{◌==◌}
 use Rattle.std.proofs.lemmas.Bool.{cases_eq}
 use Rattle.std.proofs.lemmas.Bool.Decides.{nat_tests}
 use Rattle.std.specs.Prelude.{All}
 use Rattle.std.specs.List.{AllByRecursion}
 use Rattle.std.proofs.lemmas.List.{get_or-set_same, get_or-set_other, length-map, map-set, set-get_or}
-use Rattle.std.proofs.Math.ListN.{get_or-map}
 use Rattle.std.proofs.lemmas.List.Elements.{recursion_from_All, All-cons, All-nil}
 use Rattle.revision.specs.Command.{Taken}
 use Rattle.journal.specs.BatchSpelling.{IsBatch, batch}
@@ -24,18 +23,7 @@ use Rattle.recovery.specs.Marks.{is_of, revision_for, greatest_marked, IsNoted}
 use Rattle.recovery.specs.Marked.{SpellSegment, IsMarked, AreMarked}
 use Rattle.recovery.specs.Found.{commands_of}
 use Rattle.recovery.proofs.Folds.{commands_of-push}
-
--- the number of a slot
-pub number_held : (table : List (Option Segment)) (slot : ℕ) → number_at (numbers_of table) slot ≡ number_of (slot_at table slot)
-number_held table slot = get_or-map number_of table slot None
-
-pub number_there : (table : List (Option Segment)) (slot : ℕ) (segment : Segment) → slot_at table slot ≡ Some segment → number_at (numbers_of table) slot ≡ Some segment.number
-number_there table slot segment is = number_held table slot ∙ ap number_of is
-
-pub there : (table : List (Option Segment)) (slot : ℕ) (segment : Segment) → slot_at table slot ≡ Some segment → slot < length table
-there [] slot segment is = absurd cc
-there (first ∷ table) zero segment is = omega arith
-there (first ∷ table) (suc slot) segment is = omega (arith, there table slot segment is)
+pub use Rattle.segments.proofs.CallerLemmas.{number_held, number_there, slot_there as there}
 
 pub some_same : (a b : Segment) → ◌≡◌ {A = Option Segment} (Some a) (Some b) → a ≡ b
 some_same a b is = cc

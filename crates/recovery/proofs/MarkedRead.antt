@@ -22,6 +22,7 @@ use Rattle.recovery.specs.Marks.{greatest_marked, IsNoted}
 use Rattle.recovery.specs.Marked.{IsMarked, AreMarked, AreBodiesMarked}
 use Rattle.recovery.specs.Found.{commands_of}
 use Rattle.recovery.proofs.Marked.{greatest_both, last_spelled, number_there}
+use Rattle.segments.proofs.CallerLemmas.{each_of}
 
 -- no bodies
 pub no_bodies : (number : ℕ) (marks : List Mark) → AreBodiesMarked number [] marks marks
@@ -85,14 +86,6 @@ ascending_inserted bound x (first ∷ rest) low other up = elim (cases_lt x.numb
     behind : (x first : Segment) (rest : List Segment) → first.number ≤ x.number → inserted x (first ∷ rest) ≡ first ∷ inserted x rest
     behind x first rest more = let test : nat_lt x.number first.number ≡ false = grind (arith, nat_tests) in rw test refl
 
--- what holds of each slot's segment holds of each in order, and the other way round
-in_inserted : (P : Segment → Type 0) (x : Segment) (l : List Segment) → P x → AllByRecursion P l → AllByRecursion P (inserted x l)
-in_inserted P x [] is each = (is, tt)
-in_inserted P x (first ∷ rest) is each = elim (cases_lt x.number first.number) [
-  | inl less ↦ let test : nat_lt x.number first.number ≡ true = grind (arith, nat_tests) in rw test (is, each)
-  | inr more ↦ let test : nat_lt x.number first.number ≡ false = grind (arith, nat_tests) in rw test (each.0, in_inserted P x rest is each.1)
-]
-
 from_inserted : (P : Segment → Type 0) (x : Segment) (l : List Segment) → AllByRecursion P (inserted x l) → P x × AllByRecursion P l
 from_inserted P x [] each = (each.0, tt)
 from_inserted P x (first ∷ rest) each = elim (cases_lt x.number first.number) [
@@ -106,11 +99,6 @@ from_inserted P x (first ∷ rest) each = elim (cases_lt x.number first.number) 
       let r = from_inserted P x rest all.1 in
       (r.0, (all.0, r.1))
 ]
-
-of_slots : (P : Segment → Type 0) (table : List (Option Segment)) → ((slot : ℕ) (segment : Segment) → slot_at table slot ≡ Some segment → P segment) → AllByRecursion P (segments_of table)
-of_slots P [] each = tt
-of_slots P (None ∷ table) each = of_slots P table (λ slot segment is. each (suc slot) segment is)
-of_slots P (Some x ∷ table) each = in_inserted P x (segments_of table) (each 0 x refl) (of_slots P table (λ slot segment is. each (suc slot) segment is))
 
 to_slots : (P : Segment → Type 0) (table : List (Option Segment)) → AllByRecursion P (segments_of table) → (slot : ℕ) (segment : Segment) → slot_at table slot ≡ Some segment → P segment
 to_slots P [] each slot segment is = absurd cc
@@ -129,7 +117,7 @@ ascending [] differ = tt
 ascending (None ∷ table) differ = ascending table (differ_rest None table differ)
 ascending (Some x ∷ table) differ =
     ascending_inserted 0 x (segments_of table) (omega arith)
-    (of_slots (λ (s : Segment). s.number ≢ x.number) table (λ slot s is same.
+    (each_of (λ (s : Segment). s.number ≢ x.number) table (λ slot s is same.
     let one : suc slot ≡ 0 = differ (suc slot) 0 x.number (number_there table slot s is ∙ ap (λ (n : ℕ). Some n) same) refl in
     absurd (omega (arith, one))))
     (ascending table (differ_rest (Some x) table differ))
@@ -194,5 +182,5 @@ pub marked_read : (table : List (Option Segment)) (marks : List Mark) → AreRea
 marked_read table marks read = record {
   each = to_slots (λ (s : Segment). IsMarked s marks) table read.each;
   others = λ number nowhere document.
-      read.others number (of_slots (λ (s : Segment). s.number ≢ number) table (λ slot s is same. nowhere slot (number_there table slot s is ∙ ap (λ (n : ℕ). Some n) same))) document;
+      read.others number (each_of (λ (s : Segment). s.number ≢ number) table (λ slot s is same. nowhere slot (number_there table slot s is ∙ ap (λ (n : ℕ). Some n) same))) document;
 }

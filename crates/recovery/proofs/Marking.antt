@@ -84,9 +84,6 @@ greatest_else (first ∷ others) last document other = elim (cases_eq first.docu
   | inr apart ↦ let test : (first.document == document) ≡ false = grind (arith, nat_tests) in rw test (greatest_else others last document other)
 ]
 
-pub none_noted : (segment : ℕ) (marks : List Mark) → IsNoted segment [] marks marks
-none_noted segment marks = record { here = λ document. omega arith; segments = λ other document apart. refl; grows = omega arith }
-
 pub noted_more : (segment : ℕ) (entries : List Taken) (last : Taken) (before mid after : List Mark) → IsNoted segment entries before mid
     → Raised segment last.document last.revision mid after → IsNoted segment (entries ++ last ∷ []) before after
 noted_more segment entries last before mid after noted raised = record {

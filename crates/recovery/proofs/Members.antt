@@ -1,16 +1,13 @@
 -- Members of a group, one behind another, and what documents of theirs have.
 use Rattle.std.proofs.Common.{◌≡◌, ◌≢◌, ℕ, zero, suc, ◌+◌, ◌<◌, true, false, Bool, List, [], ◌∷◌, ◌++◌, length, take, get_or, refl, sym, ◌∙◌, ap, arith}
 use Rattle.std.specs.Prelude.{◌==◌, ◌||◌, cond}
-use Rattle.std.proofs.lemmas.Bool.{false≢true, eq-eqb}
+use Rattle.std.proofs.lemmas.Bool.{false≢true, eq-eqb, or_parts}
+use Rattle.std.proofs.Math.Bool.{or_assoc}
 use Rattle.std.proofs.lemmas.Bool.Decides.{nat_tests}
 use Rattle.std.proofs.lemmas.List.{take_more}
 use Rattle.history.specs.Cell.{Pair}
 use Rattle.recovery.specs.declared.group.Member.{Member}
 use Rattle.recovery.specs.steps.Group.{is_in, part, AreDistinct}
-
-or_push : (a b c : Bool) → (a || (b || c)) ≡ ((a || b) || c)
-or_push true b c = refl
-or_push false b c = refl
 
 or_none : (a : Bool) → (a || false) ≡ a
 or_none true = refl
@@ -20,18 +17,10 @@ pub or_all : (a : Bool) → (a || true) ≡ true
 or_all true = refl
 or_all false = refl
 
-pub or_first : (a b : Bool) → (a || b) ≡ false → a ≡ false
-or_first true b is = is
-or_first false b is = refl
-
-pub or_second : (a b : Bool) → (a || b) ≡ false → b ≡ false
-or_second true b is = absurd (false≢true (sym is))
-or_second false b is = is
-
 pub is_in_push : (ms : List Member) (m : Member) (n : ℕ) → is_in (ms ++ m ∷ []) n ≡ (is_in ms n || (m.document == n))
 is_in_push [] m n = or_none (m.document == n)
 is_in_push (first ∷ others) m n =
-    ap (λ (b : Bool). (first.document == n) || b) (is_in_push others m n) ∙ or_push (first.document == n) (is_in others n) (m.document == n)
+    ap (λ (b : Bool). (first.document == n) || b) (is_in_push others m n) ∙ sym (or_assoc (first.document == n) (is_in others n) (m.document == n))
 
 -- a member is one of them
 pub in_at : (ms : List Member) (k : ℕ) (m : Member) → k < length ms → get_or ms k m ≡ m → is_in ms m.document ≡ true
@@ -58,11 +47,11 @@ module _ (ms : List Member) (k : ℕ) (m : Member) (inside : k < length ms) (is 
 
   -- one that isn't among them with the next one isn't among them, and isn't the next one
   pub not_before : (n : ℕ) → is_in (take (k + 1) ms) n ≡ false → is_in (take k ms) n ≡ false
-  not_before n away = or_first (is_in (take k ms) n) (m.document == n) (sym (in_more n) ∙ away)
+  not_before n away = (or_parts (is_in (take k ms) n) (m.document == n) (sym (in_more n) ∙ away)).0
 
   pub not_next : (n : ℕ) → is_in (take (k + 1) ms) n ≡ false → m.document ≢ n
   not_next n away same =
-      false≢true (sym (or_second (is_in (take k ms) n) (m.document == n) (sym (in_more n) ∙ away)) ∙ eq-eqb m.document n same)
+      false≢true (sym ((or_parts (is_in (take k ms) n) (m.document == n) (sym (in_more n) ∙ away)).1) ∙ eq-eqb m.document n same)
 
   -- what the documents have once the next one's has changed
   module _ (own others : ℕ → Pair) where

@@ -1,14 +1,12 @@
 -- A store where the cells of many documents change, each by itself.
-use Rattle.std.proofs.Common.{◌≡◌, ◌⊎◌, inl, inr, ℕ, zero, suc, ◌+◌, ◌*◌, ◌≤◌, ◌<◌, true, false, Bool, Option, Some, None, List, [], ◌∷◌, length, refl, sym, ◌∙◌, ap, subst, arith}
-use Rattle.std.specs.Prelude.{nat_lt, cond, slice_get, unwrap_or}
+use Rattle.std.proofs.Common.{◌≡◌, inl, inr, ℕ, zero, suc, ◌*◌, ◌≤◌, ◌<◌, Option, Some, None, List, [], ◌∷◌, length, refl, sym, ◌∙◌, ap, subst, arith}
+use Rattle.std.specs.Prelude.{nat_lt, cond}
 use Rattle.std.proofs.lemmas.Bool.{cond_both}
-use Rattle.std.proofs.lemmas.Bool.Decides.{nat_tests}
-use Rattle.std.proofs.lemmas.Option.{slice_get_past}
 use Rattle.disk.specs.declared.device.Disk.{Ghosts}
 use Rattle.disk.proofs.CallerLemmas.{same_at}
 use Rattle.revision.specs.Command.{Taken}
 use Rattle.revision.specs.State.{State}
-use Rattle.history.specs.Cell.{Cell, Pair, no_cells, cells_at, lowest, freed, OfOpen, OfBoth}
+use Rattle.history.specs.Cell.{Cell, Pair, cells_at, lowest, freed, OfBoth}
 use Rattle.history.specs.Shown.{Order}
 use Rattle.history.specs.Running.{IsCellAt, Runs}
 use Rattle.milestone.specs.Cells.{with_cell}
@@ -21,12 +19,14 @@ use Rattle.recovery.specs.Shape.{cells_place, slots_place}
 use Rattle.recovery.specs.Found.{FoundAs, HoldsParts, commands_of}
 use Rattle.recovery.specs.Jobs.{highest}
 use Rattle.recovery.specs.Layout.{IsLaidOut}
-use Rattle.recovery.specs.Open.{IsOpen, device_of, state_of}
+use Rattle.recovery.specs.Open.{IsOpen}
 use Rattle.recovery.specs.steps.Group.{SameOutsideCells, IsLeftTogether}
 use Rattle.recovery.proofs.Covering.{low_or_above}
 use Rattle.recovery.proofs.Layouts.{part_same}
 use Rattle.recovery.proofs.PutCells.{table_stays}
 use Rattle.recovery.proofs.Runs.{found_as}
+pub use Rattle.history.proofs.CallerLemmas.{freed-of as freed_both, freed-lowest as freed_above}
+pub use Rattle.recovery.proofs.Documents.{cells-past as cells_past}
 
 -- pairs that are there one by one make a list of pairs
 pub record Chosen (count : ℕ) (P : ℕ → Pair → Type 0) : Type 0 where
@@ -45,23 +45,6 @@ pub chosen : (count : ℕ) (P : ℕ → Pair → Type 0) → ((n : ℕ) → n < 
 chosen zero P has = record { pairs = []; as_many = refl; each = λ n below. absurd (omega (arith, below)) }
 chosen (suc count) P has =
     chosen_next count P (has 0 (omega arith)).0 (has 0 (omega arith)).1 (chosen count (λ n p. P (suc n) p) (λ n below. has (suc n) (omega (arith, below))))
-
--- no cells stand behind the last pair
-pub cells_past : (pairs : List Pair) (n : ℕ) → length pairs ≤ n → cells_at pairs n ≡ no_cells
-cells_past pairs n past = ap (λ (o : Option Pair). unwrap_or o no_cells) (slice_get_past pairs n past)
-
--- the lower one of two open cells goes
-pub freed_both : (P : Cell → Type 0) (pair : Pair) → OfBoth P pair → OfBoth P (freed pair)
-freed_both P (None, second) both = both
-freed_both P (Some first, None) both = both
-freed_both P (Some first, Some second) both =
-    cond_both (nat_lt second.revision first.revision) (Some first, None) (None, Some second) (OfBoth P) (λ e. (both.0, tt)) (λ e. (tt, both.1))
-
-pub freed_above : (pair : Pair) → lowest pair ≤ lowest (freed pair)
-freed_above (None, second) = omega arith
-freed_above (Some first, None) = omega arith
-freed_above (Some first, Some second) =
-    cond_both (nat_lt second.revision first.revision) (Some first, None) (None, Some second) (λ (p : Pair). lowest (Some first, Some second) ≤ lowest p) (λ e. omega arith) (λ e. omega arith)
 
 -- and a cell that is no lower than either takes its place
 pub replaced_both : (P : Cell → Type 0) (cell : Cell) (pair : Pair) → P cell → OfBoth P pair → OfBoth P (with_cell cell (freed pair))

@@ -1,37 +1,23 @@
 -- Two milestones of a document at its newest revision: both its cells hold it then.
-use Rattle.std.proofs.Common.{◌≡◌, ◌≢◌, inl, inr, ℕ, ◌≤◌, ◌<◌, true, false, Bool, Option, Some, None, List, [], length, take, refl, sym, ◌∙◌, ap, subst, arith}
-use Rattle.std.specs.Prelude.{Result, Ok, Err, OnOk, OnErr, IfErr, nat_lt, cond, slice_get}
+use Rattle.std.proofs.Common.{◌≡◌, ℕ, ◌≤◌, true, false, Bool, Option, Some, None, List, refl, ap, subst, arith}
+use Rattle.std.specs.Prelude.{Result, Ok, Err, OnErr, nat_lt, cond, slice_get}
 use Rattle.std.proofs.lemmas.Bool.Decides.{nat_tests}
-use Rattle.std.proofs.lemmas.Option.{slice_get_within}
 use Rattle.disk.specs.declared.device.Disk.{Ghosts}
 use Rattle.refusal.specs.declared.Refusal.{Refusal}
-use Rattle.refusal.specs.declared.Refusal.TheVariants.{Fault}
-use Rattle.revision.specs.Command.{Taken}
-use Rattle.revision.specs.Past.{Past, from_floor}
 use Rattle.revision.specs.State.{newest_revision, State, DocumentRecord, revision_of}
-use Rattle.history.specs.Entries.{of_document}
-use Rattle.history.specs.Cell.{Cell, Pair, cell_of, cells_at, lowest, freed, with_pair, record_of_cell, OfOpen}
+use Rattle.history.specs.Cell.{Cell, Pair, cells_at, lowest, freed, OfOpen}
 use Rattle.history.specs.Running.{IsCellAt}
 use Rattle.history.proofs.CallerLemmas.{held_is_cell, cells_reach, one_cell_at}
 use Rattle.milestone.specs.Cells.{with_cell}
-use Rattle.milestone.specs.Job.{Job, cell_of_job}
 use Rattle.recovery.specs.declared.shape.Shape.{Shape}
 use Rattle.recovery.specs.declared.store.Store.{Store}
-use Rattle.recovery.specs.Faults.{FailsAtFaults}
 use Rattle.recovery.specs.Found.{commands_of, HoldsParts}
 use Rattle.recovery.specs.Jobs.{highest}
-use Rattle.recovery.specs.Goes.{Goes}
-use Rattle.recovery.specs.Open.{IsOpen, AreBothNewest, IsOnePut, newest_cell, device_of, state_of}
-use Rattle.recovery.specs.Run.{IsPutAt}
+use Rattle.recovery.specs.Open.{IsOpen, AreBothNewest, newest_cell, device_of, state_of}
 use Rattle.recovery.specs.steps.Freeing.{reached_in}
 use Rattle.recovery.proofs.FoundOnce.{cells_same, slots_same}
 use Rattle.recovery.proofs.Named.{named_same}
 use Rattle.milestone.specs.declared.format.Format.TheVariants.{Two}
-use Rattle.recovery.proofs.Faults.{works_still}
-use Rattle.recovery.proofs.HandedOut.{same_some}
-use Rattle.recovery.proofs.PutCells.{pair_own, pair_other}
-use Rattle.recovery.proofs.Reaching.{cells_reached}
-use Rattle.recovery.proofs.Retirement.{known_highest}
 
 -- the other cell is the first, no higher than the one that was put
 behind_first : (cell first : Cell) → first.revision ≤ cell.revision → with_cell cell (freed (Some first, Some cell)) ≡ (Some cell, Some cell)

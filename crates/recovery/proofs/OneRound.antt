@@ -1,6 +1,6 @@
 -- The three steps of a round, one after another, and one round after another.
-use Rattle.std.proofs.Common.{◌≡◌, ◌⊎◌, inl, inr, ℕ, ◌+◌, ◌≤◌, true, false, Bool, Some, None, List, [], length, refl, sym, ◌∙◌, ap, subst, arith}
-use Rattle.std.specs.Prelude.{nat_lt, cond, slice_get, Result, Ok, Err, OnOk, OnErr}
+use Rattle.std.proofs.Common.{◌≡◌, inl, inr, ℕ, ◌≤◌, true, false, Bool, Some, None, List, [], length, refl, sym, ◌∙◌, ap, subst, arith}
+use Rattle.std.specs.Prelude.{nat_lt, cond, Result, Ok, Err, OnOk, OnErr}
 use Rattle.std.proofs.lemmas.Bool.{cond_both}
 use Rattle.disk.specs.declared.device.Disk.{Ghosts}
 use Rattle.disk.specs.Calls.{CountsFaults}
@@ -14,7 +14,7 @@ use Rattle.milestone.specs.Cells.{Fits, HasClosed, with_cell}
 use Rattle.milestone.specs.Revisions.{revisions_in}
 use Rattle.recovery.specs.declared.group.Member.{Member}
 use Rattle.recovery.specs.declared.shape.Shape.{Shape}
-use Rattle.recovery.specs.steps.Group.{SameOutsideCells, IsLeftTogether, MayBeFreed, MayBePut, MayBeReplaced, Stand, AreHalf, HasPlaces, StandTogether, WriteCells, part, put_in, is_in}
+use Rattle.recovery.specs.steps.Group.{SameOutsideCells, IsLeftTogether, MayBePut, MayBeReplaced, Stand, AreHalf, HasPlaces, StandTogether, WriteCells, part, put_in, is_in}
 use Rattle.recovery.proofs.Members.{part_own, part_other}
 use Rattle.recovery.proofs.Together.{together_map, together_then}
 

@@ -1,9 +1,8 @@
 -- The kept jobs of other documents, where one of a document comes or goes.
-use Rattle.std.proofs.Common.{◌≡◌, ◌≢◌, ℕ, ◌+◌, ◌≤◌, true, false, Bool, List, [], ◌∷◌, ◌++◌, filter, length, length-append, not, refl, sym, ◌∙◌, ap, arith}
+use Rattle.std.proofs.Common.{◌≡◌, ◌≢◌, ℕ, ◌+◌, ◌≤◌, true, false, Bool, List, [], ◌∷◌, ◌++◌, filter, length, not, refl, sym, ◌∙◌, ap, arith}
 use Rattle.std.specs.Prelude.{◌==◌}
 use Rattle.std.proofs.lemmas.Bool.{false≢true, eq-eqb}
 use Rattle.std.proofs.lemmas.Bool.Decides.{nat_tests}
-use Rattle.std.proofs.lemmas.List.Elements.{filter-append}
 use Rattle.std.proofs.lemmas.List.Sums.{length-filter, count_by-le-length}
 use Rattle.milestone.specs.Job.{Job}
 use Rattle.recovery.specs.Jobs.{without_job, jobs_for, with_job}
@@ -76,23 +75,10 @@ none_own document (first ∷ others) = by_test (first.document == document) refl
     by_test true is none = rw is none
     by_test false is none = rw is (rw is none)
 
--- a job that comes is the only one of its document
-pub own_with : (document : ℕ) (job : Job) (jobs : List Job) → job.document ≡ document → jobs_for document (with_job job jobs) ≡ job ∷ []
-own_with document job jobs is =
-    filter-append (λ (other : Job). other.document == document) (without_job job.document jobs) (job ∷ [])
-    ∙ (ap (λ n. jobs_for document (without_job n jobs) ++ jobs_for document (job ∷ [])) is
-    ∙ (ap (λ (l : List Job). l ++ jobs_for document (job ∷ [])) (none_own document jobs) ∙ alone_own document job is))
-  where
-    alone_own : (document : ℕ) (job : Job) → job.document ≡ document → jobs_for document (job ∷ []) ≡ job ∷ []
-    alone_own document job is = rw (eq-eqb job.document document is) refl
-
 -- no more are left where those of a document go, and one more where one comes
 pub fewer_without : (document : ℕ) (jobs : List Job) → length (without_job document jobs) ≤ length jobs
 fewer_without document jobs =
     omega (arith, length-filter (λ (job : Job). not (job.document == document)) jobs, count_by-le-length (λ (job : Job). not (job.document == document)) jobs)
-
-pub one_more_with : (job : Job) (jobs : List Job) → length (with_job job jobs) ≤ length jobs + 1
-one_more_with job jobs = omega (arith, length-append (without_job job.document jobs) (job ∷ []), fewer_without job.document jobs)
 
 -- where the jobs stay of all documents but one, those of each other document do
 pub own_stay : (document other : ℕ) (old new : List Job) → document ≢ other → without_job other new ≡ without_job other old → jobs_for document new ≡ jobs_for document old

@@ -4,31 +4,27 @@ use Rattle.std.specs.Prelude.{Result, Ok, Err, Contains, OnOk, IfErr, IsErrOf, �
 use Rattle.std.proofs.lemmas.List.{take_more}
 use Rattle.std.proofs.lemmas.List.Elements.{Contains-push}
 use Rattle.disk.specs.declared.device.Disk.{Ghosts}
-use Rattle.disk.specs.Crash.{LeavesOnly}
+use Rattle.refusal.specs.Refusal.{IsOneOf}
 use Rattle.refusal.specs.declared.Refusal.{Refusal}
-use Rattle.refusal.specs.declared.Refusal.TheVariants.{NoDocument, Future, TooOld, StillNeeded, NoMemory, Fault}
-use Rattle.revision.specs.State.{DocumentRecord, State, revision_of}
+use Rattle.refusal.specs.declared.Refusal.TheVariants.{Stranger, NoDocument, Future, TooOld, StillNeeded, NoMemory, Fault}
+use Rattle.revision.specs.State.{DocumentRecord, revision_of}
 use Rattle.history.specs.Cell.{Pair}
 use Rattle.milestone.specs.Job.{Job}
+use Rattle.segments.specs.Numbers.{IsOldest}
+use Rattle.segments.specs.Ring.{known_numbers}
 use Rattle.segments.specs.Slot.{Segment}
 use Rattle.recovery.specs.declared.run.StoreStep.{StoreStep}
 use Rattle.recovery.specs.declared.run.StoreStep.TheVariants.{Retire}
 use Rattle.recovery.specs.declared.store.Store.{Store}
 use Rattle.recovery.specs.Cells.{highest_known}
-use Rattle.recovery.specs.Found.{FoundAs}
 use Rattle.recovery.specs.Jobs.{with_job, without_job, IsJobTo, no_job_for}
-use Rattle.recovery.specs.Marked.{MayRetire}
-use Rattle.recovery.specs.Open.{IsOpen, IsUnchanged, IsRetiredNow, IsPutNow, device_of, state_of, known_cells, has_failed}
+use Rattle.recovery.specs.Marks.{without_segment}
+use Rattle.recovery.specs.Open.{IsOpen, IsUnchanged, IsRetiredNow, IsPutNow, ring_of, state_of, known_cells, known_marks, kept_jobs, has_failed}
+use Rattle.recovery.specs.Retiring.{IsRefusedWhereNeeded, IsRetiredFrom}
 use Rattle.recovery.specs.Run.{IsPutAt, IsTaken, AreTaken, IsWhy, MayPut}
 use Rattle.recovery.proofs.Refusals.{refusal_or, ok≢err}
 use Rattle.recovery.proofs.HandedOut.{none≢some, same_some}
-use Rattle.recovery.proofs.Runs.{found_as, found_open}
-use Rattle.recovery.proofs.Going.{goes_still, open_unchanged}
-
--- what is not true is false
-pub is_false : (b : Bool) → (b ≡ true → ⊥) → b ≡ false
-is_false true not_true = absurd (not_true refl)
-is_false false not_true = refl
+pub use Rattle.std.proofs.lemmas.Bool.{false_from_ne_true as is_false}
 
 -- what is nothing
 none_of : {A : Type 0} (one : Option A) → ((a : A) → one ≡ Some a → ⊥) → one ≡ None
@@ -53,6 +49,14 @@ keeps_it job composed before after is same =
     (subst (Contains (with_job job before)) (sym same) (Contains-push (without_job job.document before) job))
 
 module _ {D : Type 0} {disk : Ghosts D} where
+  -- the job that was handed out is kept, so what comes of it is no stranger
+  pub no_stranger_put : (job composed : Job) (old mid : Store D disk) (refusal : Refusal) → kept_jobs mid ≡ with_job job (kept_jobs old) → composed ≡ job
+      → (IsErrOf {T = Unit {0}} {E = Refusal} (Err refusal) Stranger → ¬ Contains (kept_jobs mid) composed) → IsOneOf refusal (Stranger ∷ NoMemory ∷ Fault ∷ [])
+      → (refusal ≡ NoMemory) ⊎ (refusal ≡ Fault)
+  no_stranger_put job composed old mid refusal kept same stranger (inl is) =
+      absurd (stranger (ap (λ (r : Refusal). Err r) is) (keeps_it job composed (kept_jobs old) (kept_jobs mid) kept same))
+  no_stranger_put job composed old mid refusal kept same stranger (inr two) = two
+
   -- a call that was Ok was one of a store that hadn't failed
   pub had_not_failed : {A : Type 0} {old new : Store D disk} (answer : A)
       → (has_failed old ≡ true → IsErrOf {T = A} {E = Refusal} (Ok answer) Fault × IsUnchanged old new) → has_failed old ≡ false
@@ -62,32 +66,6 @@ module _ {D : Type 0} {disk : Ghosts D} where
   pub has_not_failed : {A : Type 0} (old new : Store D disk) (answer : A)
       → (has_failed old ≡ false → (has_failed new ≡ true ↔ IsErrOf {T = A} {E = Refusal} (Ok answer) Fault)) → has_failed old ≡ false → has_failed new ≡ false
   has_not_failed {A} old new answer fails works = is_false (has_failed new) (λ failed. ok≢err answer Fault ((fails works).0 failed))
-
-  -- nothing was called, and the state is held by the content
-  pub still : {old mid : Store D disk} → device_of mid ≡ device_of old → has_failed mid ≡ has_failed old → (IsOpen old → IsOpen mid)
-      → has_failed old ≡ false → IsOpen old → LeavesOnly disk (λ content. FoundAs content (state_of old)) (device_of old) (device_of mid)
-  still {old} {mid} device failed keeps works is_open =
-      (goes_still {P = λ content. FoundAs content (state_of old)} {old = old} {new = mid} device failed keeps (λ is_open. found_as _ _ (found_open old is_open))).any_moment works is_open
-
-  -- the call after one that called nothing began where that one did
-  pub from_there : (old mid new : Store D disk) → device_of mid ≡ device_of old → state_of mid ≡ state_of old
-      → LeavesOnly disk (λ content. FoundAs content (state_of mid)) (device_of mid) (device_of new)
-      → LeavesOnly disk (λ content. FoundAs content (state_of old)) (device_of old) (device_of new)
-  from_there old mid new device state leaves =
-      subst (λ (d : D). LeavesOnly disk (λ content. FoundAs content (state_of old)) d (device_of new)) device
-      (subst (λ (s : State). LeavesOnly disk (λ content. FoundAs content s) (device_of mid) (device_of new)) state leaves)
-
-  -- a store is open after a retirement, and where it was refused
-  pub goes_on_retired : {A : Type 0} (old new : Store D disk) (result : Result A Refusal)
-      → OnOk result ((is_open : IsOpen old) → IsRetiredNow is_open.cells is_open.table new) → OnOk result (IsOpen old → IsOpen new)
-  goes_on_retired old new (Ok answer) done = λ is_open. (done is_open).goes_on
-  goes_on_retired old new (Err refusal) done = tt
-
-  pub goes_on_needed : {A : Type 0} (old new : Store D disk) (result : Result A Refusal) → IfErr result (λ e. (e ≡ StillNeeded) ⊎ (e ≡ Fault))
-      → (IsErrOf result StillNeeded → IsUnchanged old new) → IfErr result (λ e. e ≢ Fault → IsOpen old → IsOpen new)
-  goes_on_needed old new (Ok answer) only untouched = tt
-  goes_on_needed old new (Err refusal) (inl needed) untouched = λ other is_open. open_unchanged (untouched (ap (λ (r : Refusal). Err r) needed)) is_open
-  goes_on_needed old new (Err refusal) (inr fault) untouched = λ other is_open. absurd (other fault)
 
   -- what was put is the cell of the job that was handed out
   pub put_at : (old new : Store D disk) (document revision : ℕ) (is_open : IsOpen old) (job composed : Job) (cells : List Pair) (table : List (Option Segment)) → cells ≡ is_open.cells
@@ -114,15 +92,6 @@ module _ {D : Type 0} {disk : Ghosts D} where
       let high = highest_known (known_cells old) document in
       none_of (no_job_for found high revision) (λ why is. never_memory found high revision (is ∙ ap (λ (r : Refusal). Some r) (sym (ap (refusal_or {T = A} why) (due why is)) ∙ memory)))
 
-  -- a retirement that was Ok
-  pub given_up : {A : Type 0} (old new : Store D disk) (result : Result A Refusal)
-      → (has_failed old ≡ true → IsErrOf result Fault × IsUnchanged old new) → (has_failed old ≡ false → (has_failed new ≡ true ↔ IsErrOf result Fault))
-      → state_of new ≡ state_of old → OnOk result ((is_open : IsOpen old) → MayRetire is_open.table is_open.cells)
-      → OnOk result ((is_open : IsOpen old) → IsRetiredNow is_open.cells is_open.table new) → OnOk result (IsTaken Retire old new)
-  given_up old new (Ok answer) before fails state may done =
-      (has_not_failed old new answer fails (had_not_failed answer before), state, λ is_open. record { may = may is_open; retired = done is_open })
-  given_up old new (Err refusal) before fails state may done = tt
-
   -- one step more was taken
   pushed : (first : List StoreStep) (step : StoreStep) (old mid new : Store D disk) → AreTaken first old mid → IsTaken step mid new → AreTaken (first ++ step ∷ []) old new
   pushed [] step old mid new same taken = (new, subst (λ (s : Store D disk). IsTaken step s new) same taken, refl)
@@ -140,9 +109,27 @@ module _ {D : Type 0} {disk : Ghosts D} where
   refused_unfailed {A} old new refusal before other = is_false (has_failed old) (λ failed. other (ap (refusal_or {T = A} Fault) (before failed).0))
 
   -- why a retirement was refused
-  pub retire_why : {A : Type 0} (old new : Store D disk) (result : Result A Refusal) → IfErr result (λ e. (e ≡ StillNeeded) ⊎ (e ≡ Fault))
-      → (IsErrOf result StillNeeded → (is_open : IsOpen old) → ¬ MayRetire is_open.table is_open.cells)
-      → IfErr result (λ e. e ≢ NoMemory → e ≢ Fault → IsWhy Retire e old)
-  retire_why old new (Ok answer) only needed = tt
-  retire_why old new (Err refusal) (inl is) needed = λ memory fault. (is, needed (ap (λ (r : Refusal). Err r) is))
-  retire_why old new (Err refusal) (inr is) needed = λ memory fault. absurd (fault is)
+  pub retire_why : {A : Type 0} (old new : Store D disk) (result : Result A Refusal) → (has_failed old ≡ true → IsErrOf result Fault × IsUnchanged old new)
+      → IsRefusedWhereNeeded result old → IfErr result (λ e. e ≢ NoMemory → e ≢ Fault → IsWhy Retire e old)
+  retire_why old new (Ok answer) before needed = tt
+  retire_why {A} old new (Err refusal) before needed = λ memory fault. by_case fault needed.only
+    where
+      by_case : refusal ≢ Fault → (refusal ≡ StillNeeded) ⊎ (refusal ≡ Fault) → IsWhy Retire refusal old
+      by_case fault (inl is) =
+          (is, λ is_open. (needed.exact (refused_unfailed {A = A} old new refusal before fault) is_open).0 (ap (λ (r : Refusal). Err r) is))
+      by_case fault (inr is) = absurd (fault is)
+
+  -- what was retired now
+  pub retired_now : {A : Type 0} (old new : Store D disk) (result : Result A Refusal) → OnOk result (IsRetiredFrom old new)
+      → OnOk result ((is_open : IsOpen old) → IsRetiredNow is_open.cells is_open.table new)
+  retired_now old new (Ok answer) done = λ is_open. (done.taken.2 is_open).retired
+  retired_now old new (Err refusal) done = tt
+
+  pub retired_step : {A : Type 0} (old new : Store D disk) (result : Result A Refusal) → OnOk result (IsRetiredFrom old new) → OnOk result (IsTaken Retire old new)
+  retired_step old new (Ok answer) done = done.taken
+  retired_step old new (Err refusal) done = tt
+
+  pub retired_marks : {A : Type 0} (old new : Store D disk) (result : Result A Refusal) → OnOk result (IsRetiredFrom old new)
+      → OnOk result ((slot segment : ℕ) → IsOldest (known_numbers (ring_of old)) slot segment → known_marks new ≡ without_segment segment (known_marks old))
+  retired_marks old new (Ok answer) done = done.marks
+  retired_marks old new (Err refusal) done = tt

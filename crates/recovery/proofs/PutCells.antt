@@ -2,7 +2,7 @@
 use Rattle.std.proofs.Common.{◌≡◌, ◌⊎◌, ⊎_elim, inl, inr, ℕ, zero, suc, ◌+◌, ◌-◌, ◌*◌, ◌≤◌, ◌<◌, Option, Some, List, [], ◌∷◌, length, set, take, drop, refl, sym, ◌∙◌, ap, subst, arith}
 use Rattle.std.specs.Prelude.{slice_get}
 use Rattle.std.proofs.lemmas.Bool.{cases_eq}
-use Rattle.std.proofs.lemmas.List.{drop-drop, length-set}
+use Rattle.std.proofs.lemmas.List.{length-set}
 use Rattle.std.proofs.lemmas.Option.{same_Some, slice_get_within}
 use Rattle.disk.specs.Device.{SameOutside}
 use Rattle.disk.proofs.CallerLemmas.{same_at}
@@ -18,38 +18,14 @@ use Rattle.recovery.specs.Shape.{cells_place, slots_place}
 use Rattle.recovery.specs.Layout.{IsLaidOut}
 use Rattle.recovery.specs.Cells.{IsCellsOf, AreCellsOf, FitEach}
 use Rattle.recovery.proofs.Layouts.{part_same, part_before, cells_before}
-
--- the cells of the document, and those of the others
-pub pair_own : (number : ℕ) (pair : Pair) (cells : List Pair) → number < length cells → cells_at (with_pair number pair cells) number ≡ pair
-pair_own number pair [] below = absurd (omega (arith, below))
-pair_own zero pair (first ∷ others) below = refl
-pair_own (suc number) pair (first ∷ others) below = pair_own number pair others (omega (arith, below))
-
-pub pair_other : (number : ℕ) (pair : Pair) (cells : List Pair) (other : ℕ) → (number ≡ other → ⊥) → cells_at (with_pair number pair cells) other ≡ cells_at cells other
-pair_other number pair [] other differ = refl
-pair_other zero pair (first ∷ others) zero differ = absurd (differ refl)
-pair_other zero pair (first ∷ others) (suc other) differ = refl
-pair_other (suc number) pair (first ∷ others) zero differ = refl
-pair_other (suc number) pair (first ∷ others) (suc other) differ = pair_other number pair others other (λ same. differ (ap suc same))
-
-pub length_with_pair : (number : ℕ) (pair : Pair) (cells : List Pair) → length (with_pair number pair cells) ≡ length cells
-length_with_pair number pair [] = refl
-length_with_pair zero pair (first ∷ others) = refl
-length_with_pair (suc number) pair (first ∷ others) = ap suc (length_with_pair number pair others)
+pub use Rattle.history.proofs.CallerLemmas.{length-with_pair as length_with_pair, pair-own as pair_own, pair-other as pair_other}
+pub use Rattle.recovery.proofs.Beginning.{part_behind}
 
 -- what is set twice is set once
 pub with_pair_twice : (number : ℕ) (pair now : Pair) (cells : List Pair) → with_pair number now (with_pair number pair cells) ≡ with_pair number now cells
 with_pair_twice number pair now [] = refl
 with_pair_twice zero pair now (first ∷ others) = refl
 with_pair_twice (suc number) pair now (first ∷ others) = ap (λ (l : List Pair). first ∷ l) (with_pair_twice number pair now others)
-
--- bytes behind what has changed
-pub part_behind : (place count bound : ℕ) (old content : List ℕ) → bound ≤ place → drop bound content ≡ drop bound old → take count (drop place content) ≡ take count (drop place old)
-part_behind place count bound old content behind same =
-    let sum : bound + (place - bound) ≡ place = omega (arith, behind) in
-    let part : (l : List ℕ) → drop place l ≡ drop (place - bound) (drop bound l) =
-    λ l. ap (λ n. drop n l) (sym sum) ∙ sym (drop-drop (place - bound) bound l) in
-    ap (λ (m : List ℕ). take count m) (part content ∙ ap (λ (m : List ℕ). drop (place - bound) m) same ∙ sym (part old))
 
 -- the slots lie behind the cells: their table stays
 pub table_stays : (at size bound : ℕ) (old content : List ℕ) (table : List (Option Segment)) → bound ≤ at → drop bound content ≡ drop bound old → HoldsTable at size old table → HoldsTable at size content table

@@ -1,35 +1,29 @@
 -- A group of milestones that is put: both cells of each of its documents hold it at its newest revision.
-use Rattle.std.proofs.Common.{◌≡◌, ◌≢◌, ◌⊎◌, inl, inr, ℕ, zero, suc, ◌+◌, ◌*◌, ◌≤◌, ◌<◌, true, false, Bool, Option, Some, None, List, [], ◌∷◌, filter, length, get_or, not, ◌↔◌, refl, sym, ◌∙◌, ap, subst, arith}
+use Rattle.std.proofs.Common.{◌≡◌, ◌≢◌, inl, inr, ℕ, suc, ◌≤◌, ◌<◌, true, false, Bool, Some, List, [], ◌∷◌, length, not, ◌↔◌, refl, sym, ◌∙◌, ap, subst, arith}
 use Rattle.std.specs.Prelude.{◌==◌, ◌||◌, slice_get, Ok, Err}
 use Rattle.disk.specs.Calls.{CountsFaults}
 use Rattle.disk.specs.Crash.{LeavesOnly}
 use Rattle.disk.proofs.CallerLemmas.{leaves_map}
-use Rattle.refusal.specs.declared.Refusal.{Refusal}
 use Rattle.refusal.specs.declared.Refusal.TheVariants.{Fault}
-use Rattle.std.specs.Int.{w32, to_le_bytes}
-use Rattle.std.proofs.lemmas.Bool.{cases_eq, false≢true, eq-eqb}
+use Rattle.std.proofs.lemmas.Bool.{cases_eq, false≢true}
 use Rattle.std.proofs.lemmas.Bool.Decides.{nat_tests}
-use Rattle.std.proofs.lemmas.List.{length-append}
 use Rattle.std.proofs.lemmas.Option.{slice_get_within}
 use Rattle.disk.specs.declared.device.Disk.{Ghosts}
-use Rattle.journal.specs.Area.{frame}
-use Rattle.revision.specs.State.{State, DocumentRecord, revision_of}
-use Rattle.history.specs.Cell.{Cell, Pair, cells_at, no_cells, freed}
+use Rattle.revision.specs.State.{DocumentRecord, revision_of}
+use Rattle.history.specs.Cell.{Cell, Pair, cells_at, freed}
 use Rattle.history.specs.Running.{IsCellAt}
 use Rattle.history.proofs.CallerLemmas.{held_is_cell}
 use Rattle.milestone.specs.CellSpelling.{cell_body}
 use Rattle.milestone.specs.declared.cells.Cells.{Cells}
 use Rattle.milestone.specs.Cells.{Fits, with_cell}
-use Rattle.milestone.specs.Job.{Job}
 use Rattle.recovery.specs.declared.group.Member.{Member}
-use Rattle.recovery.specs.declared.shape.Shape.{Shape}
 use Rattle.recovery.specs.declared.store.Store.{Store}
 use Rattle.milestone.specs.OneCell.{HoldsPair}
-use Rattle.recovery.specs.Shape.{cells_place, slots_place, layout_length}
+use Rattle.recovery.specs.Shape.{cells_place}
 use Rattle.recovery.specs.Cells.{AreCellsOf}
 use Rattle.recovery.specs.Faults.{FailsAtFaults}
 use Rattle.recovery.specs.Found.{FoundAs, commands_of}
-use Rattle.recovery.specs.Jobs.{highest, CanBePut, CanAllBePut, jobs_for, without_job}
+use Rattle.recovery.specs.Jobs.{highest, CanBePut, CanAllBePut}
 use Rattle.recovery.specs.Open.{IsOpen, AreBothNewest, newest_cell, device_of, state_of, has_failed, known_cells, kept_jobs}
 use Rattle.recovery.specs.steps.Group.{is_in, part, put_in, newest_in, newest_at, outside_jobs, Each, Spells, AreSpelled, Stand, StandTogether, HasPlaces, MayBeReplaced, MayBeTwice, IsLeftTogether, IsNewestOf, IsGroup, IsGroupPut}
 use Rattle.recovery.proofs.Covering.{low_or_above}
@@ -40,6 +34,7 @@ use Rattle.recovery.proofs.Newest.{put_twice, newest_already}
 use Rattle.recovery.proofs.Refusals.{ok≢err}
 use Rattle.recovery.proofs.Retirement.{known_highest}
 use Rattle.recovery.proofs.Together.{there, holds_here}
+pub use Rattle.journal.proofs.CallerLemmas.{length-frame as length-framed}
 
 -- the member of a document that is among them
 pub member_of : (ms : List Member) (n : ℕ) (P : Member → Type 0) → Each ms P → is_in ms n ≡ true → (m : Member) × (m.document ≡ n) × P m
@@ -50,9 +45,6 @@ member_of (first ∷ others) n P each is = elim (cases_eq first.document n) [
       let away : (first.document == n) ≡ false = grind (arith, nat_tests) in
       member_of others n P (λ k m inside at. each (suc k) m (omega (arith, inside)) at) (sym (ap (λ (b : Bool). b || is_in others n) away) ∙ is)
 ]
-
-pub length-framed : (body : List ℕ) → length (frame body) ≡ 4 + length body
-length-framed body = omega arith
 
 module _ {D : Type 0} {disk : Ghosts D} (store : Store D disk) (ms : List Member) (group : IsGroup ms store) where
   -- the members have their places

@@ -15,7 +15,7 @@ use Rattle.milestone.specs.OneCell.{HoldsPair}
 use Rattle.milestone.specs.Cells.{Fits, FitsNow, SameCells, HoldsInCells, IsLeftByReplacing, with_cell, place_of, size_of, number_of}
 use Rattle.milestone.specs.Job.{Job, cell_of_job}
 use Rattle.milestone.specs.CellSpelling.{IsCell, cell_body, inserts_of}
-use Rattle.milestone.proofs.CallerLemmas.{cell_fits, light_content}
+use Rattle.milestone.proofs.CallerLemmas.{cell_fits, light_content, holds_there as cells_hold}
 use Rattle.revision.specs.Sources.{count_of}
 use Rattle.revision.specs.Width.{delta_width}
 use Rattle.segments.specs.Ring.{Fits as RingFits, at_of, size_of as slot_size}
@@ -56,11 +56,6 @@ closed_there cell (Some first, Some second) =
 
 pub put_freed : (cell : Cell) (pair : Pair) → highest pair ≤ cell.revision → IsPut cell (freed pair) (with_cell cell (freed pair))
 put_freed cell pair above = (omega (arith, freed_low pair, above), closed_there cell pair)
-
--- cells that are known elsewhere as they are there
-cells_hold : {p q s t m n : ℕ} (content : List ℕ) (pair : Pair) → p ≡ q → s ≡ t → m ≡ n → HoldsPair q t n content pair → HoldsPair p s m content pair
-cells_hold {p} {q} {s} {t} {m} {n} content pair place size number holds =
-    subst (λ k. HoldsPair k s m content pair) (sym place) (subst (λ k. HoldsPair q k m content pair) (sym size) (subst (λ k. HoldsPair q t k content pair) (sym number) holds))
 
 module _ {D : Type 0} {disk : Ghosts D} (store : Store D disk) (is_open : IsOpen store) (job : Job) (kept : CanBePut is_open.order is_open.cells job)
     (inside : job.document < store.shape.docs) (one : Cells) (its : IsCellsOf store.shape job.document one) where

@@ -1,5 +1,5 @@
 -- A store whose oldest segment is being covered by milestones.
-use Rattle.std.proofs.Common.{◌≡◌, ℕ, ◌≤◌, ◌<◌, Option, Some, None, List, length, map, get_or, ◌∙◌, ap, subst, sym, arith}
+use Rattle.std.proofs.Common.{◌≡◌, ℕ, ◌≤◌, Option, Some, None, List, length, map, ◌∙◌, ap, subst, sym, arith}
 use Rattle.std.specs.Prelude.{Result, Ok, Err, OnOk, slice_get}
 use Rattle.std.proofs.lemmas.Bool.Decides.{nat_tests}
 use Rattle.std.proofs.lemmas.List.{length-map}
@@ -12,9 +12,9 @@ use Rattle.segments.specs.Numbers.{IsOldest}
 use Rattle.segments.specs.Ring.{known_numbers}
 use Rattle.recovery.specs.declared.marks.Mark.{Mark}
 use Rattle.recovery.specs.declared.store.Store.{Store}
-use Rattle.recovery.specs.Marks.{marks_of, without_segment}
+use Rattle.recovery.specs.Marks.{without_segment}
 use Rattle.recovery.specs.Jobs.{no_job_of, no_job_for}
-use Rattle.recovery.specs.Open.{IsOpen, known_marks}
+use Rattle.recovery.specs.Open.{known_marks}
 use Rattle.recovery.specs.steps.Freeing.{KeepsSegments}
 
 -- a document can be given a milestone at its revision, where its open cells are no higher

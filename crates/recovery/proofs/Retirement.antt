@@ -11,7 +11,7 @@ use Rattle.history.specs.Cell.{cells_at, lowest}
 use Rattle.history.specs.Law.{IsCovered}
 use Rattle.history.specs.Running.{Runs}
 use Rattle.history.proofs.CallerLemmas.{retires, covered_by_greatest}
-use Rattle.segments.specs.Slot.{Segment, number_of}
+use Rattle.segments.specs.Slot.{Segment}
 use Rattle.segments.specs.Numbers.{open_count, IsOldest}
 use Rattle.segments.specs.Table.{slot_at, numbers_of, IsRetired}
 use Rattle.segments.specs.Order.{bodies_of}
@@ -30,10 +30,7 @@ use Rattle.recovery.proofs.KnownCells.{lowest_same, highest_same}
 use Rattle.recovery.proofs.Marked.{number_held, one_oldest, covered_by_marks}
 use Rattle.recovery.proofs.Runs.{found_as}
 use Rattle.recovery.proofs.Splitting.{Split, split}
-
-pub held_there : (x : Option Segment) (n : ℕ) → number_of x ≡ Some n → (segment : Segment) × (x ≡ Some segment) × (segment.number ≡ n)
-held_there None n is = absurd cc
-held_there (Some segment) n is = let same : segment.number ≡ n = cc in (segment, refl, same)
+pub use Rattle.segments.proofs.CallerLemmas.{segment_held as held_there}
 
 -- nothing speaks against retiring the oldest segment, where two slots are open and no mark of it is above its document's cells
 pub known_covered : {D : Type 0} {disk : Ghosts D} (store : Store D disk) (number : ℕ) → (slot : ℕ) × IsOldest (known_numbers store.ring) slot number

@@ -5,14 +5,13 @@ use Rattle.std.proofs.lemmas.Bool.{false≢true}
 use Rattle.std.proofs.lemmas.Bool.Decides.{nat_tests}
 use Rattle.std.proofs.lemmas.List.{length-map, map-set}
 use Rattle.disk.specs.declared.device.Disk.{Ghosts}
-use Rattle.revision.specs.Command.{Taken}
 use Rattle.segments.specs.Slot.{number_of}
 use Rattle.segments.specs.Numbers.{newest_number, open_count}
 use Rattle.segments.specs.Table.{numbers_of}
 use Rattle.segments.specs.Ring.{known_numbers, fits_newest}
 use Rattle.segments.specs.Room.{has_closed, has_free, has_room_for}
 use Rattle.recovery.specs.declared.store.Store.{Store}
-use Rattle.recovery.specs.Open.{IsOpen, IsFreedNow, has_room, fits_newest_segment}
+use Rattle.recovery.specs.Open.{IsOpen, IsFreedNow}
 use Rattle.recovery.proofs.Superblocks.{ranges_of}
 use Rattle.recovery.proofs.Marked.{there}
 
@@ -49,10 +48,6 @@ used_up numbers fits none few slots = by_closed (has_closed numbers) refl
     by_closed false is = absurd (omega (arith, all_open numbers is, few, slots))
 
 module _ {D : Type 0} {disk : Ghosts D} where
-  -- what fits the newest segment finds room
-  pub room_where_it_fits : (store : Store D disk) (batch : List Taken) → fits_newest_segment store batch ≡ true → has_room store batch ≡ true
-  room_where_it_fits store batch is = rw is refl
-
   -- still no room where the oldest segment was freed
   pub freed_up : (old new : Store D disk) (len : ℕ) (is_open : IsOpen old) → IsFreedNow old is_open new → has_room_for new.ring len ≡ false
       → 2 ^ 64 - 1 ≤ newest_number (known_numbers old.ring)

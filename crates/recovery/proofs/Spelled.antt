@@ -1,28 +1,26 @@
 -- The newest milestone of a document, as its cells spell it.
-use Rattle.std.proofs.Common.{◌≡◌, ◌≢◌, ◌⊎◌, inl, inr, ℕ, ◌+◌, ◌*◌, ◌≤◌, ◌<◌, Option, Some, None, List, length, get_or, refl, sym, ◌∙◌, ap, subst, arith}
+use Rattle.std.proofs.Common.{◌≡◌, ◌≢◌, ℕ, ◌+◌, ◌≤◌, ◌<◌, Option, Some, None, length, refl, sym, ◌∙◌, ap, subst, arith}
 use Rattle.std.specs.Prelude.{slice_get, ◌^◌}
-use Rattle.std.proofs.lemmas.Option.{slice_get-get_or}
 use Rattle.disk.specs.declared.device.Disk.{Ghosts}
 use Rattle.journal.specs.Area.{frame}
 use Rattle.refusal.specs.declared.Refusal.{Refusal}
 use Rattle.revision.specs.Sources.{count_of}
-use Rattle.revision.specs.State.{State, Limits, DocumentRecord, newest_revision, revision_of}
+use Rattle.revision.specs.State.{Limits, DocumentRecord, newest_revision, revision_of}
 use Rattle.revision.specs.Width.{delta_width}
 use Rattle.history.specs.Cell.{Cell, cell_of}
 use Rattle.milestone.specs.CellSpelling.{IsCell, cell_body, inserts_of}
 use Rattle.milestone.specs.declared.cells.Cells.{Cells}
-use Rattle.milestone.specs.Cells.{number_of, size_of}
 use Rattle.milestone.specs.Job.{Job, cell_of_job}
 use Rattle.milestone.specs.Together.{HasRoom, framed_body}
 use Rattle.milestone.proofs.CallerLemmas.{cell_fits, light_content}
 use Rattle.recovery.specs.declared.group.Member.{Member}
 use Rattle.recovery.specs.declared.store.Store.{Store}
-use Rattle.recovery.specs.Cells.{IsCellsOf, highest_known}
+use Rattle.recovery.specs.Cells.{highest_known}
 use Rattle.recovery.specs.Found.{limits_of}
 use Rattle.recovery.specs.Jobs.{IsJobTo, KeepsLimits, no_job_for}
 use Rattle.recovery.specs.Open.{IsOpen, newest_cell, state_of, known_cells}
 use Rattle.recovery.specs.steps.Freeing.{reached_in}
-use Rattle.recovery.specs.steps.Group.{IsNewestOf, Spells}
+use Rattle.recovery.specs.steps.Group.{IsNewestOf}
 use Rattle.recovery.proofs.HandedOut.{held_here, none≢some}
 use Rattle.recovery.proofs.Raising.{none_against}
 use Rattle.recovery.proofs.Reaching.{cells_reached}

@@ -1,5 +1,5 @@
 -- One step of many documents at once, each written by itself before one sync for all.
-use Rattle.std.proofs.Common.{◌≡◌, ◌≢◌, ◌⊎◌, ⊎_elim, inl, inr, ℕ, zero, suc, ◌+◌, ◌*◌, ◌≤◌, ◌<◌, true, false, Option, Some, List, [], ◌∷◌, length, set, take, drop, get_or, refl, sym, ◌∙◌, ap, subst, ◌↔◌, arith}
+use Rattle.std.proofs.Common.{◌≡◌, ◌≢◌, ◌⊎◌, inl, inr, ℕ, ◌+◌, ◌*◌, ◌≤◌, ◌<◌, true, false, Some, List, length, set, take, drop, get_or, refl, sym, ◌∙◌, ap, subst, ◌↔◌, arith}
 use Rattle.std.specs.Prelude.{slice_get, Result, Ok, Err, OnOk, OnErr, min}
 use Rattle.std.proofs.lemmas.Bool.{cases_eq}
 use Rattle.std.proofs.lemmas.Option.{slice_get_within, same_Some}
@@ -8,11 +8,11 @@ use Rattle.disk.specs.Apart.{IsApart, AreApart, CoversMoreWithin}
 use Rattle.disk.specs.Calls.{HasOnlyWritten, CountsFaults}
 use Rattle.disk.specs.Counted.{Costs}
 use Rattle.disk.specs.Crash.{Leaves, LeavesIn, LeavesOnly, history_of}
-use Rattle.disk.specs.Device.{State, History, MayLeave, SameOutside, IsSync, IsAtMostOneStep, Rose, most_faults}
-use Rattle.disk.proofs.CallerLemmas.{begins, goes_on_run, goes_on_sync, leaves_map, same_outside_wider, same_outside_then, apart_synced, apart_still, costs_sync}
+use Rattle.disk.specs.Device.{State, History, SameOutside, IsSync, IsAtMostOneStep, most_faults}
+use Rattle.disk.proofs.CallerLemmas.{begins, goes_on_run, leaves_map, same_outside_wider, same_outside_then, apart_synced, apart_still, costs_sync}
 use Rattle.history.specs.Cell.{Cell, Pair}
 use Rattle.milestone.specs.declared.cells.Cells.{Cells}
-use Rattle.milestone.specs.Cells.{Fits, FitsNow, SameCells, HoldsInCells, with_cell, place_of, size_of, number_of}
+use Rattle.milestone.specs.Cells.{Fits, FitsNow, SameCells, with_cell, place_of, size_of, number_of}
 use Rattle.milestone.specs.OneCell.{HoldsPair}
 use Rattle.milestone.specs.Together.{IsLeftByStep, IsPutOr, HasRoom, IsReady, StandApart, WritesWithin, framed_body}
 use Rattle.milestone.specs.CellSpelling.{IsCell, cell_body}
@@ -27,12 +27,7 @@ use Rattle.recovery.proofs.Covering.{low_or_above}
 use Rattle.recovery.proofs.Layouts.{cells_before}
 use Rattle.recovery.proofs.Members.{in_other, not_before, not_next}
 use Rattle.recovery.proofs.PutCells.{other_bytes, cells_after, cells_put, set_each, fits_there}
-
--- what stands at a place of a list
-pub there : {A : Type 0} (xs : List A) (k : ℕ) → k < length xs → (x : A) × (slice_get xs k ≡ Some x)
-there [] k inside = absurd (omega (arith, inside))
-there (x ∷ xs) zero inside = (x, refl)
-there (x ∷ xs) (suc k) inside = there xs k (omega (arith, inside))
+pub use Rattle.history.proofs.CallerLemmas.{some-there as there}
 
 pub same_outside : (old : List ℕ) (at count : ℕ) → SameOutside at count old old
 same_outside old at count = record { same_length = refl; before = refl; after = refl }

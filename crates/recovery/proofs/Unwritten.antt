@@ -1,8 +1,7 @@
 -- A milestone that was not put, since memory ran out.
 use Rattle.std.proofs.Common.{◌≡◌, ℕ, ◌+◌, ◌≤◌, List, Some, length, sym, subst, arith, ◌∙◌}
-use Rattle.std.specs.Prelude.{Result, Ok, Err, IfOk, slice_get}
+use Rattle.std.specs.Prelude.{slice_get}
 use Rattle.disk.specs.declared.device.Disk.{Ghosts}
-use Rattle.refusal.specs.declared.Refusal.{Refusal}
 use Rattle.revision.specs.Replay.{IsReplay}
 use Rattle.revision.specs.State.{DocumentRecord}
 use Rattle.milestone.specs.Job.{Job, units_of_job}
@@ -29,10 +28,8 @@ module _ {D : Type 0} {disk : Ghosts D} where
 
 -- what a job that is given is made of
 pub made_of : (documents : List DocumentRecord) (document revision : ℕ) (found : DocumentRecord) → slice_get documents document ≡ Some found
-    → (result : Result Job Refusal) → IfOk result (λ job. IsReplay found.past revision (units_of_job job) job.deltas)
-    → IfOk result (λ job. IsMadeOf documents document revision job)
-made_of documents document revision found there (Ok job) replay = record { found = found; there = there; replay = replay }
-made_of documents document revision found there (Err refusal) replay = tt
+    → (job : Job) → IsReplay found.past revision (units_of_job job) job.deltas → IsMadeOf documents document revision job
+made_of documents document revision found there job replay = record { found = found; there = there; replay = replay }
 
 module _ {D : Type 0} {disk : Ghosts D} (old mid : Store D disk) (device : device_of mid ≡ device_of old) (most : ℕ) where
   -- no call of the device was made, and then a few

@@ -1,20 +1,22 @@
 -- What a commit for which room may be made in a full journal comes to, and what making room leaves where it is refused.
-use Rattle.std.specs.Prelude.{◌≡◌, ◌⊎◌, ◌+◌, ◌*◌, ◌≤◌, ◌<◌, ◌-◌, ◌/◌, ◌^◌, ℕ, zero, suc, nat_lt, if◌then◌else◌, true, false, Option, Some, None, List, length, slice_get}
+use Rattle.std.specs.Prelude.{◌≡◌, ◌⊎◌, ◌+◌, ◌*◌, ◌≤◌, ◌<◌, ◌-◌, ◌/◌, ◌^◌, ℕ, zero, suc, nat_lt, if◌then◌else◌, true, false, Option, Some, None, List, length, slice_get, [], ◌∷◌, Result, IsErrOf}
 use Rattle.disk.specs.declared.device.Disk.{Ghosts}
 use Rattle.disk.specs.Counted.{syncs_of}
+use Rattle.disk.specs.Device.{SameOutside}
 use Rattle.journal.specs.Area.{frame}
 use Rattle.milestone.specs.CellSpelling.{cell_body}
+use Rattle.refusal.specs.Refusal.{IsOneOf}
 use Rattle.refusal.specs.declared.Refusal.{Refusal}
 use Rattle.refusal.specs.declared.Refusal.TheVariants.{JournalFull, StillNeeded, Stranger, NoMemory, Fault}
 use Rattle.revision.specs.Command.{Taken}
 use Rattle.revision.specs.State.{State, DocumentRecord, fold, all_grow, first_grows}
 use Rattle.segments.specs.Numbers.{IsOldest, newest_number, open_count}
-use Rattle.segments.specs.Ring.{known_numbers}
+use Rattle.segments.specs.Ring.{IsSameButOldest, known_numbers}
 use Rattle.recovery.specs.declared.store.Store.{Store}
 use Rattle.recovery.specs.Found.{FoundAs}
 use Rattle.recovery.specs.Goes.{Goes}
 use Rattle.recovery.specs.Marks.{within_segment, without_segment, greatest_marked}
-use Rattle.recovery.specs.Open.{IsOpen, newest_cell, IsUnchanged, IsCommittedNow, IsCommittedBehind, IsFreedNow, IsHalfFreed, KeepsJobs, device_of, ring_of, state_of, known_cells, known_marks, kept_jobs, has_room, fits_newest_segment}
+use Rattle.recovery.specs.Open.{IsOpen, newest_cell, IsUnchanged, IsCommittedNow, IsCommittedBehind, IsFreedNow, IsHalfFreed, KeepsJobs, device_of, ring_of, state_of, known_cells, known_marks, kept_jobs, has_failed, has_room, fits_newest_segment}
 
 -- how many bytes a cell has behind its gate that holds a document at its newest revision, and 0 where there is no document
 abbrev pub bytes_in : ℕ → Option DocumentRecord → ℕ
@@ -63,6 +65,17 @@ module _ {D : Type 0} {disk : Ghosts D} where
     pub by_bytes : (slot segment : ℕ) → IsOldest (known_numbers (ring_of old)) slot segment
         → syncs_of disk (device_of new) ≤ syncs_of disk (device_of old) + (6 * (1 + bytes_for segment old / most_bytes) + more)
 
+  -- So many calls at most beyond those for making room, and so many syncs.
+  pub record CostsFreeing (most_calls most_syncs : ℕ) (old new : Store D disk) : Type 0 where
+    pub calls : CostsAtMost most_calls old new
+    pub syncs : SyncsAtMost most_syncs old new
+
+  -- Making room changes cells alone, and behind that nothing but the gate of the oldest segment's slot, whatever the device holds.
+  pub record ChangesOnly (old new : Store D disk) : Type 0 where
+    pub mid : List ℕ
+    pub cells : SameOutside 64 (2 * old.shape.docs * old.shape.cell) (disk.seen (device_of old)) mid
+    pub gate : IsSameButOldest (ring_of old) mid (disk.seen (device_of new))
+
   -- Room was made: the oldest segment is closed, and its marks are gone.
   pub record IsFreed (old new : Store D disk) : Type 0 where
     pub now : (is_open : IsOpen old) → IsFreedNow old is_open new
@@ -71,7 +84,7 @@ module _ {D : Type 0} {disk : Ghosts D} where
   -- Room was not made, and why: too few slots are open, and the store is left unchanged; memory ran out, and some milestones may be put; or the
   -- device failed. The segments stay.
   pub record IsUnfreed (refusal : Refusal) (old new : Store D disk) : Type 0 where
-    pub only : (refusal ≡ StillNeeded) ⊎ ((refusal ≡ NoMemory) ⊎ (refusal ≡ Fault))
+    pub only : IsOneOf refusal (StillNeeded ∷ NoMemory ∷ Fault ∷ [])
     pub ring : ring_of new ≡ ring_of old
     pub marks : known_marks new ≡ known_marks old
     pub needed : refusal ≡ StillNeeded → IsOpen old → HasFew old × IsUnchanged old new
@@ -97,7 +110,7 @@ module _ {D : Type 0} {disk : Ghosts D} where
   -- as `JournalFull` after a segment was freed, and as `StillNeeded` where none could be, and then the numbers of segments are used up; as
   -- `Stranger` after a segment was freed; and where memory ran out, one is freed or partly freed, and nothing of the batch is written.
   pub record IsUncommitted (refusal : Refusal) (batch : List Taken) (old new : Store D disk) : Type 0 where
-    pub only : ((refusal ≡ JournalFull) ⊎ ((refusal ≡ StillNeeded) ⊎ (refusal ≡ Stranger))) ⊎ ((refusal ≡ NoMemory) ⊎ (refusal ≡ Fault))
+    pub only : (IsOneOf refusal (JournalFull ∷ StillNeeded ∷ Stranger ∷ [])) ⊎ ((refusal ≡ NoMemory) ⊎ (refusal ≡ Fault))
     pub state : state_of new ≡ state_of old
     pub marks : length (known_marks new) ≤ length (known_marks old)
     pub same_marks : has_room old batch ≡ true → known_marks new ≡ known_marks old
@@ -110,3 +123,9 @@ module _ {D : Type 0} {disk : Ghosts D} where
     pub unchanged : (refusal ≡ Stranger) ⊎ (refusal ≡ NoMemory) → has_room old batch ≡ true → IsUnchanged old new
     pub behind : (refusal ≡ Stranger) ⊎ (refusal ≡ NoMemory) → has_room old batch ≡ false → (is_open : IsOpen old)
         → (IsFreedNow old is_open new) ⊎ ((refusal ≡ NoMemory) × IsHalfFreed old is_open new)
+
+  -- A store that works has to refuse a batch: no segment can be freed for it, or it has room and doesn't continue the state.
+  pub record MustBeRefusedFreeing {A : Type 0} (result : Result A Refusal) (batch : List Taken) (old : Store D disk) : Type 0 where
+    pub few : has_failed old ≡ false → has_room old batch ≡ false → HasFew old → IsErrOf result StillNeeded
+    pub no_growth : has_failed old ≡ false → has_room old batch ≡ true → all_grow (state_of old) batch ≡ false
+        → (IsErrOf result Stranger) ⊎ (IsErrOf result NoMemory)

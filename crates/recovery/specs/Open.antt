@@ -24,6 +24,7 @@ use Rattle.recovery.specs.Marks.{marks_of, greatest_marked}
 use Rattle.recovery.specs.Marked.{AreMarked}
 use Rattle.recovery.specs.Jobs.{jobs_of, jobs_for, CanAllBePut}
 use Rattle.recovery.specs.Found.{limits_of, commands_of, HoldsParts, FoundAs}
+use Rattle.recovery.specs.Moment.{At, Moment, moment_of}
 
 -- a content that represents a state that agrees with the one before a batch, or with the one with it
 abbrev pub IsWithOrWithout : State → List Taken → List ℕ → Type 0
@@ -44,16 +45,6 @@ pub record AreBothNewest (state : State) (document : ℕ) (pair : Pair) : Type 0
   pub there : slice_get state.documents document ≡ Some found
   pub both : pair ≡ (Some (newest_cell found), Some (newest_cell found))
 
--- One of the two cells of a document was put at its newest revision, over the older one where both were open.
-pub record IsOnePut (state : State) (document : ℕ) (before after : Pair) : Type 0 where
-  pub found : DocumentRecord
-  pub there : slice_get state.documents document ≡ Some found
-  pub put : after ≡ with_cell (newest_cell found) (freed before)
-
--- Milestones of a document were given up: no cell of it was put, or one, at its newest revision, or both.
-abbrev pub IsHalfRaised : State → ℕ → Pair → Pair → Type 0
-IsHalfRaised state document before after = (after ≡ before) ⊎ (IsOnePut state document before after ⊎ AreBothNewest state document after)
-
 module _ {D : Type 0} {disk : Ghosts D} where
   -- the device under a store
   abbrev pub device_of : Store D disk → D
@@ -66,6 +57,14 @@ module _ {D : Type 0} {disk : Ghosts D} where
   -- the state that a store holds
   abbrev pub state_of : Store D disk → State
   state_of store = store.state
+
+  -- a store as it is now, as a receipt keeps it
+  abbrev pub now_of : Store D disk → At D
+  now_of store = record { state = store.state; device = store.device }
+
+  -- and this moment, whatever the device's type is
+  abbrev pub moment_now : Store D disk → Moment
+  moment_now store = moment_of disk (now_of store)
 
   -- a call of the device has failed since the store was opened
   abbrev pub has_failed : Store D disk → Bool
@@ -166,9 +165,9 @@ module _ {D : Type 0} {disk : Ghosts D} where
   IsRaised old new goes_on document =
       AreBothNewest (state_of old) document (cells_at goes_on.cells document) × (jobs_for document (kept_jobs new) ≡ [])
 
-  -- Room was being made when it was given up, in the milestones of one document: the store is open over the same slots. Each document that has no
-  -- entry in the oldest segment is left unchanged, with its kept jobs. So is each other one, or it has both its milestones and no kept job;
-  -- the one document has some of them, and no kept job.
+  -- Room was being made when it was given up, before the milestones of one document: the store is open over the same slots. Each document that has
+  -- no entry in the oldest segment is left unchanged, with its kept jobs. So is each other one, or it has both its milestones and no kept job;
+  -- the one document has its cells unchanged, and no kept job.
   pub record IsHalfFreed (old : Store D disk) (is_open : IsOpen old) (new : Store D disk) : Type 0 where
     pub goes_on : IsOpen new
     pub same_table : goes_on.table ≡ is_open.table
@@ -178,7 +177,7 @@ module _ {D : Type 0} {disk : Ghosts D} where
     pub spared : (document : ℕ) → HasNone segment document old → IsLeft old is_open new goes_on document
     pub under_way : ℕ
     pub needs : ¬ HasNone segment under_way old
-    pub own : IsHalfRaised (state_of old) under_way (cells_at is_open.cells under_way) (cells_at goes_on.cells under_way)
+    pub own : cells_at goes_on.cells under_way ≡ cells_at is_open.cells under_way
     pub dropped : jobs_for under_way (kept_jobs new) ≡ []
     pub others : (document : ℕ) → document ≢ under_way → ¬ HasNone segment document old
         → IsLeft old is_open new goes_on document ⊎ IsRaised old new goes_on document

@@ -2,6 +2,7 @@
 use Rattle.std.specs.Prelude.{◌≡◌, ◌≢◌, ◌⊎◌, true, false, Some, None, slice_get, ◌≤◌, ◌<◌, ◌^◌, ℕ, List, [], ◌∷◌, length, take, map, get_or}
 use Rattle.disk.specs.declared.device.Disk.{Ghosts}
 use Rattle.disk.specs.Crash.{LeavesOnly}
+use Rattle.refusal.specs.Refusal.{IsOneOf}
 use Rattle.refusal.specs.declared.Refusal.{Refusal}
 use Rattle.refusal.specs.declared.Refusal.TheVariants.{JournalFull, Stranger, NoDocument, Future, TooOld, StillNeeded, NoMemory, Fault}
 use Rattle.revision.specs.Command.{Taken}
@@ -57,7 +58,7 @@ CanTake state Retire = Unit {0}
 -- the refusals of a step: those of a commit, of a milestone and of a retirement
 abbrev pub IsOfStep : Refusal → Type 0
 IsOfStep e =
-    ((e ≡ JournalFull) ⊎ (e ≡ Stranger)) ⊎ (((e ≡ NoDocument) ⊎ ((e ≡ Future) ⊎ (e ≡ TooOld))) ⊎ ((e ≡ StillNeeded) ⊎ ((e ≡ NoMemory) ⊎ (e ≡ Fault))))
+    ((e ≡ JournalFull) ⊎ (e ≡ Stranger)) ⊎ ((IsOneOf e (NoDocument ∷ Future ∷ TooOld ∷ [])) ⊎ (IsOneOf e (StillNeeded ∷ NoMemory ∷ Fault ∷ [])))
 
 module _ {D : Type 0} {disk : Ghosts D} where
   -- Nothing speaks against a milestone of a document at a revision, by the cells that are known in memory: the document is there and has

@@ -1,5 +1,5 @@
 //! Putting the milestones of many composed jobs as one step.
-ghost use Rattle.std.specs.Prelude.{◌≡◌, ◌≢◌, ◌⊎◌, ◌≤◌, List, [], ◌∷◌, ◌++◌, true, false, length, take, Contains, OnOk, OnErr, IfOk, IfErr, IsErrOf, IsOkUnless};
+ghost use Rattle.std.specs.Prelude.{◌≡◌, ◌≢◌, ◌⊎◌, ◌+◌, ◌≤◌, List, [], ◌∷◌, ◌++◌, true, false, length, take, Contains, OnOk, OnErr, IfOk, IfErr, IsErrOf};
 ghost use Rattle.milestone.specs.Job.{Job as JobValue};
 ghost use Rattle.recovery.specs.declared.group.Member.{Member as One};
 ghost use Rattle.recovery.specs.Faults.{FailsAtFaults};
@@ -7,23 +7,25 @@ ghost use Rattle.recovery.specs.Found.{FoundAs};
 ghost use Rattle.recovery.specs.Goes.{Goes};
 ghost use Rattle.recovery.specs.Open.{IsUnchanged, state_of, has_failed, kept_jobs};
 ghost use Rattle.recovery.specs.PutJobs.{AreNotKept, ArePut, CostsTogether};
-ghost use Rattle.recovery.specs.steps.Freeing.{KeepsSegments};
+ghost use Rattle.recovery.specs.steps.Freeing.{bytes_of, AreBounded, KeepsSegments};
 ghost use Rattle.recovery.specs.steps.Group.{is_in, IsMadeOfKept, AreKept};
 
-use crate::group::{Group, MOST_BYTES, Member, drop_jobs, let_go_each};
+use crate::group::{Group, MOST_BYTES, Member, drop_jobs, prune_each};
 use crate::rounds::put_each;
 use crate::store::Store;
 use disk::Disk;
 use milestone::Composed;
 use refusal::Refusal;
-use std::alloc::Global;
+use std::alloc::{AllocError, Global};
 
 impl<D: Disk> Store<D> {
     /// Puts the milestones of composed jobs as one step: of each job that is still the one that the store keeps of its document, as
-    /// `put_milestone` puts one, and passes the others. It takes a prefix, as many as there is memory for and as four megabytes hold, and
-    /// returns how many it took; at least one, where there is one. Where it passes all of these, it makes no call of the device, and all is
-    /// unchanged. All memory is taken before the first call of the device: `NoMemory` comes where there was none for the first of them, and
-    /// leaves all unchanged. After a `Fault` the store has failed. The documents stay.
+    /// `put_milestone` puts one, and passes the others. It takes a prefix, as many as there is memory for and as four megabytes hold,
+    /// and returns how many it took; at least one, where there is one. The answer doesn't tell which of the two made it stop, and
+    /// memory may end after any of them, so no clause says how many these are: a call with the rest continues. Where it passes all of
+    /// these, it makes no call of the device, and all is unchanged. All memory is taken before the first call of the device: `NoMemory`
+    /// comes where there was none for the first of them, and leaves all unchanged. After a `Fault` the store has failed. The documents
+    /// stay.
     pub fn put_milestones(&mut self, alloc: Global, composed: &[Composed]) -> Result<usize, Refusal>
         // When each refusal comes.
         ensures faults { FailsAtFaults result self.old self.new }
@@ -45,10 +47,7 @@ impl<D: Disk> Store<D> {
         if self.failed {
             return Err(Refusal::Fault);
         }
-        let group = match self.spell_kept(alloc, composed) {
-            Ok(group) => group,
-            Err(refusal) => return Err(refusal),
-        };
+        let group = self.spell_kept(alloc, composed)?;
         match self.put_once(alloc, &group.members) {
             Ok(()) => Ok(group.end),
             Err(refusal) => Err(refusal),
@@ -57,11 +56,11 @@ impl<D: Disk> Store<D> {
 
     // The milestones of those of the first composed jobs that are kept, each document once: as many as there is memory for, and no more once they have
     // enough bytes for a group. All memory that putting them needs is taken here.
-    fn spell_kept(&self, alloc: Global, composed: &[Composed]) -> Result<Group, Refusal>
+    fn spell_kept(&self, alloc: Global, composed: &[Composed]) -> Result<Group, AllocError>
         ensures count { IfOk result (λ group. (group.end ≤ length composed.now) × (composed.now ≢ [] → 1 ≤ group.end)) }
         ensures kept { IfOk result (λ group. AreKept (take group.end composed.now) group.members.items self.now) }
         ensures few { IfOk result (λ group. length group.members.items ≤ group.end) }
-        ensures only { IsOkUnless result Refusal.NoMemory }
+        ensures bounded { IfOk result (λ group. AreBounded group.members.items) }
     {
         let mut members = Vec::new(alloc);
         let mut bytes: usize = 0;
@@ -76,9 +75,9 @@ impl<D: Disk> Store<D> {
                 Ok(len) => {
                     bytes = bytes.saturating_add(len);
                 }
-                Err(refusal) => {
+                Err(no_memory) => {
                     if place == 0 {
-                        return Err(refusal);
+                        return Err(no_memory);
                     }
                     return Ok(Group {
                         members,
@@ -100,14 +99,14 @@ impl<D: Disk> Store<D> {
         alloc: Global,
         members: &mut Vec<Member>,
         composed: &Composed,
-    ) -> Result<usize, Refusal>
+    ) -> Result<usize, AllocError>
         ensures added { OnOk result (((members.new.items ≡ members.old.items)
             × (Contains (kept_jobs self.now) composed.now → is_in members.old.items composed.now.document ≡ true))
             ⊎ ((member : One) × (members.new.items ≡ members.old.items ++ member ∷ [])
             × (is_in members.old.items member.document ≡ false) × (member.document ≡ composed.now.document)
             × IsMadeOfKept (composed.now ∷ []) self.now member)) }
+        ensures counted { IfOk result (λ len. bytes_of members.new.items ≡ bytes_of members.old.items + len) }
         ensures refused { OnErr result (members.new.items ≡ members.old.items) }
-        ensures only { IsOkUnless result Refusal.NoMemory }
     {
         let job = composed.job();
         if !self.jobs.is_kept(job) {
@@ -119,7 +118,7 @@ impl<D: Disk> Store<D> {
         members.reserve(1)?;
         let member = match self.spell_composed(alloc, composed) {
             Ok(member) => member,
-            Err(refusal) => return Err(refusal),
+            Err(no_memory) => return Err(no_memory),
         };
         let len = member.bytes.len();
         members.push(member).unwrap();
@@ -127,21 +126,20 @@ impl<D: Disk> Store<D> {
     }
 
     // What comes of a composed job that is kept, as its document's cells spell it. Refused as out of memory alone.
-    fn spell_composed(&self, alloc: Global, composed: &Composed) -> Result<Member, Refusal>
+    fn spell_composed(&self, alloc: Global, composed: &Composed) -> Result<Member, AllocError>
         requires kept { Contains (kept_jobs self.now) composed.now }
 
         ensures made { IfOk result (λ member. IsMadeOfKept (composed.now ∷ []) self.now member) }
         ensures document { IfOk result (λ member. member.document ≡ composed.now.document) }
-        ensures only { IsOkUnless result Refusal.NoMemory }
     {
         let job = composed.job();
         let document = job.document_number();
         let milestone = composed.milestone();
         let Ok(_) = milestone.content(alloc) else {
-            return Err(Refusal::NoMemory);
+            return Err(AllocError);
         };
         let Ok(bytes) = self.cells[document as usize].spelled(alloc, milestone) else {
-            return Err(Refusal::NoMemory);
+            return Err(AllocError);
         };
         Ok(Member {
             document,
@@ -172,7 +170,7 @@ impl<D: Disk> Store<D> {
         match put_each(&mut self.device, &mut self.cells, members) {
             Ok(()) => {
                 drop_jobs(&mut self.jobs, members);
-                let_go_each(alloc, &mut self.state, members);
+                prune_each(alloc, &mut self.state, members);
                 Ok(())
             }
             Err(_) => {

@@ -1,5 +1,6 @@
 //! Formatting a device.
-ghost use Rattle.std.specs.Prelude.{◌≡◌, ◌⊎◌, ◌↔◌, ◌+◌, ◌*◌, ◌<◌, ◌≤◌, ◌^◌, ℕ, Some, [], length, true, IsTrue, Err, OnOk, OnErr, IfOk, IfErr, IsErrOf, slice_index};
+ghost use Rattle.std.specs.Prelude.{◌≡◌, ◌⊎◌, ◌↔◌, ◌+◌, ◌*◌, ◌<◌, ◌≤◌, ◌^◌, ℕ, Some, [], length, true, IsTrue, Err, OnOk, OnErr, IfOk, IfErr, IsErrOf, slice_index, ◌∷◌};
+ghost use Rattle.refusal.specs.Refusal.{IsOneOf};
 ghost use Rattle.disk.specs.Device.{Rose, SameOutside};
 ghost use Rattle.disk.specs.Crash.{LeavesIn, LeavesOnly, history_of};
 ghost use Rattle.disk.specs.Calls.{HasOnlyWritten, CountsFaults, CountsFaultsAs};
@@ -53,8 +54,7 @@ pub fn format_device<D: Disk>(alloc: Global, disk: &mut D, shape: Shape) -> Resu
         → (result ≡ Err Refusal.BadShape) ⊎ ((result ≡ Err Refusal.AlreadyFormatted) ⊎ (result ≡ Err Refusal.Fault)) }
 
     // No other refusal comes, and all but `Fault` come before the first write.
-    ensures refusals { IfErr result (λ e. (e ≡ Refusal.BadShape) ⊎ ((e ≡ Refusal.AlreadyFormatted)
-        ⊎ ((e ≡ Refusal.NoMemory) ⊎ (e ≡ Refusal.Fault)))) }
+    ensures refusals { IfErr result (λ e. IsOneOf e (Refusal.BadShape ∷ Refusal.AlreadyFormatted ∷ Refusal.NoMemory ∷ Refusal.Fault ∷ [])) }
     ensures refused { OnErr result ((result ≡ Err Refusal.Fault)
         ⊎ IsOnlySynced (history_of ⟦<D as Disk>⟧ disk.old) (history_of ⟦<D as Disk>⟧ disk.new)) }
 
@@ -111,8 +111,7 @@ pub fn format_with<D: Disk>(
         → (result ≡ Err Refusal.BadShape) ⊎ ((result ≡ Err Refusal.AlreadyFormatted) ⊎ (result ≡ Err Refusal.Fault)) }
 
     // No other refusal comes, and all but `Fault` and `NoMemory` come before the first write. `NoMemory` leaves the superblock's gate closed.
-    ensures refusals { IfErr result (λ e. (e ≡ Refusal.BadShape) ⊎ ((e ≡ Refusal.AlreadyFormatted)
-        ⊎ ((e ≡ Refusal.NoMemory) ⊎ (e ≡ Refusal.Fault)))) }
+    ensures refusals { IfErr result (λ e. IsOneOf e (Refusal.BadShape ∷ Refusal.AlreadyFormatted ∷ Refusal.NoMemory ∷ Refusal.Fault ∷ [])) }
     ensures refused { IfErr result (λ e. (e ≡ Refusal.Fault) ⊎ ((e ≡ Refusal.NoMemory)
         ⊎ IsOnlySynced (history_of ⟦<D as Disk>⟧ disk.old) (history_of ⟦<D as Disk>⟧ disk.new))) }
     ensures memory { result ≡ Err Refusal.NoMemory → IsUnformatted (D.seen disk.old) → IsUnformatted (D.seen disk.new) }

@@ -1,17 +1,17 @@
 //! Making room in a journal that is full.
-ghost use Rattle.std.specs.Prelude.{◌≡◌, ◌≢◌, ◌⊎◌, ◌<◌, ◌≤◌, ◌+◌, ◌-◌, ◌*◌, ◌^◌, ℕ, true, false, None, max, length, get_or, OnOk, IfOk, IfErr, IfSome, IsErrOf, IsOkUnless};
-ghost use Rattle.revision.specs.Made.{AreMade};
-ghost use Rattle.revision.specs.State.{all_grow};
+ghost use Rattle.std.specs.Prelude.{◌≡◌, ◌≢◌, ◌⊎◌, ◌<◌, ◌≤◌, ◌+◌, ◌-◌, ◌*◌, ◌^◌, ℕ, true, false, [], None, max, length, get_or, OnOk, IfOk, IfErr, IfSome, IsErrOf, ◌∷◌};
+ghost use Rattle.refusal.specs.Refusal.{IsOneOf};
 ghost use Rattle.segments.specs.Numbers.{IsOldest};
 ghost use Rattle.segments.specs.Ring.{known_numbers};
+ghost use Rattle.recovery.specs.Commit.{MayBeCommitted, IsReceiptOf};
 ghost use Rattle.recovery.specs.Faults.{FailsAtFaults};
 ghost use Rattle.recovery.specs.Found.{FoundAs};
-ghost use Rattle.recovery.specs.Freed.{HasFew, IsFreed, IsUnfreed, IsPlain, IsCommittedFreeing, IsUncommitted, KeepsOthers, CostsAtMost, SyncsAtMost, bytes_for, most_bytes};
+ghost use Rattle.recovery.specs.Freed.{HasFew, ChangesOnly, IsFreed, IsUnfreed, IsPlain, IsCommittedFreeing, IsUncommitted, KeepsOthers, CostsAtMost, SyncsAtMost, CostsFreeing, MustBeRefusedFreeing, bytes_for, most_bytes};
 ghost use Rattle.recovery.specs.Goes.{Goes};
 ghost use Rattle.recovery.specs.Jobs.{jobs_for};
 ghost use Rattle.recovery.specs.Marks.{within_segment, greatest_marked};
-ghost use Rattle.recovery.specs.Open.{FitsSlot, IsOpen, IsUnchanged, IsHalfFreed, IsWithOrWithout, KeepsJobs, device_of, ring_of, state_of, known_cells, known_marks, kept_jobs, has_failed, has_room};
-ghost use Rattle.recovery.specs.steps.Freeing.{reached_in, count_marked, bytes_to, AreReached, SyncsBy, KeepsSegments, AreCovered, AreCoveredTo, IsHalfCovered};
+ghost use Rattle.recovery.specs.Open.{IsOpen, IsUnchanged, IsHalfFreed, IsWithOrWithout, KeepsJobs, device_of, ring_of, state_of, known_cells, known_marks, kept_jobs, has_failed, has_room};
+ghost use Rattle.recovery.specs.steps.Freeing.{reached_in, count_marked, bytes_to, AreReached, SyncsBy, KeepsSegments, AreCovered, AreCoveredTo, IsHalfCovered, ChangesCells};
 
 use crate::marks::Mark;
 use crate::receipt::Receipt;
@@ -20,13 +20,13 @@ use disk::Disk;
 use document::Document;
 use refusal::Refusal;
 use revision::Batch;
-use std::alloc::Global;
+use std::alloc::{AllocError, Global};
 
 impl<D: Disk> Store<D> {
     /// Makes room in a journal that is full: of each document that has an entry in the oldest segment it puts milestones at its newest
     /// revision, until both its cells stand there, and retires the segment. `StillNeeded` comes exactly when fewer than two slots are
-    /// open, and then makes no call of the device. After `NoMemory` some of the milestones may be put. After a `Fault` the store has
-    /// failed. The documents stay. The jobs of those documents are dropped.
+    /// open, and then makes no call of the device. After `NoMemory` each of those documents has both its milestones, or its cells
+    /// unchanged. After a `Fault` the store has failed. The documents stay. The jobs of those documents are dropped.
     pub fn free_oldest(&mut self, alloc: Global) -> Result<(), Refusal>
         // When each refusal comes.
         ensures faults { FailsAtFaults result self.old self.new }
@@ -39,6 +39,7 @@ impl<D: Disk> Store<D> {
         ensures state { state_of self.new ≡ state_of self.old }
         ensures no_more_marks { length (known_marks self.new) ≤ length (known_marks self.old) }
         ensures others { KeepsOthers self.old self.new }
+        ensures outside { ChangesOnly self.old self.new }
         ensures costs { CostsAtMost 2 self.old self.new }
         ensures syncs { SyncsAtMost 2 self.old self.new }
 
@@ -66,29 +67,21 @@ impl<D: Disk> Store<D> {
         batch: &Batch,
         made: &[Document],
     ) -> Result<Receipt<D>, Refusal>
-        requires some { 1 ≤ length batch.now }
-        requires short { length batch.now < 2 ^ 32 }
-        requires fits { FitsSlot (state_of self.old) batch.now }
-        requires made { AreMade (state_of self.old) batch.now made.now }
+        requires { MayBeCommitted (state_of self.old) batch.now made.now }
 
-        // What an Ok hands out names just this batch.
-        ensures receipt { IfOk result (λ receipt. receipt ≡ batch.now) }
+        // What an Ok hands out names just this batch, and the store as the commit leaves it, over a device that is synced.
+        ensures receipt { IfOk result (λ receipt. IsReceiptOf receipt batch.now self.new) }
 
         // When each refusal comes. The end of memory may be told in place of `Stranger`.
         ensures faults { FailsAtFaults result self.old self.new }
-        ensures few { has_failed self.old ≡ false → has_room self.old batch.now ≡ false → HasFew self.old
-            → IsErrOf result Refusal.StillNeeded }
-        ensures no_growth { has_failed self.old ≡ false → has_room self.old batch.now ≡ true
-            → all_grow (state_of self.old) batch.now ≡ false
-            → (IsErrOf result Refusal.Stranger) ⊎ (IsErrOf result Refusal.NoMemory) }
+        ensures must { MustBeRefusedFreeing result batch.now self.old }
 
         // What each answer leaves, and what it costs.
         ensures committed { OnOk result (IsCommittedFreeing batch.now self.old self.new) }
         ensures refused { IfErr result (λ e. IsUncommitted e batch.now self.old self.new) }
         ensures plain { has_room self.old batch.now ≡ true → IsPlain batch.now self.old self.new }
         ensures others { KeepsOthers self.old self.new }
-        ensures costs { CostsAtMost 10 self.old self.new }
-        ensures syncs { SyncsAtMost 6 self.old self.new }
+        ensures costs { CostsFreeing 10 6 self.old self.new }
 
         // A crash at any moment of the call leaves the state before it, or the one with the batch.
         ensures goes { Goes (IsWithOrWithout (state_of self.old) batch.now) self.old self.new }
@@ -108,7 +101,7 @@ impl<D: Disk> Store<D> {
         requires working { has_failed self.old ≡ false }
         requires oldest { (slot : ℕ) × IsOldest (known_numbers (ring_of self.old)) slot segment }
 
-        ensures only { IfErr result (λ e. (e ≡ Refusal.StillNeeded) ⊎ ((e ≡ Refusal.NoMemory) ⊎ (e ≡ Refusal.Fault))) }
+        ensures only { IfErr result (λ e. IsOneOf e (Refusal.StillNeeded ∷ Refusal.NoMemory ∷ Refusal.Fault ∷ [])) }
         ensures needed { IsErrOf result Refusal.StillNeeded → ¬ IsOpen self.old }
         ensures covered { OnOk result ((is_open : IsOpen self.old)
             → AreCovered segment (known_marks self.old) self.old is_open self.new) }
@@ -121,6 +114,7 @@ impl<D: Disk> Store<D> {
         ensures syncs { (groups : ℕ) × (most_bytes * (groups - 1) ≤ bytes_for segment self.old)
             × SyncsBy groups self.old self.new }
         ensures keeps { KeepsSegments self.old self.new }
+        ensures outside { ChangesCells self.old self.new }
         ensures jobs { IsOpen self.old → KeepsJobs segment self.old self.new }
         ensures no_more_jobs { length (kept_jobs self.new) ≤ length (kept_jobs self.old) }
         ensures faults { FailsAtFaults result self.old self.new }
@@ -131,10 +125,10 @@ impl<D: Disk> Store<D> {
         };
         match self.marked_revisions(alloc, segment) {
             Ok(marked) => self.cover_documents(alloc, &marked),
-            Err(refusal) => {
+            Err(no_memory) => {
                 // what is promised where freeing is given up (`IsHalfFreed`) names one document without a job
                 self.drop_job(first);
-                Err(refusal)
+                Err(no_memory.into())
             }
         }
     }
@@ -148,14 +142,13 @@ impl<D: Disk> Store<D> {
     }
 
     // The greatest revision that is marked of each document in a segment, 0 where none is. Refused as out of memory alone.
-    fn marked_revisions(&self, alloc: Global, segment: u64) -> Result<Vec<u64>, Refusal>
+    fn marked_revisions(&self, alloc: Global, segment: u64) -> Result<Vec<u64>, AllocError>
         ensures count { IfOk result (λ marked. length marked.items ≡ length (known_cells self.now)) }
         ensures small { IfOk result (λ marked. length marked.items < 2 ^ 32) }
         ensures marked { IfOk result (λ marked. (document : ℕ) → document < length (known_cells self.now)
             → get_or marked.items document 0 ≡ greatest_marked segment document (known_marks self.now)) }
         ensures few { IfOk result (λ marked. count_marked marked.items
             ≤ length (within_segment segment (known_marks self.now))) }
-        ensures only { IsOkUnless result Refusal.NoMemory }
     {
         greatest_revisions(alloc, self.marks.all(), segment, self.cells.len())
     }
@@ -165,7 +158,7 @@ impl<D: Disk> Store<D> {
         requires working { has_failed self.old ≡ false }
         requires few { length marked.now < 2 ^ 32 }
 
-        ensures only { IfErr result (λ e. (e ≡ Refusal.StillNeeded) ⊎ ((e ≡ Refusal.NoMemory) ⊎ (e ≡ Refusal.Fault))) }
+        ensures only { IfErr result (λ e. IsOneOf e (Refusal.StillNeeded ∷ Refusal.NoMemory ∷ Refusal.Fault ∷ [])) }
         ensures needed { IsErrOf result Refusal.StillNeeded → IsOpen self.old
             → ¬ AreReached marked.now (state_of self.old) }
         ensures covered { OnOk result ((is_open : IsOpen self.old)
@@ -179,6 +172,7 @@ impl<D: Disk> Store<D> {
             × (most_bytes * (groups - 1) ≤ bytes_to marked.now (state_of self.old) (length marked.now))
             × SyncsBy groups self.old self.new }
         ensures keeps { KeepsSegments self.old self.new }
+        ensures outside { ChangesCells self.old self.new }
         ensures jobs { (document : ℕ) → get_or marked.now document 0 ≡ 0
             → jobs_for document (kept_jobs self.new) ≡ jobs_for document (kept_jobs self.old) }
         ensures no_more_jobs { length (kept_jobs self.new) ≤ length (kept_jobs self.old) }
@@ -232,12 +226,11 @@ fn greatest_revisions(
     marks: &[Mark],
     segment: u64,
     count: usize,
-) -> Result<Vec<u64>, Refusal>
+) -> Result<Vec<u64>, AllocError>
     ensures count { IfOk result (λ marked. length marked.items ≡ count) }
     ensures marked { IfOk result (λ marked. (document : ℕ) → document < count
         → get_or marked.items document 0 ≡ greatest_marked segment document marks.now) }
     ensures few { IfOk result (λ marked. count_marked marked.items ≤ length (within_segment segment marks.now)) }
-    ensures only { IsOkUnless result Refusal.NoMemory }
 {
     let mut marked = vec![in alloc; 0; count]?;
     for mark in marks {

@@ -7,7 +7,7 @@ ghost use Rattle.recovery.specs.Freed.{most_bytes};
 ghost use Rattle.recovery.specs.Goes.{Goes};
 ghost use Rattle.recovery.specs.Jobs.{jobs_of};
 ghost use Rattle.recovery.specs.Open.{IsOpen, device_of, state_of, has_failed, kept_jobs};
-ghost use Rattle.recovery.specs.steps.Freeing.{reached_in, bytes_of, AreReached, SyncsBy, KeepsSegments, IsGathered};
+ghost use Rattle.recovery.specs.steps.Freeing.{reached_in, bytes_of, AreBounded, AreReached, SyncsBy, KeepsSegments, ChangesCells, IsGathered};
 ghost use Rattle.recovery.specs.steps.Group.{outside_jobs, IsNewestOf, IsGroup, IsGroupPut};
 
 use crate::jobs::Jobs;
@@ -39,7 +39,7 @@ pub struct Group {
 
 /// A document whose milestone wasn't made, and why.
 #[derive(Debug, Drop)]
-pub struct Unspelled {
+pub struct SpellError {
     pub document: u32,
     pub refusal: Refusal,
 }
@@ -52,13 +52,14 @@ impl<D: Disk> Store<D> {
         alloc: Global,
         marked: &[u64],
         from: usize,
-    ) -> Result<Group, Unspelled>
+    ) -> Result<Group, SpellError>
         requires inside { from < length marked.now }
         requires few { length marked.now < 2 ^ 32 }
 
         ensures goes_on { IfOk result (λ group. (from < group.end) × (group.end ≤ length marked.now)) }
         ensures gathered { IfOk result (λ group. IsGathered marked.now from group.end group.members.items self.now) }
         ensures full { IfOk result (λ group. group.end < length marked.now → most_bytes ≤ bytes_of group.members.items) }
+        ensures bounded { IfOk result (λ group. AreBounded group.members.items) }
         ensures needs { IfErr result (λ back. (from ≤ back.document) × (1 ≤ get_or marked.now back.document 0)) }
         ensures only { IfErr result (λ back. (back.refusal ≡ Refusal.StillNeeded) ⊎ (back.refusal ≡ Refusal.NoMemory)) }
         ensures needed { IfErr result (λ back. back.refusal ≡ Refusal.StillNeeded → IsOpen self.now
@@ -72,7 +73,7 @@ impl<D: Disk> Store<D> {
                 let len = match self.add_newest(alloc, &mut members, number, marked[document]) {
                     Ok(len) => len,
                     Err(refusal) => {
-                        return Err(Unspelled {
+                        return Err(SpellError {
                             document: number,
                             refusal,
                         });
@@ -166,6 +167,7 @@ impl<D: Disk> Store<D> {
             ≤ length (D.past (device_of self.old)) + 12 * length members.now }
         ensures syncs { SyncsBy 1 self.old self.new }
         ensures keeps { KeepsSegments self.old self.new }
+        ensures outside { ChangesCells self.old self.new }
         ensures faults { FailsAtFaults result self.old self.new }
         ensures goes { Goes (λ content. FoundAs content (state_of self.old)) self.old self.new }
     {
@@ -175,7 +177,7 @@ impl<D: Disk> Store<D> {
         drop_jobs(&mut self.jobs, members);
         match put_both(&mut self.device, &mut self.cells, members) {
             Ok(()) => {
-                let_go_each(alloc, &mut self.state, members);
+                prune_each(alloc, &mut self.state, members);
                 Ok(())
             }
             Err(_) => {
@@ -208,10 +210,10 @@ pub(crate) fn drop_jobs(jobs: &mut Jobs, members: &[Member])
 }
 
 // Lets go of what each member's document holds from below its floor.
-pub(crate) fn let_go_each(alloc: Global, state: &mut State, members: &[Member])
+pub(crate) fn prune_each(alloc: Global, state: &mut State, members: &[Member])
     ensures { state.new ≡ state.old }
 {
     for member in members {
-        state.let_go_of(alloc, member.document);
+        state.prune_one(alloc, member.document);
     }
 }

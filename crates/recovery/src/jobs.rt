@@ -1,10 +1,9 @@
 //! The jobs of milestones that a store has handed out.
-ghost use Rattle.std.specs.Prelude.{◌≡◌, ◌↔◌, [], not, ◌==◌, filter, Contains, IsTrue, OnOk, OnErr, IsOkUnless};
+ghost use Rattle.std.specs.Prelude.{◌≡◌, ◌↔◌, [], not, ◌==◌, Contains, IsTrue, OnOk, OnErr};
 ghost use Rattle.recovery.specs.Jobs.{jobs_of, last_job, without_job, with_job};
 
 use milestone::Job;
-use refusal::Refusal;
-use std::alloc::Global;
+use std::alloc::{AllocError, Global};
 
 /// Copies of the jobs that were handed out and not put yet, of each document the last one.
 #[derive(Drop)]
@@ -47,10 +46,9 @@ impl Jobs {
     }
 
     /// Keeps a job, in place of the one that was kept of its document. Refused as out of memory alone.
-    pub fn keep(&mut self, job: Job) -> Result<(), Refusal>
+    pub fn keep(&mut self, job: Job) -> Result<(), AllocError>
         ensures ok { OnOk result (jobs_of self.new ≡ with_job job (jobs_of self.old)) }
         ensures err { OnErr result (jobs_of self.new ≡ jobs_of self.old) }
-        ensures only { IsOkUnless result Refusal.NoMemory }
     {
         self.list.reserve(1)?;
         let document = job.document_number();

@@ -60,6 +60,6 @@ pub use formatting::{format_device, format_with};
 pub use history::Pick;
 pub use reading::{OldStore, read_old};
 pub use receipt::Receipt;
-pub use run::{Stop, StoreStep};
+pub use run::{RunError, StoreStep};
 pub use shape::Shape;
 pub use store::{OpenFault, Store};

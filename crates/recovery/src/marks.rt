@@ -1,10 +1,9 @@
 //! What is known of the entries of each open segment: the greatest revision of each document.
-ghost use Rattle.std.specs.Prelude.{◌≡◌, ◌+◌, ◌-◌, ◌≤◌, ◌<◌, ℕ, [], ◌∷◌, List, max, if◌then◌else◌, ◌==◌, ◌&&◌, length, OnOk, OnErr, IfErr, IsOkUnless, filter, ◌≢◌, not, get_or, IfSome};
-ghost use Rattle.recovery.specs.Marks.{Raised, IsNoted, marks_of, room_of, is_of, greatest_marked};
+ghost use Rattle.std.specs.Prelude.{◌≡◌, ◌+◌, ◌-◌, ◌≤◌, ◌<◌, [], max, ◌==◌, ◌&&◌, length, OnOk, filter, not, get_or, IfSome};
+ghost use Rattle.recovery.specs.Marks.{Raised, IsNoted, marks_of, room_of, is_of};
 
-use refusal::Refusal;
 use revision::Taken;
-use std::alloc::Global;
+use std::alloc::{AllocError, Global};
 
 /// The greatest revision of a document among the entries of a segment.
 #[derive(Clone, Copy, Debug, PartialEq, Eq)]
@@ -50,10 +49,9 @@ impl Marks {
     }
 
     /// Makes room for the commands of a batch, so that noting them takes no memory.
-    pub fn make_room(&mut self, batch: &[Taken]) -> Result<(), Refusal>
+    pub fn make_room(&mut self, batch: &[Taken]) -> Result<(), AllocError>
         ensures same { marks_of self.new ≡ marks_of self.old }
         ensures room { OnOk result (length batch.now ≤ room_of self.new) }
-        ensures only { IsOkUnless result Refusal.NoMemory }
     {
         cover_all(&mut self.places, batch)?;
         self.list.reserve(batch.len())?;
@@ -140,9 +138,7 @@ fn set_place(places: &mut Vec<usize>, document: u32, place: usize) {
 }
 
 // Adds places to the table so that it has one for the document of each command. Refused as out of memory alone.
-fn cover_all(places: &mut Vec<usize>, batch: &[Taken]) -> Result<(), Refusal>
-    ensures { IsOkUnless result Refusal.NoMemory }
-{
+fn cover_all(places: &mut Vec<usize>, batch: &[Taken]) -> Result<(), AllocError> {
     for taken in batch {
         cover(places, taken.document_number())?;
     }
@@ -150,9 +146,7 @@ fn cover_all(places: &mut Vec<usize>, batch: &[Taken]) -> Result<(), Refusal>
 }
 
 // Adds places to the table so that it has one for this document. Refused as out of memory alone.
-fn cover(places: &mut Vec<usize>, document: u32) -> Result<(), Refusal>
-    ensures { IsOkUnless result Refusal.NoMemory }
-{
+fn cover(places: &mut Vec<usize>, document: u32) -> Result<(), AllocError> {
     if document >= MOST_DOCUMENTS {
         return Ok(());
     }

@@ -1,5 +1,6 @@
 //! Handing out the jobs of milestones.
-ghost use Rattle.std.specs.Prelude.{List, ◌≡◌, ◌≢◌, ◌⊎◌, ◌≤◌, true, false, Some, None, slice_get, Contains, OnOk, OnErr, IfOk, IfErr, IfSome, IsErrOf, IsOkUnless};
+ghost use Rattle.std.specs.Prelude.{List, ◌≡◌, ◌≢◌, ◌⊎◌, ◌≤◌, true, Some, None, slice_get, Contains, OnOk, OnErr, IfOk, IfErr, IfSome, IsErrOf, [], ◌∷◌};
+ghost use Rattle.refusal.specs.Refusal.{IsOneOf};
 ghost use Rattle.refusal.specs.declared.Refusal.{Refusal as Why};
 ghost use Rattle.delta.specs.Element.{Element};
 ghost use Rattle.delta.specs.Operation.{Operation};
@@ -9,12 +10,13 @@ ghost use Rattle.revision.specs.Past.{is_content, content_at, sources_at};
 ghost use Rattle.revision.specs.Pending.{record_of};
 ghost use Rattle.revision.specs.Replay.{IsReplay};
 ghost use Rattle.revision.specs.State.{are_sources, revision_of};
-ghost use Rattle.history.specs.Cell.{cells_at, cell_of};
+ghost use Rattle.history.specs.Cell.{cell_of};
 ghost use Rattle.milestone.specs.Job.{KeepLengths, units_of_job, cell_of_job};
 ghost use Rattle.recovery.specs.Cells.{highest_known};
 ghost use Rattle.recovery.specs.Faults.{FailsAtFaults};
-ghost use Rattle.recovery.specs.Jobs.{IsJobTo, IsMadeOf, KeepsLimits, highest, no_job_of, no_job_for, with_job, without_job};
-ghost use Rattle.recovery.specs.Open.{IsOpen, IsUnchanged, IsStillOver, device_of, ring_of, state_of, known_cells, known_marks, has_failed, kept_jobs};
+ghost use Rattle.recovery.specs.Jobs.{IsJobTo, IsMadeOf, KeepsLimits, no_job_of, no_job_for, without_job};
+ghost use Rattle.recovery.specs.Milestones.{IsHandedOut, IsRefusedWhereDue};
+ghost use Rattle.recovery.specs.Open.{IsOpen, IsUnchanged, state_of, known_cells, kept_jobs};
 ghost use Rattle.recovery.specs.Unwritten.{IsUnchangedButJobs};
 
 use crate::store::Store;
@@ -22,7 +24,7 @@ use disk::Disk;
 use milestone::{Cells, Job};
 use refusal::Refusal;
 use revision::{DocState, Replay};
-use std::alloc::Global;
+use std::alloc::{AllocError, Global};
 
 impl<D: Disk> Store<D> {
     /// What a milestone of a document at a revision is made of: what the document held at the nearest revision that is at hand, the edits
@@ -41,38 +43,15 @@ impl<D: Disk> Store<D> {
     ) -> Result<Job, Refusal>
         // When each refusal comes.
         ensures faults { FailsAtFaults result self.old self.new }
-        ensures refused { has_failed self.old ≡ false → (is_open : IsOpen self.old) → (why : Why)
-            → no_job_for (slice_get (state_of self.old).documents document) (highest (cells_at is_open.cells document))
-            revision ≡ Some why → IsErrOf result why }
-        ensures refusal { IfErr result (λ e. e ≢ Refusal.NoMemory → has_failed self.old ≡ false
-            → (is_open : IsOpen self.old)
-            → no_job_for (slice_get (state_of self.old).documents document) (highest (cells_at is_open.cells document))
-            revision ≡ Some e) }
-        ensures refusal_by { IfErr result (λ e. e ≢ Refusal.NoMemory → e ≢ Refusal.Fault
-            → no_job_for (slice_get (state_of self.old).documents document)
-            (highest_known (known_cells self.old) document) revision ≡ Some e) }
-        ensures refused_by { has_failed self.old ≡ false → (why : Why)
-            → no_job_for (slice_get (state_of self.old).documents document)
-            (highest_known (known_cells self.old) document) revision ≡ Some why → IsErrOf result why }
-        ensures works { has_failed self.old ≡ false → ¬ IsErrOf result Refusal.Fault }
-        ensures only { IfErr result (λ e. ((e ≡ Refusal.NoDocument) ⊎ ((e ≡ Refusal.Future) ⊎ (e ≡ Refusal.TooOld)))
-            ⊎ ((e ≡ Refusal.NoMemory) ⊎ (e ≡ Refusal.Fault))) }
+        ensures due { IsRefusedWhereDue document revision result self.old }
 
         // What it gives.
-        ensures job { IfOk result (λ job. IsJobTo (state_of self.old).documents document revision job) }
-        ensures made { IfOk result (λ job. IsMadeOf (state_of self.old).documents document revision job) }
-        ensures keeps { IfOk result (λ job. kept_jobs self.new ≡ with_job job (kept_jobs self.old)) }
+        ensures given { IfOk result (λ job. IsHandedOut document revision job self.old self.new) }
 
-        // Nothing but the kept jobs changes.
+        // Nothing but the kept jobs changes, and after a refusal nothing at all.
         ensures same { IsUnchangedButJobs self.old self.new }
         ensures untouched { OnErr result (IsUnchanged self.old self.new) }
-        ensures device { device_of self.new ≡ device_of self.old }
-        ensures ring { ring_of self.new ≡ ring_of self.old }
-        ensures marks { known_marks self.new ≡ known_marks self.old }
-        ensures state { state_of self.new ≡ state_of self.old }
-        ensures failed { has_failed self.new ≡ has_failed self.old }
         ensures open { IsOpen self.old → IsOpen self.new }
-        ensures stays { OnOk result ((is_open : IsOpen self.old) → IsStillOver is_open.cells is_open.table self.new) }
     {
         if self.failed {
             return Err(Refusal::Fault);
@@ -121,17 +100,18 @@ impl<D: Disk> Store<D> {
             → no_job_for (slice_get (state_of self.now).documents document)
             (highest_known (known_cells self.now) document) revision ≡ Some e) }
         ensures no_fault { ¬ IsErrOf result Refusal.Fault }
-        ensures only { IfErr result (λ e. ((e ≡ Refusal.NoDocument) ⊎ ((e ≡ Refusal.Future) ⊎ (e ≡ Refusal.TooOld)))
+        ensures only { IfErr result (λ e. (IsOneOf e (Refusal.NoDocument ∷ Refusal.Future ∷ Refusal.TooOld ∷ []))
             ⊎ (e ≡ Refusal.NoMemory)) }
     {
-        let _ = self.state.limits();
+        self.state.facts();
         let Some(found) = self.state.documents().get(document as usize) else {
             return Err(Refusal::NoDocument);
         };
         if let Some(refusal) = why_none(found, highest_of(&self.cells, document), revision) {
             return Err(refusal);
         }
-        job_of(alloc, document, found, revision)
+        let job = job_of(alloc, document, found, revision)?;
+        Ok(job)
     }
 }
 
@@ -160,7 +140,7 @@ pub(crate) fn highest_of(cells: &[Cells], document: u32) -> u64
 }
 
 // The job of a document to a revision that it holds. Refused as out of memory alone.
-fn job_of(alloc: Global, document: u32, found: &DocState, revision: u64) -> Result<Job, Refusal>
+fn job_of(alloc: Global, document: u32, found: &DocState, revision: u64) -> Result<Job, AllocError>
     requires first { 1 ≤ revision }
     requires held { found.now.past.past.floor ≤ revision }
     requires there { revision ≤ revision_of (record_of found.now) }
@@ -171,7 +151,6 @@ fn job_of(alloc: Global, document: u32, found: &DocState, revision: u64) -> Resu
     ensures document { IfOk result (λ job. job.document ≡ document) }
     ensures is { IfOk result (λ job. cell_of_job job ≡ cell_of (record_of found.now) revision) }
     ensures made { IfOk result (λ job. IsReplay found.now.past.past revision (units_of_job job) job.deltas) }
-    ensures only { IsOkUnless result Refusal.NoMemory }
 {
     let Replay {
         document: from,
@@ -180,7 +159,7 @@ fn job_of(alloc: Global, document: u32, found: &DocState, revision: u64) -> Resu
     } = found.replay_to(alloc, revision)?;
     let base = from.as_delta(alloc)?.share(alloc)?;
     let name = found.name().copy(alloc)?;
-    let _ = found.revision();
+    found.facts();
     let live = found.is_live();
     Ok(Job::new(document, name, revision, base, deltas, live, sources))
 }

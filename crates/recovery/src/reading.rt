@@ -1,5 +1,6 @@
 //! Reading the content of a device: the superblock, the batches of the slots, and from its cells on each document.
-ghost use Rattle.std.specs.Prelude.{◌≡◌, ◌⊎◌, ◌↔◌, ◌+◌, ◌≤◌, true, List, Option, [], length, IsTrue, OnOk, IfOk, IfErr};
+ghost use Rattle.std.specs.Prelude.{◌≡◌, ◌↔◌, ◌+◌, ◌≤◌, true, List, Option, [], length, IsTrue, OnOk, IfOk, IfErr, ◌∷◌};
+ghost use Rattle.refusal.specs.Refusal.{IsOneOf};
 ghost use Rattle.disk.specs.Device.{IsSync, IsAtMostOneStep};
 ghost use Rattle.disk.specs.Calls.{HasOnlyRead, CountsFaults, CountsFaultsAs};
 ghost use Rattle.disk.specs.Crash.{history_of};
@@ -7,15 +8,15 @@ ghost use Rattle.revision.specs.State.{State as StateValue};
 ghost use Rattle.recovery.specs.declared.shape.Shape.{Shape as ShapeValue};
 ghost use Rattle.segments.specs.Slot.{Segment};
 ghost use Rattle.segments.specs.Recovered.{IsReadAs as IsRingReadAs};
-ghost use Rattle.segments.specs.Ring.{size_of, end_of};
+ghost use Rattle.segments.specs.Ring.{end_of};
 ghost use Rattle.recovery.specs.Shape.{is_in_range, layout_length};
-ghost use Rattle.recovery.specs.Layout.{IsFormatted, IsOfFormat, IsOldFormat, NamesIn, HoldsSlots};
-ghost use Rattle.recovery.specs.Cells.{AreCellsOf};
+ghost use Rattle.recovery.specs.Layout.{IsFormatted, IsOfFormat, NamesIn, HoldsSlots};
 ghost use Rattle.history.specs.declared.pick.Pick.TheVariants.{Newer};
 ghost use Rattle.milestone.specs.declared.format.Format.TheVariants.{One, Two};
 ghost use Rattle.recovery.specs.Formatting.{IsOnlySynced};
-ghost use Rattle.recovery.specs.Found.{Found, FoundIn, limits_of, limits_in};
+ghost use Rattle.recovery.specs.Found.{FoundIn, limits_in};
 ghost use Rattle.recovery.specs.steps.Reading.{IsRingOf, IsReadAs};
+ghost use Rattle.recovery.specs.steps.Readings.{IsOfItsShape, IsUnreadIn, IsUnread};
 
 mod documents;
 mod entries;
@@ -56,23 +57,8 @@ pub fn read_store<D: Disk>(
     pick: Pick,
 ) -> Result<RecoveredStore, Refusal>
     ensures read { IfOk result (λ recovered. D.honest disk.new → IsReadAs Two (D.seen disk.old) pick recovered) }
-    ensures cells { IfOk result (λ recovered. AreCellsOf recovered.shape recovered.cells.items) }
-    ensures limits { IfOk result (λ recovered. recovered.state.limits ≡ limits_of recovered.shape) }
-    ensures in_range { IfOk result (λ recovered. is_in_range recovered.shape ≡ true) }
-    ensures long { IfOk result (λ recovered. layout_length recovered.shape ≤ length (D.seen disk.old)) }
-    ensures slot { IfOk result (λ recovered. size_of recovered.ring ≡ recovered.state.limits.width + 19) }
-    ensures within { IfOk result (λ recovered. end_of recovered.ring ≤ length (D.seen disk.old)) }
-
-    ensures not_formatted { IfErr result (λ e. e ≡ Refusal.NotFormatted → D.honest disk.new
-        → ¬ IsFormatted (D.seen disk.old)) }
-    ensures old_format { IfErr result (λ e. e ≡ Refusal.OldFormat → D.honest disk.new → IsOldFormat (D.seen disk.old)) }
-    ensures new_format { IfErr result (λ e. e ≡ Refusal.Damaged → D.honest disk.new
-        → ¬ IsOldFormat (D.seen disk.old)) }
-    ensures formatted { IfErr result (λ e. e ≡ Refusal.Damaged → D.honest disk.new → IsFormatted (D.seen disk.old)) }
-    ensures damaged { IfErr result (λ e. e ≡ Refusal.Damaged → D.honest disk.new → (found : StateValue)
-        → ¬ Found (D.seen disk.old) pick found) }
-    ensures only { IfErr result (λ e. (e ≡ Refusal.NotFormatted) ⊎ ((e ≡ Refusal.OldFormat)
-        ⊎ ((e ≡ Refusal.Damaged) ⊎ ((e ≡ Refusal.NoMemory) ⊎ (e ≡ Refusal.Fault))))) }
+    ensures shaped { IfOk result (λ recovered. IsOfItsShape Two (length (D.seen disk.old)) recovered) }
+    ensures refused { IsUnread (D.honest disk.new) (D.seen disk.old) pick result }
 
     // The sync alone moves the device on.
     ensures seen { D.seen disk.new ≡ D.seen disk.old }
@@ -114,8 +100,7 @@ pub fn read_old<D: Disk>(alloc: Global, disk: &mut D) -> Result<OldStore, Refusa
     ensures damaged { IfErr result (λ e. e ≡ Refusal.Damaged → D.honest disk.new → IsFormatted (D.seen disk.old)
         × ¬ IsOfFormat Two (D.seen disk.old)
         × ((found : StateValue) → ¬ FoundIn One (D.seen disk.old) Newer found)) }
-    ensures only { IfErr result (λ e. (e ≡ Refusal.NotFormatted) ⊎ ((e ≡ Refusal.NotOld)
-        ⊎ ((e ≡ Refusal.Damaged) ⊎ ((e ≡ Refusal.NoMemory) ⊎ (e ≡ Refusal.Fault))))) }
+    ensures only { IfErr result (λ e. IsOneOf e (Refusal.NotFormatted ∷ Refusal.NotOld ∷ Refusal.Damaged ∷ Refusal.NoMemory ∷ Refusal.Fault ∷ [])) }
 
     // The sync alone moves the device on.
     ensures only_synced { IsOnlySynced (history_of ⟦<D as Disk>⟧ disk.old) (history_of ⟦<D as Disk>⟧ disk.new) }
@@ -144,19 +129,8 @@ fn read_content<D: Disk>(
     pick: Pick,
 ) -> Result<RecoveredStore, Refusal>
     ensures read { IfOk result (λ recovered. D.honest disk.new → IsReadAs format (D.seen disk.old) pick recovered) }
-    ensures cells { IfOk result (λ recovered. AreCellsOf recovered.shape recovered.cells.items) }
-    ensures limits { IfOk result (λ recovered. recovered.state.limits ≡ limits_in format recovered.shape) }
-    ensures in_range { IfOk result (λ recovered. is_in_range recovered.shape ≡ true) }
-    ensures long { IfOk result (λ recovered. layout_length recovered.shape ≤ length (D.seen disk.old)) }
-    ensures slot { IfOk result (λ recovered. size_of recovered.ring ≡ recovered.state.limits.width + 19) }
-    ensures within { IfOk result (λ recovered. end_of recovered.ring ≤ length (D.seen disk.old)) }
-    ensures not_formatted { IfErr result (λ e. e ≡ Refusal.NotFormatted → D.honest disk.new
-        → ¬ IsFormatted (D.seen disk.old)) }
-    ensures formatted { IfErr result (λ e. e ≡ Refusal.Damaged → D.honest disk.new → IsFormatted (D.seen disk.old)) }
-    ensures damaged { IfErr result (λ e. e ≡ Refusal.Damaged → D.honest disk.new → (found : StateValue)
-        → ¬ FoundIn format (D.seen disk.old) pick found) }
-    ensures only { IfErr result (λ e. (e ≡ Refusal.NotFormatted)
-        ⊎ ((e ≡ Refusal.Damaged) ⊎ ((e ≡ Refusal.NoMemory) ⊎ (e ≡ Refusal.Fault)))) }
+    ensures shaped { IfOk result (λ recovered. IsOfItsShape format (length (D.seen disk.old)) recovered) }
+    ensures refused { IsUnreadIn format (D.honest disk.new) (D.seen disk.old) pick result }
     ensures only_read { HasOnlyRead ⟦<D as Disk>⟧ disk.old disk.new }
     ensures faults { CountsFaultsAs ⟦<D as Disk>⟧ Refusal.Fault result disk.old disk.new }
 {
@@ -185,7 +159,7 @@ fn read_slots<D: Disk>(alloc: Global, disk: &mut D, shape: &Shape) -> Result<Rec
     ensures within { IfOk result (λ read. end_of read.ring ≤ length (D.seen disk.old)) }
     ensures damaged { IfErr result (λ e. e ≡ Refusal.Damaged → D.honest disk.new
         → (table : List (Option Segment)) → ¬ HoldsSlots (D.seen disk.old) shape.now table) }
-    ensures only { IfErr result (λ e. (e ≡ Refusal.Damaged) ⊎ ((e ≡ Refusal.NoMemory) ⊎ (e ≡ Refusal.Fault))) }
+    ensures only { IfErr result (λ e. IsOneOf e (Refusal.Damaged ∷ Refusal.NoMemory ∷ Refusal.Fault ∷ [])) }
     ensures only_read { HasOnlyRead ⟦<D as Disk>⟧ disk.old disk.new }
     ensures faults { CountsFaultsAs ⟦<D as Disk>⟧ Refusal.Fault result disk.old disk.new }
 {
@@ -204,7 +178,7 @@ fn read_shape<D: Disk>(disk: &mut D, format: Format) -> Result<Shape, Refusal>
     ensures formatted { IfErr result (λ e. e ≡ Refusal.Damaged → D.honest disk.new → IsFormatted (D.seen disk.old)) }
     ensures damaged { IfErr result (λ e. e ≡ Refusal.Damaged → D.honest disk.new → (shape : ShapeValue)
         → ¬ NamesIn format (D.seen disk.old) shape) }
-    ensures only { IfErr result (λ e. (e ≡ Refusal.NotFormatted) ⊎ ((e ≡ Refusal.Damaged) ⊎ (e ≡ Refusal.Fault))) }
+    ensures only { IfErr result (λ e. IsOneOf e (Refusal.NotFormatted ∷ Refusal.Damaged ∷ Refusal.Fault ∷ [])) }
     ensures only_read { HasOnlyRead ⟦<D as Disk>⟧ disk.old disk.new }
     ensures faults { CountsFaultsAs ⟦<D as Disk>⟧ Refusal.Fault result disk.old disk.new }
 {

@@ -1,51 +1,43 @@
 //! What a store gives for a batch that it has committed.
-ghost use Rattle.std.specs.Prelude.{◌≡◌, IfOk, IsOkUnless};
+ghost use Rattle.std.specs.Prelude.{◌≡◌};
 
-use refusal::Refusal;
-use revision::Batch;
-use std::marker::{Model, PhantomData};
+use revision::{Batch, State};
+use std::marker::Model;
+use std::snapshot::Snapshot;
 
-/// A batch that a store has committed: `Store::commit` alone makes one, and `copy` another one of the same batch. It shares the batch with
-/// whoever gave it. Its value in contracts is the batch.
+/// A batch that a store has committed, and the store at the end of the commit: `Store::commit` alone makes one. It shares the batch
+/// with whoever gave it. Of the store it has what contracts see, which takes no memory: the state that it held, and its device.
 #[derive(Drop)]
 pub struct Receipt<D> {
     batch: Batch,
-    store: PhantomData<D>,
+    state: Snapshot<State>,
+    device: Snapshot<D>,
 }
 
 impl<D> Model for Receipt<D> {
-    ghost use Rattle.std.specs.Prelude.{List};
-    ghost use Rattle.revision.specs.Command.{Taken};
+    ghost use Rattle.recovery.specs.Moment as spec;
 
-    ghost Value = { List Taken };
+    ghost Value = { spec.Receipt D };
 
-    ghost view = { λ r. r.batch };
+    ghost view = { λ r. record { batch = r.batch; at = record { state = r.state.value; device = r.device.value } } };
 }
 
 impl<D> Receipt<D> {
-    // A receipt for this batch, which is still to be committed: the store hands it out once it is.
-    pub(crate) fn of(batch: &Batch) -> Result<Receipt<D>, Refusal>
-        ensures batch { IfOk result (λ receipt. receipt ≡ batch.now) }
-        ensures only { IsOkUnless result Refusal.NoMemory }
+    // The receipt of this batch, by a store that has just committed it. It takes no memory.
+    pub(crate) fn of(batch: Batch, state: &State, device: &D) -> Receipt<D>
+        ensures { result ≡ record { batch = batch; at = record { state = state.now; device = device.now } } }
     {
-        Ok(Receipt {
-            batch: batch.share()?,
-            store: PhantomData,
-        })
+        Receipt {
+            batch,
+            state: Snapshot::of(state),
+            device: Snapshot::of(device),
+        }
     }
 
     /// The batch.
     pub fn batch(&self) -> &Batch
-        ensures { result.now ≡ self.now }
+        ensures { result.now ≡ self.now.batch }
     {
         &self.batch
-    }
-
-    /// Another receipt of the same batch, which both share. Refused with `NoMemory`, where it can have no more owners.
-    pub fn copy(&self) -> Result<Receipt<D>, Refusal>
-        ensures same { IfOk result (λ receipt. receipt ≡ self.now) }
-        ensures only { IsOkUnless result Refusal.NoMemory }
-    {
-        Receipt::of(&self.batch)
     }
 }

@@ -1,16 +1,14 @@
 //! Retiring the oldest segment of a store.
-ghost use Rattle.std.specs.Prelude.{◌≡◌, ◌⊎◌, ◌↔◌, ◌+◌, ◌≤◌, ◌<◌, ℕ, true, false, length, OnOk, OnErr, IfErr, IsErrOf};
+ghost use Rattle.std.specs.Prelude.{◌≡◌, ◌+◌, ◌≤◌, ◌<◌, ℕ, true, false, length, OnOk, IfErr};
 ghost use Rattle.disk.specs.Counted.{syncs_of};
-ghost use Rattle.disk.specs.Crash.{LeavesOnly};
-ghost use Rattle.segments.specs.Numbers.{IsOldest};
-ghost use Rattle.segments.specs.Ring.{known_numbers};
+ghost use Rattle.segments.specs.Ring.{IsSameButOldest};
 ghost use Rattle.recovery.specs.Faults.{FailsAtFaults};
 ghost use Rattle.recovery.specs.Found.{FoundAs};
-ghost use Rattle.recovery.specs.Marks.{greatest_marked, without_segment};
-ghost use Rattle.recovery.specs.Marked.{MayRetire};
+ghost use Rattle.recovery.specs.Goes.{Goes};
+ghost use Rattle.recovery.specs.Marks.{greatest_marked};
 ghost use Rattle.recovery.specs.Cells.{lowest_known};
-ghost use Rattle.recovery.specs.Run.{MayGiveUp};
-ghost use Rattle.recovery.specs.Open.{IsOpen, IsUnchanged, IsRetiredNow, device_of, ring_of, state_of, has_failed, kept_jobs, known_cells, known_marks};
+ghost use Rattle.recovery.specs.Open.{device_of, ring_of, state_of};
+ghost use Rattle.recovery.specs.Retiring.{IsRefusedWhereNeeded, IsRetiredFrom, IsUnretired, LeavesDocuments};
 
 use crate::marks::Mark;
 use crate::store::Store;
@@ -26,30 +24,17 @@ impl<D: Disk> Store<D> {
     pub fn retire(&mut self) -> Result<(), Refusal>
         // When each refusal comes.
         ensures faults { FailsAtFaults result self.old self.new }
-        ensures needed { IsErrOf result Refusal.StillNeeded → (is_open : IsOpen self.old)
-            → ¬ MayRetire is_open.table is_open.cells }
-        ensures not_needed { OnOk result ((is_open : IsOpen self.old) → MayRetire is_open.table is_open.cells) }
-        ensures exact { has_failed self.old ≡ false → (is_open : IsOpen self.old)
-            → (IsErrOf result Refusal.StillNeeded ↔ (¬ MayRetire is_open.table is_open.cells)) }
-        ensures known { has_failed self.old ≡ false → (IsErrOf result Refusal.StillNeeded ↔ (¬ MayGiveUp self.old)) }
-        ensures only { IfErr result (λ e. (e ≡ Refusal.StillNeeded) ⊎ (e ≡ Refusal.Fault)) }
+        ensures needed { IsRefusedWhereNeeded result self.old }
 
-        // What each answer leaves. Once it is Ok, the marks of the segment are gone.
-        ensures marks { OnOk result ((slot segment : ℕ) → IsOldest (known_numbers (ring_of self.old)) slot segment
-            → known_marks self.new ≡ without_segment segment (known_marks self.old)) }
-        ensures same_marks { OnErr result (known_marks self.new ≡ known_marks self.old) }
-        ensures no_more_marks { length (known_marks self.new) ≤ length (known_marks self.old) }
-        ensures ring { OnErr result (ring_of self.new ≡ ring_of self.old) }
-        ensures state { state_of self.new ≡ state_of self.old }
-        ensures jobs { kept_jobs self.new ≡ kept_jobs self.old }
-        ensures cells { known_cells self.new ≡ known_cells self.old }
-        ensures untouched { IsErrOf result Refusal.StillNeeded → IsUnchanged self.old self.new }
+        // What each answer leaves.
+        ensures retired { OnOk result (IsRetiredFrom self.old self.new) }
+        ensures left { IfErr result (λ e. IsUnretired e self.old self.new) }
+        ensures stays { LeavesDocuments self.old self.new }
+        ensures outside { IsSameButOldest (ring_of self.old) (D.seen (device_of self.old))
+            (D.seen (device_of self.new)) }
 
-        // A crash at any moment leaves the state; once it is Ok, the slot of the oldest segment is closed.
-        ensures any_moment { has_failed self.old ≡ false → IsOpen self.old
-            → LeavesOnly ⟦<D as Disk>⟧ (λ content. FoundAs content (state_of self.old)) (device_of self.old)
-            (device_of self.new) }
-        ensures done { OnOk result ((is_open : IsOpen self.old) → IsRetiredNow is_open.cells is_open.table self.new) }
+        // A crash at any moment leaves the state.
+        ensures goes { Goes (λ content. FoundAs content (state_of self.old)) self.old self.new }
 
         // Two calls of the device at most. A call that fails is counted as a sync too.
         ensures calls { length (D.past (device_of self.new)) ≤ length (D.past (device_of self.old)) + 2 }

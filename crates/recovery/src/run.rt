@@ -28,14 +28,14 @@ pub enum StoreStep {
 
 /// Where a run stopped, counted from 0, and why.
 #[derive(Clone, Copy, Debug, PartialEq, Eq)]
-pub struct Stop {
+pub struct RunError {
     pub at: usize,
     pub refusal: Refusal,
 }
 
 impl<D: Disk> Store<D> {
     /// Takes steps in order. It stops at the first that is refused, and says where.
-    pub fn run(&mut self, alloc: Global, steps: &[StoreStep]) -> Result<(), Stop>
+    pub fn run(&mut self, alloc: Global, steps: &[StoreStep]) -> Result<(), RunError>
         requires { All (CanTake (state_of self.old)) steps.now }
 
         // How far it came, and what the store then holds.
@@ -96,7 +96,7 @@ impl<D: Disk> Store<D> {
     {
         for (at, step) in steps.iter().enumerate() {
             if let Err(refusal) = self.take_step(alloc, step) {
-                return Err(Stop { at, refusal });
+                return Err(RunError { at, refusal });
             }
         }
         Ok(())

@@ -1,15 +1,15 @@
 //! A store that is open.
-ghost use Rattle.std.specs.Prelude.{◌≡◌, ◌≢◌, ◌⊎◌, ◌↔◌, ◌+◌, ◌<◌, ◌≤◌, ◌^◌, List, ℕ, true, false, [], Option, length, OnOk, OnErr, IfOk, IfErr, IsErrOf, IsOkUnless, IsTrue};
+ghost use Rattle.std.specs.Prelude.{◌≡◌, ◌≢◌, ◌⊎◌, ◌↔◌, ◌+◌, ◌<◌, ◌≤◌, ◌^◌, List, ℕ, true, false, [], Option, length, OnOk, OnErr, IfOk, IfErr, IsErrOf, IsTrue, ◌∷◌};
+ghost use Rattle.refusal.specs.Refusal.{IsOneOf};
 ghost use Rattle.disk.specs.Calls.{HasOnlyWritten, CountsFaultsAs};
-ghost use Rattle.disk.specs.Counted.{calls_of, syncs_of};
 ghost use Rattle.disk.specs.Crash.{LeavesOnly};
 ghost use Rattle.journal.specs.BatchSpelling.{IsBatch, batch as spelled, batch_width};
 ghost use Rattle.revision.specs.Made.{AreMade};
 ghost use Rattle.revision.specs.State.{fold, all_grow, first_grows};
 ghost use Rattle.segments.specs.Slot.{Segment};
 ghost use Rattle.segments.specs.Ring.{Fits, SamePlaces, IsLeftByAppend, end_of, size_of, fits_newest};
-ghost use Rattle.recovery.specs.steps.Appending.{IsDone};
-ghost use Rattle.segments.specs.Room.{has_room_for};
+ghost use Rattle.recovery.specs.steps.Appending.{MayBeAppended, IsBatchAppended, IsAppendRefused};
+ghost use Rattle.segments.specs.RingCalls.{CostsByRoom};
 ghost use Rattle.segments.specs.Numbers.{IsNewest};
 ghost use Rattle.segments.specs.Ring.{known_numbers};
 ghost use Rattle.recovery.specs.Marks.{marks_of, room_of, IsNoted};
@@ -29,9 +29,9 @@ use history::Pick;
 use journal::{Record, batch_len};
 use milestone::Cells;
 use refusal::Refusal;
-use revision::{Batch, PreparedState, State, Taken, Unprepared};
+use revision::{Batch, PrepareError, PreparedState, State, Taken};
 use segments::Ring;
-use std::alloc::Global;
+use std::alloc::{AllocError, Global};
 use std::mem::replace;
 
 /// Why a device could not be opened. The device comes back.
@@ -62,17 +62,13 @@ pub struct Store<D: Disk> {
 }
 
 impl<D: Disk> Store<D> {
-    ghost use Rattle.disk.specs.Device.{Rose, IsAtMostOneStep, IsSync};
-    ghost use Rattle.disk.specs.Crash.{LeavesOnly, MayLeaveNow, history_of};
-    ghost use Rattle.revision.specs.State.{State as StateValue};
-    ghost use Rattle.recovery.specs.Layout.{IsFormatted, IsOldFormat};
+    ghost use Rattle.recovery.specs.Commit.{MayBeCommitted, IsCommitted, IsCommitRefused, MustBeRefused};
     ghost use Rattle.recovery.specs.Faults.{FailsAtFaults};
-    ghost use Rattle.recovery.specs.Found.{Found, FoundAs};
-    ghost use Rattle.revision.specs.Agree.{Agree};
-    ghost use Rattle.recovery.specs.Knows.{Knows};
+    ghost use Rattle.recovery.specs.Goes.{Goes};
+    ghost use Rattle.recovery.specs.Opened.{IsOpenedStore, IsReadDevice, OpeningIsRefused};
     ghost use Rattle.recovery.specs.Filling.{shape_of, open_slots, newest_segment, journal_bytes};
     ghost use Rattle.recovery.specs.Open.{ring_of};
-    ghost use Rattle.recovery.specs.Open.{FitsSlot, IsOpen, IsUnchanged, IsCommittedNow, IsWithOrWithout, device_of, state_of, has_failed, has_room, kept_jobs, known_cells, known_marks, fits_newest_segment};
+    ghost use Rattle.recovery.specs.Open.{FitsSlot, IsOpen, IsWithOrWithout, device_of, state_of, has_failed, has_room, kept_jobs, fits_newest_segment};
 
     /// Opens a formatted device, by the newer or the older cell of each document: syncs it, then reads, and writes nothing.
     /// `NotFormatted` comes exactly when the superblock's gate is closed or the device has less than 64 bytes, `OldFormat` exactly
@@ -80,55 +76,10 @@ impl<D: Disk> Store<D> {
     /// that pick, `Fault` exactly when a call of the device failed, and `NoMemory`. The device comes back with the refusal, and
     /// its content is unchanged on every path.
     pub fn open(alloc: Global, disk: D, pick: Pick) -> Result<Store<D>, OpenFault<D>>
-        // What is read represents, by this pick, the state that the store holds, and no other.
-        ensures found { IfOk result (λ store. D.honest (device_of store) → Found (D.seen disk) pick (state_of store)) }
-        ensures only_state { IfOk result (λ store. D.honest (device_of store) → (state : StateValue)
-            → Found (D.seen disk) pick state → state ≡ state_of store) }
-        // And whoever wrote it, the ring, the cells and the marks that the store has from here on are those of its parts.
-        ensures knows { IfOk result (λ store. D.honest (device_of store) → Knows (D.seen disk) pick store) }
-        ensures works { IfOk result (λ store. has_failed store ≡ false) }
-        ensures no_jobs { IfOk result (λ store. kept_jobs store ≡ []) }
-
-        // Where the content is that of a store which ran with some state, the store is open, with a state that agrees with
-        // that one, and nothing but the device or a lack of memory can refuse it.
-        ensures open { IfOk result (λ store. D.honest (device_of store) → (state : StateValue)
-            → FoundAs (D.seen disk) state
-            → IsOpen store × Agree (state_of store) state) }
-        ensures open_or { IfErr result (λ fault. D.honest fault.disk → (state : StateValue)
-            → FoundAs (D.seen disk) state
-            → (fault.refusal ≡ Refusal.NoMemory) ⊎ (fault.refusal ≡ Refusal.Fault)) }
-
-        // From then on every crash leaves what was read.
-        ensures kept { IfOk result (λ store. (content : List ℕ) → MayLeaveNow ⟦<D as Disk>⟧ (device_of store) content
-            → content ≡ D.seen disk) }
-
-        // When each refusal comes.
-        ensures not_formatted { IfErr result (λ fault. fault.refusal ≡ Refusal.NotFormatted → D.honest fault.disk
-            → ¬ IsFormatted (D.seen disk)) }
-        ensures old_format { IfErr result (λ fault. fault.refusal ≡ Refusal.OldFormat → D.honest fault.disk
-            → IsOldFormat (D.seen disk)) }
-        ensures damaged { IfErr result (λ fault. fault.refusal ≡ Refusal.Damaged → D.honest fault.disk
-            → IsFormatted (D.seen disk)
-            × ¬ IsOldFormat (D.seen disk)
-            × ((state : StateValue) → ¬ Found (D.seen disk) pick state)) }
-        ensures fault { IfErr result (λ fault. fault.refusal ≡ Refusal.Fault
-            → Rose (D.faults disk) (D.faults fault.disk)) }
-        ensures no_fault { IfErr result (λ fault. fault.refusal ≢ Refusal.Fault → D.faults fault.disk ≡ D.faults disk) }
-        ensures good { IfOk result (λ store. D.faults (device_of store) ≡ D.faults disk) }
-        ensures only { IfErr result (λ fault. (fault.refusal ≡ Refusal.NotFormatted)
-            ⊎ ((fault.refusal ≡ Refusal.OldFormat)
-            ⊎ ((fault.refusal ≡ Refusal.Damaged)
-            ⊎ ((fault.refusal ≡ Refusal.NoMemory) ⊎ (fault.refusal ≡ Refusal.Fault))))) }
-
-        // The sync alone moves the device on: nothing is written.
-        ensures time { IfOk result
-            (λ store. IsAtMostOneStep IsSync (history_of ⟦<D as Disk>⟧ disk)
-            (history_of ⟦<D as Disk>⟧ (device_of store))) }
-        ensures time_of_fault { IfErr result
-            (λ fault. IsAtMostOneStep IsSync (history_of ⟦<D as Disk>⟧ disk) (history_of ⟦<D as Disk>⟧ fault.disk)) }
-        ensures seen { IfOk result (λ store. D.seen (device_of store) ≡ D.seen disk) }
-        ensures seen_of_fault { IfErr result (λ fault. D.seen fault.disk ≡ D.seen disk) }
-        ensures honest { IfOk result (λ store. D.honest (device_of store) → D.honest disk) }
+        ensures opened { IfOk result (λ store. IsOpenedStore (D.seen disk) pick store) }
+        ensures device { IfOk result (λ store. IsReadDevice ⟦<D as Disk>⟧ disk (device_of store)) }
+        ensures refused { IfErr result (λ fault.
+            OpeningIsRefused ⟦<D as Disk>⟧ pick fault.refusal disk fault.disk) }
     {
         let mut device = disk;
         match read_store(alloc, &mut device, pick) {
@@ -227,79 +178,28 @@ impl<D: Disk> Store<D> {
     /// the batch is on the disk, and no refusal changes them.
     ///
     /// The documents that the first of the commands leave may be given: the store takes these over, and makes the others. The receipt
-    /// shares the batch.
+    /// shares the batch, and keeps the moment at which the commit ends.
     pub fn commit(
         &mut self,
         alloc: Global,
         batch: &Batch,
         made: &[Document],
     ) -> Result<Receipt<D>, Refusal>
-        requires some { 1 ≤ length batch.now }
-        requires short { length batch.now < 2 ^ 32 }
-        requires fits { FitsSlot (state_of self.old) batch.now }
-        requires made { AreMade (state_of self.old) batch.now made.now }
+        requires { MayBeCommitted (state_of self.old) batch.now made.now }
 
-        // What an Ok hands out names just this batch.
-        ensures receipt { IfOk result (λ receipt. receipt ≡ batch.now) }
-
-        // When each refusal comes. `NoMemory` may come in place of `Stranger`, but not where the first command continues nothing.
+        // What an Ok hands out and leaves. In an open store the cells are those of before, and so are the slots but for the batch, which a
+        // slot is opened for exactly when it doesn't fit the newest segment.
+        ensures committed { IfOk result (λ receipt. IsCommitted receipt batch.now self.old self.new) }
+        // When each refusal comes, and what it leaves.
+        ensures refused { IfErr result (λ e. IsCommitRefused e batch.now self.old self.new) }
+        ensures must { MustBeRefused result batch.now self.old }
         ensures faults { FailsAtFaults result self.old self.new }
-        ensures full { has_failed self.old ≡ false
-            → (IsErrOf result Refusal.JournalFull ↔ (has_room self.old batch.now ≡ false)) }
-        ensures room { OnOk result (has_room self.old batch.now ≡ true) }
-        ensures stranger { IsErrOf result Refusal.Stranger → all_grow (state_of self.old) batch.now ≡ false }
-        ensures grow { OnOk result (all_grow (state_of self.old) batch.now ≡ true) }
-        ensures no_growth { has_failed self.old ≡ false → has_room self.old batch.now ≡ true
-            → all_grow (state_of self.old) batch.now ≡ false
-            → (IsErrOf result Refusal.Stranger) ⊎ (IsErrOf result Refusal.NoMemory) }
-        ensures memory { IsErrOf result Refusal.NoMemory → (has_room self.old batch.now ≡ true)
-            × (first_grows (state_of self.old) batch.now ≡ true) }
-        ensures only { IfErr result (λ e. ((e ≡ Refusal.JournalFull) ⊎ (e ≡ Refusal.Stranger))
-            ⊎ ((e ≡ Refusal.NoMemory) ⊎ (e ≡ Refusal.Fault))) }
-
-        // What each answer leaves.
-        ensures state { OnOk result (state_of self.new ≡ fold (state_of self.old) batch.now) }
-        ensures same_state { OnErr result (state_of self.new ≡ state_of self.old) }
-        ensures jobs { kept_jobs self.new ≡ kept_jobs self.old }
-        ensures cells { known_cells self.new ≡ known_cells self.old }
-        // One mark more at most for each command.
-        ensures marks { OnOk result
-            (length (known_marks self.new) ≤ length (known_marks self.old) + length batch.now) }
-        ensures same_marks { OnErr result (known_marks self.new ≡ known_marks self.old) }
-        ensures untouched { (IsErrOf result Refusal.JournalFull) ⊎ (IsErrOf result Refusal.Stranger)
-            → IsUnchanged self.old self.new }
 
         // A crash at any moment of the call leaves the state before it, or the one with the batch.
-        ensures any_moment { has_failed self.old ≡ false → IsOpen self.old
-            → LeavesOnly ⟦<D as Disk>⟧ (IsWithOrWithout (state_of self.old) batch.now) (device_of self.old)
+        ensures goes { Goes (IsWithOrWithout (state_of self.old) batch.now) self.old self.new }
+        // Four calls of the device at most for the record, of these two syncs, and as many for a slot that is opened for it.
+        ensures costs { CostsByRoom ⟦<D as Disk>⟧ (fits_newest_segment self.old batch.now) (device_of self.old)
             (device_of self.new) }
-        // Where memory ran out a crash at any moment leaves the state before it.
-        ensures unwritten { IsErrOf result Refusal.NoMemory → IsOpen self.old
-            → LeavesOnly ⟦<D as Disk>⟧ (λ content. FoundAs content (state_of self.old)) (device_of self.old)
-            (device_of self.new) }
-        // Once it is Ok, the device is synced and represents the state with the batch: the cells are those of before, and so are the
-        // slots but for the batch, which a slot is opened for exactly when it doesn't fit the newest segment.
-        ensures committed { OnOk result ((is_open : IsOpen self.old)
-            → IsCommittedNow batch.now self.old is_open self.new) }
-        ensures done { OnOk result (IsOpen self.old → IsOpen self.new) }
-        ensures kept { IfErr result (λ e. e ≢ Refusal.Fault → IsOpen self.old → IsOpen self.new) }
-
-        // Where memory ran out all is unchanged: no call of the device was made.
-        ensures given_up { IsErrOf result Refusal.NoMemory → IsUnchanged self.old self.new }
-
-        // Four calls of the device at most for the record, of these two syncs, and as many for a slot that is opened for it. A call that
-        // fails is counted too.
-        ensures calls { length (D.past (device_of self.new)) ≤ length (D.past (device_of self.old)) + 8 }
-        ensures calls_where_it_fits { fits_newest_segment self.old batch.now ≡ true
-            → length (D.past (device_of self.new)) ≤ length (D.past (device_of self.old)) + 4 }
-        ensures every_call { calls_of ⟦<D as Disk>⟧ (device_of self.new)
-            ≤ calls_of ⟦<D as Disk>⟧ (device_of self.old) + 8 }
-        ensures every_call_where_it_fits { fits_newest_segment self.old batch.now ≡ true
-            → calls_of ⟦<D as Disk>⟧ (device_of self.new) ≤ calls_of ⟦<D as Disk>⟧ (device_of self.old) + 4 }
-        ensures syncs { syncs_of ⟦<D as Disk>⟧ (device_of self.new)
-            ≤ syncs_of ⟦<D as Disk>⟧ (device_of self.old) + 4 }
-        ensures syncs_where_it_fits { fits_newest_segment self.old batch.now ≡ true
-            → syncs_of ⟦<D as Disk>⟧ (device_of self.new) ≤ syncs_of ⟦<D as Disk>⟧ (device_of self.old) + 2 }
     {
         if self.failed {
             return Err(Refusal::Fault);
@@ -315,16 +215,16 @@ impl<D: Disk> Store<D> {
                 return Err(unprepared.refusal);
             }
         };
-        let Ok(receipt) = make_receipt(&mut self.marks, batch) else {
+        let Ok(shared) = share_batch(&mut self.marks, batch) else {
             self.state = prepared.forget();
             return Err(Refusal::NoMemory);
         };
         match append_batch(alloc, &mut self.ring, &mut self.device, batch) {
             Ok(()) => {
                 self.state = prepared.accept();
-                self.state.let_go(alloc, batch.as_slice());
+                self.state.prune(alloc, batch.as_slice());
                 mark_batch(&self.ring, &mut self.marks, batch);
-                Ok(receipt)
+                Ok(Receipt::of(shared, &self.state, &self.device))
             }
             Err(refusal) => {
                 self.state = prepared.forget();
@@ -359,7 +259,7 @@ fn prepare_batch(
     state: State,
     batch: &Batch,
     made: &[Document],
-) -> Result<PreparedState, Unprepared>
+) -> Result<PreparedState, PrepareError>
     requires made { AreMade state batch.now made.now }
     ensures before { IfOk result (λ prepared. prepared.before ≡ state) }
     ensures after { IfOk result (λ prepared. prepared.after ≡ fold state batch.now) }
@@ -375,16 +275,15 @@ fn prepare_batch(
     state.prepare(alloc, batch.as_slice(), made)
 }
 
-// The receipt of a batch that is still to be committed, and room for its marks. Refused as out of memory alone. The marks stay.
-fn make_receipt<D: Disk>(marks: &mut Marks, batch: &Batch) -> Result<Receipt<D>, Refusal>
-    ensures receipt { IfOk result (λ receipt. receipt ≡ batch.now) }
+// The batch, shared for the receipt of its commit, and room for its marks. Refused as out of memory alone. The marks stay.
+fn share_batch(marks: &mut Marks, batch: &Batch) -> Result<Batch, AllocError>
+    ensures shared { IfOk result (λ shared. shared ≡ batch.now) }
     ensures room { OnOk result (length batch.now ≤ room_of marks.new) }
     ensures same { marks_of marks.new ≡ marks_of marks.old }
-    ensures only { IsOkUnless result Refusal.NoMemory }
 {
     marks.make_room(batch.as_slice())?;
-    let receipt = Receipt::of(batch)?;
-    Ok(receipt)
+    let shared = batch.share()?;
+    Ok(shared)
 }
 
 // Spells the batch into its record, and appends it. `NoMemory` comes before any call of the device.
@@ -394,34 +293,18 @@ fn append_batch<D: Disk>(
     disk: &mut D,
     batch: &Batch,
 ) -> Result<(), Refusal>
-    requires within { end_of ring.old ≤ length (D.seen disk.old) }
-    requires some { 1 ≤ length batch.now }
-    requires short { length batch.now < 2 ^ 32 }
-    requires fits { batch_width batch.now + 15 ≤ size_of ring.old }
-    requires wide { size_of ring.old ≤ 16777216 }
+    requires { MayBeAppended batch.now (D.seen disk.old) ring.old }
 
-    ensures full { IsErrOf result Refusal.JournalFull → has_room_for ring.old (batch_width batch.now) ≡ false }
-    ensures only { IfErr result (λ e. (e ≡ Refusal.JournalFull) ⊎ ((e ≡ Refusal.NoMemory) ⊎ (e ≡ Refusal.Fault))) }
-    ensures untouched { IsErrOf result Refusal.NoMemory → (disk.new ≡ disk.old) × (ring.new ≡ ring.old) }
+    ensures appended { OnOk result (IsBatchAppended ⟦<D as Disk>⟧ batch.now ring.old ring.new disk.old disk.new) }
+    ensures refused { IfErr result
+        (λ e. IsAppendRefused ⟦<D as Disk>⟧ e batch.now ring.old ring.new disk.old disk.new) }
     ensures places { SamePlaces ring.old ring.new }
 
     ensures any_moment { (table : List (Option Segment)) → D.unsynced disk.old ≡ []
         → Fits (D.seen disk.old) ring.old table
         → LeavesOnly ⟦<D as Disk>⟧ (IsLeftByAppend (D.seen disk.old) ring.old table (spelled batch.now)) disk.old
         disk.new }
-    ensures done { OnOk result ((table : List (Option Segment)) → Fits (D.seen disk.old) ring.old table
-        → IsDone (D.seen disk.old) ring.old table (spelled batch.now) (D.seen disk.new) ring.new) }
-    ensures synced { OnOk result (D.unsynced disk.new ≡ []) }
-
-    ensures calls { length (D.past disk.new) ≤ length (D.past disk.old) + 8 }
-    ensures calls_where_it_fits { fits_newest ring.old (batch_width batch.now) ≡ true
-        → length (D.past disk.new) ≤ length (D.past disk.old) + 4 }
-    ensures every_call { calls_of ⟦<D as Disk>⟧ disk.new ≤ calls_of ⟦<D as Disk>⟧ disk.old + 8 }
-    ensures every_call_where_it_fits { fits_newest ring.old (batch_width batch.now) ≡ true
-        → calls_of ⟦<D as Disk>⟧ disk.new ≤ calls_of ⟦<D as Disk>⟧ disk.old + 4 }
-    ensures syncs { syncs_of ⟦<D as Disk>⟧ disk.new ≤ syncs_of ⟦<D as Disk>⟧ disk.old + 4 }
-    ensures syncs_where_it_fits { fits_newest ring.old (batch_width batch.now) ≡ true
-        → syncs_of ⟦<D as Disk>⟧ disk.new ≤ syncs_of ⟦<D as Disk>⟧ disk.old + 2 }
+    ensures costs { CostsByRoom ⟦<D as Disk>⟧ (fits_newest ring.old (batch_width batch.now)) disk.old disk.new }
     ensures only_written { HasOnlyWritten ⟦<D as Disk>⟧ disk.old disk.new }
     ensures faults { CountsFaultsAs ⟦<D as Disk>⟧ Refusal.Fault result disk.old disk.new }
 {

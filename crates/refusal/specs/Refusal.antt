@@ -1,5 +1,5 @@
--- The number and the name of each refusal, as messages print them.
-use Rattle.std.specs.Prelude.{ℕ, List, ◌++◌, codes}
+-- The number and the name of each refusal, as messages print them, and what it is to be one of some.
+use Rattle.std.specs.Prelude.{ℕ, List, [], ◌∷◌, ◌≡◌, ◌⊎◌, ◌++◌, codes}
 use Rattle.std.specs.Fmt.{decimal}
 use Rattle.refusal.specs.declared.Refusal.{Refusal}
 use Rattle.refusal.specs.declared.Refusal.TheVariants.{BadLine, BadMessage, BadOps, TooManyOps, NoHello, NoDocument, Exists, BadName, Gap, OldNumber, TooManySources, Future, TooOld, PastEnd, CutsPair, TooHeavy, TooWide, RevisionsSpent, NothingToUndo, TooManyDocuments, StoreFailed, NoMemory, LineTooLong, NoSeat, NotFormatted, AlreadyFormatted, Damaged, BadShape, Fault, StillNeeded, Stranger, JournalFull, OldFormat, NotOld, Deleted}
@@ -83,3 +83,9 @@ name_of Deleted = codes "Deleted"
 -- how it is printed, as `error 7 Exists`
 abbrev pub text_of : Refusal → List ℕ
 text_of refusal = codes "error " ++ (decimal (number_of refusal) ++ (codes " " ++ name_of refusal))
+
+-- it is one of these
+abbrev pub IsOneOf : {A : Type 0} → A → List A → Type 0
+IsOneOf it [] = ⊥
+IsOneOf it (first ∷ []) = it ≡ first
+IsOneOf it (first ∷ second ∷ others) = (it ≡ first) ⊎ IsOneOf it (second ∷ others)

@@ -120,6 +120,13 @@ impl Refusal {
         self as u8
     }
 
+    /// The refusal of one who knows that memory alone was wanting, as the error of just that.
+    pub fn as_alloc_error(self) -> AllocError
+        requires { self ≡ NoMemory }
+    {
+        AllocError
+    }
+
     /// The name, as it is printed.
     pub fn name(self) -> &'static str
         ensures { result.now ≡ name_of self }

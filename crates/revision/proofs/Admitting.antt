@@ -1,6 +1,6 @@
 -- What the answers to edits and undos stand on: what a source has, and what is taken on a document.
-use Rattle.std.proofs.Common.{◌≡◌, ℕ, ◌+◌, ◌-◌, ◌*◌, ◌^◌, ◌<◌, ◌≤◌, ◌⊎◌, ◌↔◌, ⊎_elim, min, IfOk, inl, inr, Result, Ok, Err, Bool, true, false, cond, List, [], ◌∷◌, length, Option, Some, None, refl, sym, ap, subst, ◌∙◌, arith}
-use Rattle.std.specs.Prelude.{◌&&◌, ◌==◌, nat_le, nat_lt, unwrap_or}
+use Rattle.std.proofs.Common.{◌≡◌, ℕ, ◌+◌, ◌-◌, ◌^◌, ◌<◌, ◌≤◌, ◌⊎◌, ◌↔◌, ⊎_elim, min, IfOk, inl, inr, Result, Ok, Err, true, false, List, [], length, Option, Some, None, refl, sym, ap, subst, ◌∙◌, arith}
+use Rattle.std.specs.Prelude.{◌==◌, nat_le, nat_lt, unwrap_or}
 use Rattle.refusal.specs.declared.Refusal.{Refusal}
 use Rattle.refusal.specs.declared.Refusal.TheVariants.{PastEnd, CutsPair, TooHeavy, TooWide, Stranger, NoMemory}
 use Rattle.delta.specs.Element.{Element}
@@ -12,13 +12,13 @@ use Rattle.document.specs.Weight as document
 use Rattle.revision.specs.Acceptance.{Answer, answer, reply_and_state, TakenAt, take_on, take_within, Takes, Repeats, Refuses, change, create_new, create_next, delete_next, next_revision, creation}
 use Rattle.revision.specs.Command.{Action, Create, Edit, Undo, Delete, Command, Step, Edits, Deletes, Revives, Taken, name_width, step_width, width_of}
 use Rattle.revision.specs.Parting.{parts_pair}
-use Rattle.revision.specs.Planned.{IsAsked, IsDeletion, Gives, PlanGrows, IsDecided, rests_on_delta, may_want_memory}
-use Rattle.revision.specs.declared.planning.Reply as replied
-use Rattle.revision.specs.declared.planning.Reply.TheVariants as replies
-use Rattle.revision.specs.declared.planning.Plan as program
-use Rattle.revision.specs.declared.planning.Plan.TheVariants as plans
+use Rattle.revision.specs.Planned.{IsAsked, IsDeletion, Gives, PlanGrows, IsDecided, may_want_memory}
+use Rattle.revision.specs.declared.rule.planning.Reply as replied
+use Rattle.revision.specs.declared.rule.planning.Reply.TheVariants as replies
+use Rattle.revision.specs.declared.rule.planning.Plan as program
+use Rattle.revision.specs.declared.rule.planning.Plan.TheVariants as plans
 use Rattle.revision.proofs.Told.{parts_told}
-use Rattle.std.proofs.lemmas.Bool.{false≢true, and_parts, leb-true, ltb-true, lt-ltb, cases_lt, false_from_ne_true}
+use Rattle.std.proofs.lemmas.Bool.{false≢true, leb-true, ltb-true, lt-ltb, cases_lt, false_from_ne_true}
 use Rattle.attributes.specs.Map.{get, empty}
 use Rattle.revision.specs.Window.{Window, nothing_taken, last_revision}
 use Rattle.revision.specs.Sources.{Sources, window_of, with_taken}
@@ -211,26 +211,6 @@ module _ (limits : Limits) (units : List Element) (sources : Sources) (asked : T
         let long : nat_lt limits.width (width_of asked) ≡ false =
         false_from_ne_true _ (λ more. absurd (omega (arith, narrow, short, wide, bytes_are, ltb-true limits.width (width_of asked) more))) in
         rw (light_deletion light within, long) refl
-
--- what is answered to a change rests on its delta, where a revision is left
-either_rests : (b : Bool) (one other : Answer) → rests_on_delta one ≡ true → rests_on_delta other ≡ true → rests_on_delta (cond b one other) ≡ true
-either_rests true one other first second = first
-either_rests false one other first second = second
-
-take_within_rests : (limits : Limits) (units : List Element) (sources : Sources) (taken : Taken) → rests_on_delta (take_within limits units sources taken) ≡ true
-take_within_rests limits units sources taken =
-    either_rests (nat_lt limits.weight (weight_after limits units sources taken)) (Refuses TooHeavy) _ refl
-    (either_rests (nat_lt limits.width (width_of taken)) (Refuses TooWide) (Takes taken) refl refl)
-
-take_on_rests : (limits : Limits) (units : List Element) (sources : Sources) (taken : Taken) → rests_on_delta (take_on limits units sources taken) ≡ true
-take_on_rests limits units sources taken =
-    either_rests (reaches_past taken.delta units) (Refuses PastEnd) _ refl
-    (either_rests (parts_pair taken.delta units) (Refuses CutsPair) _ refl (take_within_rests limits units sources taken))
-
-pub change_rests : (state : State) (number : ℕ) (found : DocumentRecord) (command : Command) (delta : List Operation) → (revision_of found == last_of_all) ≡ false
-    → rests_on_delta (change state number found command delta) ≡ true
-change_rests state number found command delta fresh =
-    rw fresh (take_on_rests state.limits (units_of found) (sources_of found) (next_revision number found command Edits delta))
 
 pub asked_next : (number : ℕ) (found : DocumentRecord) (command : Command) (units : List Element) (delta : List Operation) (source : List ℕ) (width : ℕ) → source ≡ command.source
     → width ≡ min (23 + length source + 0 + delta_width delta) (2 ^ 64 - 1) → IsAsked (next_revision number found command Edits delta) source units delta width

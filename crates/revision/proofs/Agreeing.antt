@@ -1,6 +1,6 @@
 -- States that agree are continued by the same commands, and agree after them.
 use Rattle.std.proofs.Common.{◌≡◌, ℕ, zero, suc, ◌+◌, ◌≤◌, max, Bool, true, false, cond, List, [], ◌∷◌, length, Option, Some, None, refl, sym, ap, subst, ◌∙◌, arith}
-use Rattle.std.specs.Prelude.{◌==◌, ◌&&◌, not, nat_lt, nat_le, is_none, bytes_eq, slice_get}
+use Rattle.std.specs.Prelude.{◌==◌, ◌&&◌, nat_lt, is_none, bytes_eq, slice_get}
 use Rattle.delta.specs.Element.{Element}
 use Rattle.revision.specs.Command.{Taken, Step, Edits, Deletes, Revives}
 use Rattle.revision.specs.Sources.{Sources, with_taken}

@@ -1,6 +1,6 @@
 -- States that agree answer a command alike, unless one of them no longer holds the revision that it stands on.
 use Rattle.std.proofs.Common.{◌≡◌, ◌⊎◌, inl, inr, ℕ, ◌+◌, ◌-◌, ◌≤◌, ◌<◌, Bool, true, false, cond, List, [], Option, Some, None, refl, sym, ap, subst, ◌∙◌, ⊎_elim, arith}
-use Rattle.std.specs.Prelude.{◌&&◌, ◌==◌, not, nat_lt, nat_le}
+use Rattle.std.specs.Prelude.{◌==◌, not, nat_lt, nat_le}
 use Rattle.std.proofs.lemmas.Bool.{ltb-false, leb-false, le-ltb, lt-leb, cases_lt}
 use Rattle.std.proofs.lemmas.List.{drop-map, length-map, drop_all}
 use Rattle.refusal.specs.declared.Refusal.TheVariants.{Exists, Gap, OldNumber, TooManySources, Future, TooOld, RevisionsSpent, NothingToUndo, TooManyDocuments, Deleted}
@@ -13,7 +13,7 @@ use Rattle.revision.specs.Sources.{Sources, window_of}
 use Rattle.revision.specs.Late.{late}
 use Rattle.revision.specs.Past.{way_back_late, Content, Change, newest, deltas_of, deltas_above, undo_of}
 use Rattle.revision.specs.State.{Limits, DocumentRecord, State, revision_of, sources_of, is_live, last_of_all, has_place}
-use Rattle.revision.specs.Acceptance.{Answer, Repeats, Refuses, take_on, take_within, if_live, create_existing, revive, change, edit, undo, delete, by_retry, by_number, answer_to}
+use Rattle.revision.specs.Acceptance.{Answer, Refuses, take_on, take_within, if_live, create_existing, revive, change, edit, undo, delete, by_retry, by_number, answer_to}
 use Rattle.revision.specs.Agree.{DocumentsAgree, Agree, AgreeingAnswer, AgreeingAnswerHeld, StandsOnHeld}
 use Rattle.revision.proofs.Agreeing.{FoundAgree, lists-found, lists-length}
 

@@ -1,10 +1,9 @@
 -- The way to a revision from a document that is kept.
-use Rattle.std.proofs.Common.{◌≡◌, ℕ, ◌+◌, ◌-◌, ◌≤◌, List, length, take, drop, refl, sym, ap, subst, ◌∙◌, arith}
+use Rattle.std.proofs.Common.{◌≡◌, ℕ, ◌+◌, ◌-◌, ◌≤◌, List, take, drop, refl, sym, ap, subst, ◌∙◌, arith}
 use Rattle.std.proofs.lemmas.List.{take-take, drop-take, drop-drop}
 use Rattle.delta.specs.Element.{Element}
-use Rattle.delta.specs.Operation.{Operation}
 use Rattle.compose.specs.Many.{applied}
-use Rattle.revision.specs.declared.kept_document.Kept.{Kept}
+use Rattle.revision.specs.declared.past.kept_document.Kept.{Kept}
 use Rattle.revision.specs.Past.{Parts, AreParts, AreKept, AreNoted, Prepared, StandInTurn, newest, newest_units, newest_sources, sources_after, changes_by, seen}
 use Rattle.revision.proofs.Parts.{seen-newest, document_is, changes-take}
 use Rattle.revision.proofs.Replaying.{replay_sources}

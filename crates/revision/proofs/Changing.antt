@@ -6,8 +6,8 @@ use Rattle.delta.specs.Gaps.{counted, apply}
 use Rattle.document.specs.Outcome.{IsAccepted}
 use Rattle.compose.specs.Many.{applied}
 use Rattle.revision.specs.Sources.{Sources, with_taken}
-use Rattle.revision.specs.Command.{Step, Edits, Deletes, Revives}
-use Rattle.revision.specs.Past.{StandInTurn, Content, Change, Past, content_after, newest, newest_content, newest_sources, deltas_of, sources_after, content_at, sources_at, from_floor, with_change, rebased, with_step}
+use Rattle.revision.specs.Command.{Edits, Deletes, Revives}
+use Rattle.revision.specs.Past.{StandInTurn, Content, Change, Past, content_after, newest, newest_content, newest_sources, deltas_of, sources_after, content_at, sources_at, from_floor, with_change, rebased}
 use Rattle.revision.specs.Floors.{longer, FromItself, FromTwice, FromNewest, FromLonger, StepMakes}
 use Rattle.revision.proofs.Floors.{newest-from, from-from, from-more}
 use Rattle.revision.proofs.Replays.{stand-drop}

@@ -1,9 +1,9 @@
 -- The delta that deletes all that stands in a document.
-use Rattle.std.proofs.Common.{◌≡◌, ◌⊎◌, inl, inr, ℕ, zero, suc, ◌+◌, ◌≤◌, ◌<◌, ◌^◌, List, [], ◌∷◌, ◌++◌, length, refl, sym, ap, subst, ◌∙◌, ⊎_elim, arith}
+use Rattle.std.proofs.Common.{◌≡◌, ◌⊎◌, ℕ, zero, suc, ◌+◌, ◌<◌, List, [], ◌∷◌, ◌++◌, length, refl, sym, ap, subst, ◌∙◌, ⊎_elim, arith}
 use Rattle.delta.specs.Element.{Element}
 use Rattle.delta.specs.Operation.{Operation, delete}
-use Rattle.delta.specs.Gaps.{Gaps, End, Gap, Fate, Del, front, run, counted, apply, units_below}
-use Rattle.delta.specs.Places.{IsDefined, fate_at, inserted_at}
+use Rattle.delta.specs.Gaps.{End, Gap, Del, front, run, counted, apply, units_below}
+use Rattle.delta.specs.Places.{fate_at, inserted_at}
 use Rattle.delta.specs.Normal.{past, settled, trim, trimmed, built, nf}
 use Rattle.delta.proofs.CallerLemmas.{counted-spelled, nf-built}
 use Rattle.document.specs.Outcome.{IsAccepted}

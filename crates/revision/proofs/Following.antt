@@ -1,16 +1,14 @@
 -- What follows a document with the changes that are prepared.
-use Rattle.std.proofs.Common.{◌≡◌, ℕ, ◌+◌, ◌≤◌, ◌<◌, ◌^◌, Bool, true, false, List, [], ◌∷◌, ◌++◌, length, Option, Some, None, refl, sym, ap, ap₂, subst, ◌∙◌, true≢false, arith}
-use Rattle.std.specs.Prelude.{◌&&◌, ◌==◌, not, nat_le, nat_lt}
-use Rattle.std.proofs.lemmas.Bool.{and_parts, eqb-true, ltb-true, le-leb, lt-ltb}
+use Rattle.std.proofs.Common.{◌≡◌, ℕ, ◌+◌, ◌≤◌, ◌^◌, Bool, true, false, List, [], ◌∷◌, ◌++◌, length, Option, Some, None, refl, sym, ap, ap₂, subst, ◌∙◌, true≢false, arith}
+use Rattle.std.specs.Prelude.{◌&&◌, ◌==◌, nat_le}
+use Rattle.std.proofs.lemmas.Bool.{and_parts, eqb-true, le-leb, lt-ltb}
 use Rattle.std.proofs.lemmas.List.{length-map, map-append}
 use Rattle.attributes.specs.Map.{empty}
 use Rattle.delta.specs.Element.{Element}
-use Rattle.delta.specs.Gaps.{counted, apply}
-use Rattle.document.specs.Outcome.{IsAccepted}
-use Rattle.revision.specs.Command.{Taken, Step, Edits, Deletes, Revives, edits, first_of, is_kind}
-use Rattle.revision.specs.Sources.{Sources, Table, window_of, with_taken}
+use Rattle.revision.specs.Command.{Taken, Step, Edits, Deletes, Revives, edits}
+use Rattle.revision.specs.Sources.{Sources, Table, with_taken}
 use Rattle.revision.specs.Past.{Past, Content, Prepared, Change, Next, suits, units_after, content_after, content_after_all, changes_in, empty_past, newest, newest_content, newest_sources, sources_after, sources_at, content_at, with_step, with_steps, prepared_content, prepared_units, prepared_revision}
-use Rattle.revision.specs.State.{Limits, DocumentRecord, next_of, revision_of, content_of, sources_of, last_of_all, has_place, stands, keeps, comes_next, begins, follows}
+use Rattle.revision.specs.State.{Limits, DocumentRecord, revision_of, content_of, sources_of, last_of_all, has_place, stands, keeps, comes_next, begins, follows}
 use Rattle.revision.specs.Invariants.{IsLimits}
 use Rattle.revision.specs.Pending.{PendingDocument, with_prepared, prepared_sources, AreNextUnits, ComesOf}
 use Rattle.revision.proofs.Room.{weight-some}
@@ -131,16 +129,6 @@ module _ (limits : Limits) (d : PendingDocument) (taken : Taken) (is : IsLimits 
   next_light =
       let kept = kept-light limits (prepared_units d.past) (prepared_sources d.past) taken parts.2 in
       (kept.0, omega (arith, kept.1, is.weight, weight-some (units_after (prepared_units d.past) taken.step taken.delta)))
-
--- each command's revision is below the bound
-pub taken_bound : (name : Option (List ℕ)) (step : Step) (revision number : ℕ) → is_kind name step revision number ≡ true → revision < 2 ^ 53
-taken_bound None step revision number kind =
-    let first = and_parts (nat_le (first_of step) revision && nat_lt revision (2 ^ 53)) (nat_lt number (2 ^ 53)) kind in
-    ltb-true revision (2 ^ 53) (and_parts (nat_le (first_of step) revision) (nat_lt revision (2 ^ 53)) first.0).1
-taken_bound (Some name) step revision number kind =
-    let first = and_parts (_ && (revision == 1)) (number == 1) kind in
-    let one : revision ≡ 1 = eqb-true revision 1 (and_parts _ (revision == 1) first.0).1 in
-    omega (arith, one)
 
 -- a live document may be edited
 pub suits-edits : (step : Step) → edits step ≡ true → suits true step ≡ true

@@ -1,5 +1,5 @@
 -- Halving a sorted list in the search of a name.
-use Rattle.std.proofs.Common.{◌≡◌, ℕ, zero, suc, ◌<◌, ◌≤◌, ◌⊎◌, inl, inr, Bool, true, false, ◌&&◌, List, [], ◌∷◌, length, take, get_or, Some, None, Ordering, Less, Greater, Equal, refl, sym, ap, subst, ◌∙◌, arith}
+use Rattle.std.proofs.Common.{◌≡◌, ℕ, zero, suc, ◌<◌, ◌≤◌, ◌⊎◌, inl, inr, true, false, List, [], ◌∷◌, length, take, get_or, Some, None, Less, Greater, Equal, refl, sym, ap, ◌∙◌, arith}
 use Rattle.std.specs.Prelude.{T, slice_get}
 use Rattle.std.proofs.lemmas.Option.{slice_get_cases}
 use Rattle.std.proofs.lemmas.Bool.{false≢true}
@@ -13,23 +13,7 @@ use Rattle.attributes.specs.Table.{AllBefore, none_before, one_before}
 use Rattle.attributes.proofs.CallerLemmas.{same_name, here_at, free_at, free_end}
 use Rattle.revision.specs.Window.{Window}
 use Rattle.revision.specs.steps.NameAt.{has_name}
-
--- the two parts of a test
-pub T_parts : (a b : Bool) → T (a && b) → T a × T b
-T_parts true b h = (tt, h)
-T_parts false b h = absurd h
-
-pub less_from : (r : Ordering) → T (is_lt r) → r ≡ Less
-less_from Less h = refl
-less_from Equal h = absurd h
-less_from Greater h = absurd h
-
--- what the search reads of the list, of the map's entries
-pub read_at : {A : Type 0} (items es : List A) (i : ℕ) (e : A) → items ≡ es → i < length items → e ≡ get_or items i e → (i < length es) × (e ≡ get_or es i e)
-read_at items es i e same inside is = subst (λ l. (i < length l) × (e ≡ get_or l i e)) same (inside, is)
-
-pub compared : (name text key : List ℕ) (order : Ordering) → order ≡ by_bytes name text → text ≡ key → by_bytes name key ≡ order
-compared name text key order is same = ap (by_bytes name) (sym same) ∙ sym is
+pub use Rattle.attributes.proofs.CallerLemmas.{T_parts, compared, less_from, read_at}
 
 -- bytes can always be compared
 pub bytes_compared : (one other : List ℕ) → slice_partial_cmp (λ x y. Some (nat_cmp x y)) one other ≡ Some (by_bytes one other)

@@ -5,7 +5,7 @@ use Rattle.std.specs.Cmp.Lexicographic.{nat_list_cmp_total}
 use Rattle.std.specs.Ordering.{eq_by_cmp}
 use Rattle.std.specs.FinMap.Entries.{find as entry_of, put, length-put, by_order}
 use Rattle.std.proofs.lemmas.Bool.{and_parts, and_from, both_ways, not-true, ltb-true, ltb-false, leb-true, eqb-true, eqb-false, le-leb, lt-ltb, cases_lt}
-use Rattle.std.proofs.lemmas.Option.{slice_get_within}
+use Rattle.std.proofs.lemmas.Option.{slice_get_within, same_Some}
 use Rattle.std.proofs.lemmas.Slice.Eq.{bytes_eq-Decides}
 use Rattle.attributes.specs.Map.{by_bytes, empty, insert, get}
 use Rattle.delta.specs.Element.{Element}
@@ -14,7 +14,7 @@ use Rattle.document.specs.Outcome.{IsAccepted}
 use Rattle.document.specs.Places.{Cuts}
 use Rattle.delta.specs.Operation.{Operation}
 use Rattle.revision.specs.Command.{Taken, Step, Edits, Deletes, Revives, edits, width_of}
-use Rattle.revision.specs.Window.{Window, nothing_taken, taken_as, taken_next}
+use Rattle.revision.specs.Window.{Window, nothing_taken, taken_as}
 use Rattle.revision.specs.Sources.{Sources, window_of, count_of, with_taken}
 use Rattle.revision.specs.Parting.{parts_pair}
 use Rattle.revision.specs.Past.{StandInTurn, deltas_of, Content, is_content, suits, units_after, content_after, Change, Past, empty_past, newest, newest_content, newest_sources, content_at, sources_at, with_change, rebased, with_step}
@@ -336,16 +336,12 @@ followed-past limits found taken is past h = by_step taken.step refl where
   by_step Revives e =
       turned-past limits found.past taken (content_after (newest_content found.past) Revives taken.delta) past first.1 bound refl (light Revives e)
 
--- the list with one of its documents set, or one more
-some_is : {A : Type 0} (x y : A) → Some x ≡ Some y → x ≡ y
-some_is x y h = ap (λ o. unwrap_or o x) h
-
 set-at : (number : ℕ) (new : DocumentRecord) (documents : List DocumentRecord) (i : ℕ) (a : DocumentRecord)
     → slice_get (set_document number (Some new) documents) i ≡ Some a → ((i ≡ number) × (new ≡ a)) ⊎ (slice_get documents i ≡ Some a)
-set-at zero new [] zero a h = inl (refl, some_is new a h)
+set-at zero new [] zero a h = inl (refl, same_Some new a h)
 set-at zero new [] (suc i) a h = absurd (cc)
 set-at (suc number) new [] i a h = absurd (cc)
-set-at zero new (first ∷ others) zero a h = inl (refl, some_is new a h)
+set-at zero new (first ∷ others) zero a h = inl (refl, same_Some new a h)
 set-at zero new (first ∷ others) (suc i) a h = inr h
 set-at (suc number) new (first ∷ others) zero a h = inr h
 set-at (suc number) new (first ∷ others) (suc i) a h =
@@ -368,7 +364,7 @@ IsUnnamed name documents = (i : ℕ) (a : DocumentRecord) → slice_get document
 unnamed-more : (name : List ℕ) (first : DocumentRecord) (others : List DocumentRecord) → bytes_eq first.name name ≡ false → IsUnnamed name others
     → IsUnnamed name (first ∷ others)
 unnamed-more name first others other later zero a here same =
-    both_ways (bytes_eq first.name name) other ((bytes_eq-Decides first.name name).1 (ap (λ (d : DocumentRecord). d.name) (some_is first a here) ∙ same))
+    both_ways (bytes_eq first.name name) other ((bytes_eq-Decides first.name name).1 (ap (λ (d : DocumentRecord). d.name) (same_Some first a here) ∙ same))
 unnamed-more name first others other later (suc i) a here same = later i a here same
 
 unnamed : (name : List ℕ) (number : ℕ) (documents : List DocumentRecord) → is_none (find name number documents) ≡ true → IsUnnamed name documents

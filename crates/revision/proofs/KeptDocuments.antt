@@ -6,7 +6,7 @@ use Rattle.delta.specs.Element.{Element}
 use Rattle.delta.specs.Operation.{Operation}
 use Rattle.delta.specs.Gaps.{counted, apply}
 use Rattle.compose.specs.Many.{applied}
-use Rattle.revision.specs.declared.kept_document.Kept.{Kept}
+use Rattle.revision.specs.declared.past.kept_document.Kept.{Kept}
 use Rattle.revision.specs.Past.{IsKept, AreKept, IsNoted, AreNoted, sources_after, Change}
 use Rattle.revision.specs.Sources.{Sources, with_taken}
 

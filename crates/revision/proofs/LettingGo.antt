@@ -5,7 +5,7 @@ use Rattle.delta.specs.Element.{Element}
 use Rattle.delta.specs.Operation.{Operation}
 use Rattle.compose.specs.Many.{applied}
 use Rattle.revision.specs.Sources.{Sources, with_taken}
-use Rattle.revision.specs.declared.taker.Taker.{Taker}
+use Rattle.revision.specs.declared.rule.taker.Taker.{Taker}
 use Rattle.revision.specs.Past.{Parts, AreParts, AreNoted, Past, Content, Change, LeadInTurn, is_content, taken_content, nexts_by, deltas_of, sources_at, sources_after, changes_by, whole_past, from_floor, seen}
 use Rattle.revision.proofs.Replays.{stand-drop}
 use Rattle.revision.proofs.Kept.{short-drop}

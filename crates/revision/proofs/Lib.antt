@@ -38,4 +38,6 @@ pub mod Changing
 pub mod Agreeing
 pub mod Keeping
 pub mod Alike
+mod Folded
+mod PendingRecords
 pub mod CallerLemmas

@@ -1,5 +1,5 @@
 -- The test of a change on a document, by what the document would weigh.
-use Rattle.std.proofs.Common.{inl, inr, ◌≡◌, ℕ, ◌+◌, ◌-◌, ◌*◌, ◌≤◌, ◌<◌, ◌^◌, ◌⊎◌, ◌↔◌, min, Bool, true, false, List, [], ◌∷◌, length, Result, Ok, Err, refl, sym, ap, ◌∙◌, true≢false, arith}
+use Rattle.std.proofs.Common.{inl, inr, ◌≡◌, ℕ, ◌+◌, ◌-◌, ◌≤◌, ◌<◌, ◌^◌, ◌⊎◌, ◌↔◌, min, Bool, true, false, List, [], ◌∷◌, length, Result, Ok, Err, refl, sym, ap, ◌∙◌, true≢false, arith}
 use Rattle.std.specs.Prelude.{OnOk, OnErr, IfErr, ◌&&◌, ◌||◌, ◌==◌, not, nat_le}
 use Rattle.std.proofs.lemmas.Bool.{eqb-true}
 use Rattle.std.proofs.lemmas.Bool.Decides.{nat_tests}
@@ -12,7 +12,7 @@ use Rattle.delta.specs.Places.{IsDefined}
 use Rattle.document.specs.Places.{Cuts}
 use Rattle.revision.specs.Parting.{parts_pair}
 use Rattle.revision.specs.Command.{Step, Edits, Deletes, Revives, deletes}
-use Rattle.revision.specs.Past.{Content, IsBlankFor, is_content, suits, units_after, own_delta}
+use Rattle.revision.specs.Past.{Content, IsBlankFor, is_content, suits, units_after}
 use Rattle.revision.specs.State.{reaches_past, stands_on, stands}
 use Rattle.revision.proofs.Told.{parts_told}
 
@@ -92,13 +92,6 @@ module _ (step : Step) (delta : List Operation) (units : List Element) (other : 
     by_step Edits other blank = refl
     by_step Deletes other blank = absurd (true≢false other)
     by_step Revives other blank = ap (λ u. apply u (counted delta)) (sym blank)
-
-  pub own-change : own_delta step delta ≡ delta
-  own-change = by_step step other where
-    by_step : (st : Step) → deletes st ≡ false → own_delta st delta ≡ delta
-    by_step Edits other = refl
-    by_step Deletes other = absurd (true≢false other)
-    by_step Revives other = refl
 
 -- a document that is created again has nothing in it
 pub blank-for : (content : Content) (step : Step) → is_content content ≡ true → suits content.live step ≡ true → IsBlankFor step content.units

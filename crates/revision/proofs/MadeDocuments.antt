@@ -1,40 +1,15 @@
 -- What stands beside commands, and what a command leaves in its document.
-use Rattle.std.proofs.Common.{◌≡◌, ℕ, zero, suc, ◌+◌, ◌<◌, ◌≤◌, true, Some, None, List, [], ◌∷◌, ◌++◌, length, map, take, drop, get_or, refl, sym, ap, ap₂, subst, ◌∙◌, arith}
+use Rattle.std.proofs.Common.{◌≡◌, ℕ, zero, suc, ◌<◌, true, Some, None, List, [], ◌∷◌, length, map, get_or, refl, ap, ap₂, ◌∙◌, arith}
 use Rattle.std.specs.Prelude.{Option, option_map, is_some, slice_get}
-use Rattle.std.proofs.lemmas.Option.{none-some, same_Some, slice_get-map, slice_get_read}
+use Rattle.std.proofs.lemmas.Option.{slice_get-map, slice_get_read}
 use Rattle.delta.specs.Element.{Element}
 use Rattle.revision.specs.Command.{Taken}
-use Rattle.revision.specs.Made.{text_of, text_at, IsMade, AreMade, MadeMore, MadeBefore, MadeFirst, MadeRest}
+use Rattle.revision.specs.Made.{text_of, IsMade, MadeMore, MadeBefore, MadeFirst, MadeRest}
 use Rattle.revision.specs.Past.{Content, units_after, empty_past, prepared_units}
 use Rattle.revision.specs.Pending.{PendingDocument, with_prepared}
-use Rattle.revision.specs.State.{DocumentRecord, State, next_of, record_by_name, set_document, grows, grown, fold}
+use Rattle.revision.specs.State.{DocumentRecord, State, next_of, record_by_name, set_document, grown}
 use Rattle.revision.proofs.Following.{content-with_steps}
 use Rattle.revision.proofs.OneMore.{none-past}
-
--- the document beside a command
-pub this_made : (state : State) (commands : List Taken) (documents : List (List Element)) (i : ℕ) (taken : Taken) (document : List Element) → i < length commands
-    → taken ≡ get_or commands i taken → slice_get documents i ≡ Some document → AreMade state (drop i commands) (drop i documents) → IsMade state taken document
-this_made state [] documents i taken document inside is there are = absurd (omega (arith, inside))
-this_made state (first ∷ others) [] i taken document inside is there are = absurd (none-some _ there)
-this_made state (first ∷ others) (made ∷ rest) zero taken document inside is there are =
-    subst (λ (t : Taken). IsMade state t document) (sym is) (subst (λ (d : List Element). IsMade state first d) (same_Some made document there) are.0)
-this_made state (first ∷ others) (made ∷ rest) (suc i) taken document inside is there are =
-    this_made state others rest i taken document (omega (arith, inside)) is there are
-
-drop-nil : {X : Type 0} (n : ℕ) → drop {A = X} n [] ≡ []
-drop-nil zero = refl
-drop-nil (suc n) = refl
-
--- what is left then
-pub next_made : (state : State) (commands : List Taken) (documents : List (List Element)) (i : ℕ) (taken : Taken) → i < length commands
-    → taken ≡ get_or commands i taken → AreMade state (drop i commands) (drop i documents) → AreMade (grown state taken) (drop (i + 1) commands) (drop (i + 1) documents)
-next_made state [] documents i taken inside is are = absurd (omega (arith, inside))
-next_made state (first ∷ others) [] i taken inside is are = subst (λ (ds : List (List Element)). AreMade (grown state taken) (drop (i + 1) (first ∷ others)) ds) (sym (drop-nil (i + 1))) tt
-next_made state (first ∷ others) (made ∷ rest) zero taken inside is are = subst (λ (t : Taken). AreMade (grown state t) others rest) (sym is) are.1
-next_made state (first ∷ others) (made ∷ rest) (suc i) taken inside is are =
-    let more : suc (i + 1) ≡ suc i + 1 = omega arith in
-    subst (λ (n : ℕ). AreMade (grown state taken) (drop n (first ∷ others)) (drop n (made ∷ rest))) more
-    (next_made state others rest i taken (omega (arith, inside)) is are)
 
 -- what a command leaves in the document of its number
 pub left_at : (keep : ℕ) (documents : List DocumentRecord) (number : ℕ) (taken : Taken)

@@ -1,5 +1,5 @@
 -- Edits that were moved on stay so, whatever is taken.
-use Rattle.std.proofs.Common.{◌≡◌, ℕ, zero, suc, ◌+◌, ◌-◌, ◌≤◌, max, Option, Some, None, List, [], ◌∷◌, ◌++◌, length, take, drop, map, length-append, refl, sym, ap, ap₂, subst, ◌∙◌, arith, true}
+use Rattle.std.proofs.Common.{◌≡◌, ℕ, zero, suc, ◌+◌, ◌-◌, ◌≤◌, max, Option, Some, None, List, [], ◌∷◌, ◌++◌, length, take, drop, length-append, refl, sym, ap, ap₂, subst, ◌∙◌, arith, true}
 use Rattle.std.specs.Prelude.{slice_get}
 use Rattle.std.proofs.lemmas.Option.{same_Some}
 use Rattle.std.proofs.lemmas.List.{map-append, length-map, length-drop, take_all, take-append-le, drop-append-le}
@@ -7,9 +7,9 @@ use Rattle.delta.specs.Operation.{Operation}
 use Rattle.revision.specs.Command.{Step, Edits, Deletes, Revives, Taken}
 use Rattle.xform.specs.After.{second_past}
 use Rattle.revision.specs.Late.{late, HasRoom}
-use Rattle.revision.specs.Past.{Past, Change, newest, deltas_of, deltas_above, from_floor, with_change, with_step}
-use Rattle.revision.specs.State.{DocumentRecord, State, change_of, record_after, find, set_document, grown, fold}
-use Rattle.revision.specs.Moved.{LateEdit, MovedEdit, moved_of, IsLateIn, IsMovedPast, IsMovedIn, LateIsMoved, MovedStays}
+use Rattle.revision.specs.Past.{Past, Change, newest, deltas_of, deltas_above, with_change, with_step}
+use Rattle.revision.specs.State.{DocumentRecord, State, change_of, record_after, find, set_document, grown}
+use Rattle.revision.specs.Moved.{MovedEdit, IsLateIn, IsMovedPast, IsMovedIn, LateIsMoved, MovedStays}
 use Rattle.revision.proofs.Floors.{newest-from, deltas-from}
 use Rattle.revision.proofs.Room.{room-past}
 use Rattle.revision.proofs.Taking.{found_at}
@@ -40,7 +40,7 @@ pub past_rest : (count : ℕ) (edit delta : List Operation) (since : List (List 
 past_rest count edit delta since is = ap₂ late is (rest_is count since) ∙ past_parts count edit since
 
 -- how many deltas there are above a revision
-above-count : (past : Past) (revision : ℕ) → past.floor ≤ revision → revision ≤ newest past → revision + length (deltas_above past revision) ≡ newest past
+pub above-count : (past : Past) (revision : ℕ) → past.floor ≤ revision → revision ≤ newest past → revision + length (deltas_above past revision) ≡ newest past
 above-count past revision held made =
     omega (arith, held, made, length-drop (revision - past.floor) (deltas_of past), length-map past.changes (λ (c : Change). c.delta))
 

@@ -1,8 +1,8 @@
 -- What the newest revision is made of: what stands there, and no delta.
-use Rattle.std.proofs.Common.{◌≡◌, ℕ, ◌-◌, ◌≤◌, List, [], length, take, sym, ap, subst, ◌∙◌, arith}
+use Rattle.std.proofs.Common.{◌≡◌, ℕ, ◌-◌, List, [], take, ap, ◌∙◌, arith}
 use Rattle.delta.specs.Element.{Element}
 use Rattle.delta.specs.Operation.{Operation}
-use Rattle.revision.specs.Past.{Past, newest, newest_units, content_at, deltas_above}
+use Rattle.revision.specs.Past.{Past, newest, newest_units, deltas_above}
 use Rattle.revision.specs.Replay.{IsReplay}
 
 pub newest_replay : (past : Past) (revision : ℕ) (units : List Element) (deltas : List (List Operation)) → revision ≡ newest past → units ≡ newest_units past

@@ -1,6 +1,6 @@
 -- Sources after one of them was noted or dropped.
 use Rattle.std.proofs.Common.{◌≡◌, ℕ, zero, suc, Bool, true, false, cond, List, [], ◌∷◌, drop, Option, Some, None, Result, Ok, Err, ◌++◌, refl, sym, ap, ◌∙◌}
-use Rattle.std.specs.Prelude.{◌||◌, is_some, unwrap_or, get_or}
+use Rattle.std.specs.Prelude.{is_some, unwrap_or, get_or}
 use Rattle.std.proofs.Math.Seq.{get_or-append_seam}
 use Rattle.std.specs.FinMap.Entries.{find}
 use Rattle.std.specs.Result.{OnOk, OnErr}
@@ -12,17 +12,11 @@ use Rattle.attributes.specs.Table.{is_name}
 use Rattle.attributes.proofs.CallerLemmas.{same_name_from, same_map, get-insert, get-remove}
 use Rattle.revision.specs.Window.{Window, nothing_taken, taken_as}
 use Rattle.revision.specs.Sources.{Sources, window_of, with_entry, is_among, EqualBut}
+use Rattle.std.proofs.lemmas.Bool.{or_from, or_parts}
 
 chosen_twice : (b : Bool) (x y : Option Window) (z : Option Window) → cond b y (cond b x z) ≡ cond b y z
 chosen_twice true x y z = refl
 chosen_twice false x y z = refl
-
--- one that is noted twice
-pub noted-twice : (source : List ℕ) (first second : Window) (sources : Sources) → insert (insert sources source first) source second ≡ insert sources source second
-noted-twice source first second sources =
-    same_map _ _ (λ name. get-insert (insert sources source first) source second name
-    ∙ (ap (cond (is_name name source) (Some second)) (get-insert sources source first name)
-    ∙ (chosen_twice (is_name name source) (Some first) (Some second) (get sources name) ∙ sym (get-insert sources source second name))))
 
 -- what stands at a name once one was given or taken away
 get-entry : (source : List ℕ) (entry : Option Window) (sources : Sources) (name : List ℕ)
@@ -34,10 +28,6 @@ same_here : (b : Bool) (one other : Sources) (first name : List ℕ) → is_name
     → get one name ≡ cond b (get one first) (get other name)
 same_here true one other first name is further = ap (get one) (same_name_from name first is)
 same_here false one other first name is further = further refl
-
-neither : (a b : Bool) → a ≡ false → b ≡ false → (a || b) ≡ false
-neither false b p q = q
-neither true b p q = cc
 
 -- a source that was noted is there, and all is unchanged once it's given what it had
 pub there-noted : (source : List ℕ) (window : Window) (sources after : Sources) → after ≡ insert sources source window → is_some (get after source) ≡ true
@@ -57,50 +47,35 @@ put-back source window sources after is =
 pub but-rest : (first : List ℕ) (others : List (List ℕ)) (one other : Sources) → EqualBut (first ∷ others) one other
     → EqualBut others one (with_entry first (get one first) other)
 but-rest first others one other but name absent =
-    same_here (is_name name first) one other first name refl (λ differs. but name (neither (is_name name first) (is_among name others) differs absent))
+    same_here (is_name name first) one other first name refl (λ differs. but name (or_from (is_name name first) (is_among name others) differs absent))
     ∙ sym (get-entry first (get one first) other name)
 
 -- the same but for none of them
 pub but-none : (one other : Sources) → EqualBut [] one other → other ≡ one
 but-none one other but = same_map other one (λ name. sym (but name refl))
 
-later : (a b : Bool) → (a || b) ≡ false → b ≡ false
-later true b h = absurd (cc)
-later false b h = h
-
 -- the same but for fewer
 pub but-more : (n : ℕ) (names : List (List ℕ)) (one other : Sources) → EqualBut (drop n names) one other → EqualBut names one other
 but-more zero names one other but = but
 but-more (suc n) [] one other but = but
 but-more (suc n) (first ∷ others) one other but =
-    λ name absent. but-more n others one other but name (later (is_name name first) (is_among name others) absent)
-
-first_of_both : (a b : Bool) → (a || b) ≡ false → a ≡ false
-first_of_both true b h = h
-first_of_both false b h = refl
+    λ name absent. but-more n others one other but name (or_parts (is_name name first) (is_among name others) absent).1
 
 -- a name that is not among them and one more
 among-more : (name : List ℕ) (names : List (List ℕ)) (source : List ℕ) → is_among name (names ++ source ∷ []) ≡ false
     → (is_among name names ≡ false) × (is_name name source ≡ false)
-among-more name [] source absent = (refl, first_of_both (is_name name source) false absent)
+among-more name [] source absent = (refl, (or_parts (is_name name source) false absent).0)
 among-more name (first ∷ others) source absent =
-    let rest = among-more name others source (later (is_name name first) (is_among name (others ++ source ∷ [])) absent) in
-    let here = first_of_both (is_name name first) (is_among name (others ++ source ∷ [])) absent in
-    (neither (is_name name first) (is_among name others) here rest.0, rest.1)
-
--- the other way round
-pub but-turned : (names : List (List ℕ)) (one other : Sources) → EqualBut names one other → EqualBut names other one
-but-turned names one other but name absent = sym (but name absent)
-
-pub but-same : (names : List (List ℕ)) (one other : Sources) → other ≡ one → EqualBut names one other
-but-same names one other same = λ name absent. ap (λ (m : Sources). get m name) (sym same)
+    let rest = among-more name others source (or_parts (is_name name first) (is_among name (others ++ source ∷ [])) absent).1 in
+    let here = (or_parts (is_name name first) (is_among name (others ++ source ∷ [])) absent).0 in
+    (or_from (is_name name first) (is_among name others) here rest.0, rest.1)
 
 -- one that is added to those in which they may differ
 pub but-added : (source : List ℕ) (names added : List (List ℕ)) (one other : Sources) → added ≡ names ++ source ∷ [] → EqualBut names one other
     → (name : List ℕ) → is_among name added ≡ false → (is_among name (source ∷ []) ≡ false) × (get one name ≡ get other name)
 but-added source names added one other is but name absent =
     let parts = among-more name names source (sym (ap (is_among name) is) ∙ absent) in
-    (neither (is_name name source) false parts.1 refl, but name parts.0)
+    (or_from (is_name name source) false parts.1 refl, but name parts.0)
 
 among_not : (name source : List ℕ) (names : List (List ℕ)) (one other : Sources) (b : Bool) → is_name name source ≡ b → EqualBut names one other
     → ¬ (get one source ≡ get other source) → is_among name names ≡ false → b ≡ false
@@ -112,7 +87,7 @@ among_not name source names one other true is but differ absent =
 pub but-there : (source : List ℕ) (names : List (List ℕ)) (one other : Sources) → EqualBut names one other → ¬ (get one source ≡ get other source)
     → (name : List ℕ) → is_among name names ≡ false → (is_among name (source ∷ []) ≡ false) × (get one name ≡ get other name)
 but-there source names one other but differ name absent = (
-  neither (is_name name source) false (among_not name source names one other (is_name name source) refl but differ absent) refl,
+  or_from (is_name name source) false (among_not name source names one other (is_name name source) refl but differ absent) refl,
   but name absent,
 )
 
@@ -123,7 +98,7 @@ pub but-once_noted : {V E : Type 0} (source : List ℕ) (window : Window) (names
 but-once_noted source window names one other after (Ok _) taken left but = λ name absent.
     let parts = but name absent in
     parts.1
-    ∙ (sym (ap (λ b. cond b (Some window) (get other name)) (first_of_both (is_name name source) false parts.0))
+    ∙ (sym (ap (λ b. cond b (Some window) (get other name)) (or_parts (is_name name source) false parts.0).0)
     ∙ (sym (get-insert other source window name) ∙ ap (λ (m : Sources). get m name) (sym taken)))
 but-once_noted source window names one other after (Err _) taken left but = λ name absent.
     (but name absent).1 ∙ ap (λ (m : Sources). get m name) (sym left)

@@ -1,7 +1,7 @@
 -- A state as it grows by a command, and its documents with what is prepared.
-use Rattle.std.proofs.Common.{◌≡◌, ℕ, zero, suc, ◌+◌, ◌<◌, true, false, ◌&&◌, List, [], ◌∷◌, ◌++◌, length, map, take, drop, get_or, Option, Some, None, refl, sym, ap, ap₂, ◌∙◌, arith, true≢false}
+use Rattle.std.proofs.Common.{◌≡◌, ℕ, zero, suc, ◌+◌, ◌<◌, true, false, ◌&&◌, List, [], ◌∷◌, ◌++◌, length, map, take, Option, Some, None, refl, sym, ap, ap₂, ◌∙◌, arith, true≢false}
 use Rattle.std.specs.Prelude.{slice_get}
-use Rattle.std.proofs.lemmas.List.{take-map, at_drop_more, map-append}
+use Rattle.std.proofs.lemmas.List.{take-map, map-append}
 use Rattle.std.proofs.lemmas.Bool.{and_parts}
 use Rattle.std.proofs.lemmas.Bool.Decides.{Decides-eqb, Decides-ltb}
 use Rattle.revision.specs.steps.DocumentsView.{names_of}
@@ -12,7 +12,7 @@ use Rattle.revision.specs.Command.{Taken}
 use Rattle.revision.specs.Past.{Next, Past, with_step, with_steps}
 use Rattle.revision.specs.Pending.{PendingDocument, record_of, with_prepared}
 use Rattle.revision.specs.steps.Preparing.{with_next, begun}
-use Rattle.revision.specs.State.{Limits, DocumentRecord, State, next_of, record_by_name, set_document, has_room, begins, continues_by_name, grows, grown, all_grow, first_grows, fold}
+use Rattle.revision.specs.State.{Limits, DocumentRecord, State, next_of, record_by_name, set_document, has_room, begins, continues_by_name, grows, grown}
 use Rattle.revision.proofs.ChangedAt.{map-changed_at}
 
 -- one step more, at the end
@@ -61,17 +61,6 @@ record_of-changed change same count i documents =
     ∙ ap (take count) (map-changed_at record_of change same i documents)
     ∙ take-map record_of count documents
 
--- one command more
-pub fold-step : (state : State) (batch : List Taken) (i : ℕ) (taken : Taken) → i < length batch → taken ≡ get_or batch i taken
-    → fold (grown state taken) (drop (i + 1) batch) ≡ fold state (drop i batch)
-fold-step state batch i taken inside is =
-    ap (λ t. fold (grown state t) (drop (i + 1) batch)) is ∙ sym (at_drop_more (fold state) batch i taken inside)
-
-pub all_grow-step : (state : State) (batch : List Taken) (i : ℕ) (taken : Taken) → i < length batch → taken ≡ get_or batch i taken
-    → (grows state taken && all_grow (grown state taken) (drop (i + 1) batch)) ≡ all_grow state (drop i batch)
-all_grow-step state batch i taken inside is =
-    ap (λ t. grows state t && all_grow (grown state t) (drop (i + 1) batch)) is ∙ sym (at_drop_more (all_grow state) batch i taken inside)
-
 pub same_length : (keep : ℕ) (documents : List PendingDocument) → length (map (with_prepared keep) documents) ≡ length documents
 same_length keep [] = refl
 same_length keep (d ∷ others) = ap suc (same_length keep others)
@@ -101,20 +90,11 @@ module _ (limits : Limits) (documents : List PendingDocument) (taken : Taken) (n
       ∙ ap (λ found. set_document (length ds) (record_by_name limits.keep found taken (Some name)) ds) (sym (none-past ds))
       ∙ ap₂ (λ i n. set_document i (record_by_name limits.keep (slice_get ds i) taken n) ds) (same_length limits.keep documents ∙ sym at) (sym named)
 
--- a command that changes a document continues a state exactly where it continues the document
-pub changed_as : (state : State) (taken : Taken) → taken.name ≡ None
-    → grows state taken ≡ continues_by_name state.limits (slice_get state.documents taken.document) taken None
-changed_as state taken named =
-    ap (λ n. has_room state taken.document n && continues_by_name state.limits (slice_get state.documents taken.document) taken n) named
-
 -- a creation continues a state exactly where it has room there, and begins its document
 module _ (state : State) (taken : Taken) (name : List ℕ) (named : taken.name ≡ Some name) where
   by_name : grows state taken
       ≡ (has_room state taken.document (Some name) && continues_by_name state.limits (slice_get state.documents taken.document) taken (Some name))
   by_name = ap (λ n. has_room state taken.document n && continues_by_name state.limits (slice_get state.documents taken.document) taken n) named
-
-  pub created_without : has_room state taken.document (Some name) ≡ false → grows state taken ≡ false
-  created_without none = by_name ∙ ap (λ b. b && continues_by_name state.limits (slice_get state.documents taken.document) taken (Some name)) none
 
   pub created_as : has_room state taken.document (Some name) ≡ true → grows state taken ≡ begins state.limits taken
   created_as room =
@@ -127,9 +107,3 @@ module _ (state : State) (taken : Taken) (name : List ℕ) (named : taken.name �
   created_parts grown =
       let room = (and_parts _ _ (sym by_name ∙ grown)).0 in
       (room, sym (created_as room) ∙ grown)
-
--- the first command of what is left
-pub first_grows-step : (state : State) (batch : List Taken) (i : ℕ) (taken : Taken) → i < length batch → taken ≡ get_or batch i taken
-    → grows state taken ≡ first_grows state (drop i batch)
-first_grows-step state batch i taken inside is =
-    ap (grows state) is ∙ sym (at_drop_more (first_grows state) batch i taken inside)

@@ -1,14 +1,12 @@
 -- What is seen of the parts of a past.
-use Rattle.std.proofs.Common.{◌≡◌, ℕ, zero, suc, ◌+◌, ◌-◌, ◌≤◌, ◌<◌, ◌^◌, max, Bool, true, List, [], ◌∷◌, ◌++◌, length, take, drop, get_or, length-append, refl, sym, ap, ap₂, subst, ◌∙◌, arith}
-use Rattle.std.proofs.lemmas.List.{drop-map, take-map, drop-take, drop_all, take_all, take-take, take-append-drop, take-append-le, drop-append-le, length-drop, length-take-le, append_assoc, map-append}
-use Rattle.std.proofs.Math.Seq.{get_or-append_seam}
+use Rattle.std.proofs.Common.{◌≡◌, ℕ, zero, suc, ◌+◌, ◌-◌, ◌≤◌, ◌<◌, ◌^◌, max, true, List, [], ◌∷◌, ◌++◌, length, take, drop, get_or, length-append, refl, sym, ap, ap₂, subst, ◌∙◌, arith}
+use Rattle.std.proofs.lemmas.List.{take-map, drop-take, drop_all, take_all, take-take, take-append-drop, take-append-le, drop-append-le, length-drop, length-take-le}
 use Rattle.delta.specs.Element.{Element}
 use Rattle.delta.specs.Operation.{Operation, base_of, out_of}
 use Rattle.delta.specs.Gaps.{counted, apply}
 use Rattle.document.specs.Outcome.{IsAccepted}
 use Rattle.compose.specs.Many.{applied}
-use Rattle.revision.specs.declared.taker.Taker.{Taker}
-use Rattle.revision.specs.Command.{Step, Edits, Deletes, Revives}
+use Rattle.revision.specs.declared.rule.taker.Taker.{Taker}
 use Rattle.revision.specs.Past.{Past, Content, Change, Next, Prepared, Parts, AreParts, AreNoted, StandInTurn, LeadsTo, LeadInTurn, is_content, suits, units_after, content_after_all, taken_content, next_by, nexts_by, newest, newest_content, deltas_of, deltas_in, content_at, deltas_above, from_floor, with_steps, changes_by, whole_past, seen, prepared_content, prepared_units, prepared_revision, without_last}
 use Rattle.revision.specs.Past.{way_back_late}
 use Rattle.revision.specs.Late.{HasRoom, all_inserted}
@@ -16,7 +14,7 @@ use Rattle.revision.proofs.Room.{room_for_undo}
 use Rattle.revision.proofs.Kept.{stand-more, short-more, short-take, room-since, stand-between, short-between, short-first, short-inserts}
 use Rattle.revision.proofs.KeptDocuments.{kept-prepared, kept-accepted, kept-cut, noted-prepared, noted-cut}
 use Rattle.revision.proofs.Replays.{stand-take, stand-drop, drop-here}
-use Rattle.revision.specs.steps.Turning.{steps_up_to_turn, turned_floor, live_after_takers, live_by_last}
+use Rattle.revision.specs.steps.Turning.{steps_to_last_reset, floor_after_reset, live_after_takers, live_by_last}
 use Rattle.revision.proofs.Floors.{newest-from, content-from, deltas-from}
 use Rattle.revision.proofs.Turning.{nexts-length, nexts-more, nexts-take, nexts-drop, nexts-units, nexts-live, live-by-last, nexts-content, lead-more, lead-take, moved, floor_after, steps-from, floor-is, turns-within}
 
@@ -141,7 +139,7 @@ module _ (parts : Parts) (is : AreParts parts) (now : Prepared) (same : seen par
       ≡ way_back_late (content_at now.past revision).units (deltas_above now.past revision)
   undo_is = sym (ap₂ way_back_late before_is left_is)
 
-applied-split : (n : ℕ) (units : List Element) (deltas : List (List Operation)) → applied (applied units (take n deltas)) (drop n deltas) ≡ applied units deltas
+pub applied-split : (n : ℕ) (units : List Element) (deltas : List (List Operation)) → applied (applied units (take n deltas)) (drop n deltas) ≡ applied units deltas
 applied-split zero units deltas = refl
 applied-split (suc n) units [] = refl
 applied-split (suc n) units (first ∷ others) = applied-split n (apply units (counted first)) others
@@ -152,6 +150,9 @@ module _ (parts : Parts) (is : AreParts parts) where
 
   pub prepared-revision : prepared_revision (seen parts) ≡ parts.start + length parts.deltas
   prepared-revision = omega (arith, seen-newest parts is, prepared-length, is.count)
+
+  pub newest-bound : newest (seen parts).past < 2 ^ 53
+  newest-bound = omega (arith, seen-newest parts is, is.count, is.revision)
 
   -- what stands at the last revision taken, and after what is prepared
   pub seen-content : newest_content (seen parts).past ≡ taken_content parts
@@ -242,7 +243,7 @@ module _ (parts : Parts) (is : AreParts parts) where
 
   -- what is prepared is accepted
   pub accept_is : (keep floor : ℕ) → 1 ≤ keep → parts.count < length parts.deltas
-      → floor ≡ max (turned_floor (parts.start + parts.count) parts.floor (steps_up_to_turn (drop parts.count parts.takers))) (parts.start + length parts.deltas - keep)
+      → floor ≡ max (floor_after_reset (parts.start + parts.count) parts.floor (steps_to_last_reset (drop parts.count parts.takers))) (parts.start + length parts.deltas - keep)
       → seen (record parts { count = length parts.deltas; floor = floor; live = live_after_takers parts.live (drop parts.count parts.takers) })
       ≡ record { past = with_steps keep (seen parts).past (seen parts).next; next = [] }
   accept_is keep floor some_kept some floor_is =
@@ -278,18 +279,18 @@ module _ (parts : Parts) (is : AreParts parts) where
 
       floor_of : (takers : List Taker) → length takers ≡ length parts.takers - parts.count
           → floor_after keep (parts.start + parts.count) parts.floor takers
-          ≡ max (turned_floor (parts.start + parts.count) parts.floor (steps_up_to_turn takers)) (parts.start + length parts.deltas - keep)
+          ≡ max (floor_after_reset (parts.start + parts.count) parts.floor (steps_to_last_reset takers)) (parts.start + length parts.deltas - keep)
       floor_of [] e = absurd (omega (arith, e, is.same, some))
       floor_of (first ∷ others) e =
           let whole_length : parts.start + parts.count + length (first ∷ others) ≡ parts.start + length parts.deltas = omega (arith, e, is.same, some) in
           floor-is keep (parts.start + parts.count) parts.floor first others some_kept is.floor
-          ∙ ap (λ n. max (turned_floor (parts.start + parts.count) parts.floor (steps_up_to_turn (first ∷ others))) (n - keep)) whole_length
+          ∙ ap (λ n. max (floor_after_reset (parts.start + parts.count) parts.floor (steps_to_last_reset (first ∷ others))) (n - keep)) whole_length
 
   pub accept_are : (keep floor : ℕ) → 1 ≤ keep → keep ≤ 65536
-      → floor ≡ max (turned_floor (parts.start + parts.count) parts.floor (steps_up_to_turn (drop parts.count parts.takers))) (parts.start + length parts.deltas - keep)
+      → floor ≡ max (floor_after_reset (parts.start + parts.count) parts.floor (steps_to_last_reset (drop parts.count parts.takers))) (parts.start + length parts.deltas - keep)
       → AreParts (record parts { count = length parts.deltas; floor = floor; live = live_after_takers parts.live (drop parts.count parts.takers) })
   accept_are keep floor some most floor_is =
-      let within = turned_within (steps_up_to_turn (drop parts.count parts.takers)) (turns-within (drop parts.count parts.takers)) in
+      let within = turned_within (steps_to_last_reset (drop parts.count parts.takers)) (turns-within (drop parts.count parts.takers)) in
       let all : applied parts.units (take (length parts.deltas) parts.deltas) ≡ applied parts.units parts.deltas =
       ap (applied parts.units) (take_all (length parts.deltas) parts.deltas (omega arith)) in
       let none : drop (length parts.deltas) parts.takers ≡ [] = drop_all (length parts.deltas) parts.takers (omega (arith, is.same)) in
@@ -310,8 +311,8 @@ module _ (parts : Parts) (is : AreParts parts) where
       }
     where
       turned_within : (turns : ℕ) → turns ≤ length (drop parts.count parts.takers)
-          → (parts.floor ≤ turned_floor (parts.start + parts.count) parts.floor turns)
-          × (turned_floor (parts.start + parts.count) parts.floor turns ≤ parts.start + parts.count + length (drop parts.count parts.takers))
+          → (parts.floor ≤ floor_after_reset (parts.start + parts.count) parts.floor turns)
+          × (floor_after_reset (parts.start + parts.count) parts.floor turns ≤ parts.start + parts.count + length (drop parts.count parts.takers))
       turned_within zero le = (omega arith, omega (arith, is.floor))
       turned_within (suc turns) le = (omega (arith, is.floor), omega (arith, le))
 

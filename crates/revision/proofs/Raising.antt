@@ -14,22 +14,6 @@ use Rattle.revision.proofs.Changing.{from_itself}
 use Rattle.revision.proofs.Keeping.{keeps-same}
 
 module _ (parts : Parts) (is : AreParts parts) (revision floor : ℕ) (floor_is : floor ≡ max parts.floor (min revision (parts.start + parts.count))) where
-  pub raise_are : AreParts (record parts { floor = floor })
-  raise_are = record {
-    stand = is.stand;
-    short = is.short;
-    same = is.same;
-    content = is.content;
-    lead = is.lead;
-    count = is.count;
-    start = omega (arith, floor_is, is.start);
-    floor = omega (arith, floor_is, is.floor);
-    held = omega (arith, floor_is, is.held);
-    revision = is.revision;
-    kept = is.kept;
-    noted = is.noted;
-  }
-
   pub raise_is : seen (record parts { floor = floor }) ≡ record (seen parts) { past = raised revision (seen parts).past }
   raise_is =
       let top : newest (whole_past parts) ≡ parts.start + parts.count = whole-newest parts is in

@@ -1,19 +1,13 @@
 -- What leads to a revision that is held.
-use Rattle.std.proofs.Common.{◌≡◌, ℕ, zero, suc, ◌+◌, ◌-◌, ◌≤◌, ◌<◌, ◌^◌, List, [], ◌∷◌, length, take, drop, get_or, refl, sym, ap, subst, ◌∙◌, arith}
-use Rattle.std.proofs.lemmas.List.{take-take, length-take-le}
-use Rattle.delta.specs.Element.{Element}
-use Rattle.delta.specs.Operation.{Operation, base_of}
-use Rattle.delta.specs.Gaps.{counted, apply}
-use Rattle.delta.proofs.CallerLemmas.{units_below-counted}
-use Rattle.compose.specs.Many.{applied}
+use Rattle.std.proofs.Common.{◌≡◌, ℕ, zero, suc, ◌+◌, ◌-◌, ◌≤◌, ◌<◌, List, [], ◌∷◌, length, take, drop, get_or, refl, sym, ap, ◌∙◌, arith}
+use Rattle.std.proofs.lemmas.List.{take-take}
+use Rattle.delta.specs.Operation.{Operation}
 use Rattle.revision.specs.Sources.{Sources, with_taken}
-use Rattle.revision.specs.declared.taker.Taker.{Taker}
-use Rattle.revision.specs.Past.{Past, Prepared, Parts, AreParts, StandInTurn, newest, content_at, sources_at, sources_after, changes_by, whole_past, seen}
+use Rattle.revision.specs.declared.rule.taker.Taker.{Taker}
+use Rattle.revision.specs.Past.{Past, Prepared, Parts, AreParts, newest, sources_at, sources_after, changes_by, whole_past, seen}
 use Rattle.revision.proofs.Floors.{from-from}
-use Rattle.revision.proofs.Kept.{short-first, short-drop}
 use Rattle.revision.proofs.LettingGo.{sources-here}
-use Rattle.revision.proofs.Parts.{changes-take, above_floor, below_newest, document_is}
-use Rattle.revision.proofs.Replays.{stand-take}
+use Rattle.revision.proofs.Parts.{changes-take, above_floor, below_newest}
 
 at_itself : (i : ℕ) (deltas : List (List Operation)) → i < length deltas → get_or deltas i [] ≡ get_or deltas i (get_or deltas i [])
 at_itself i [] there = absurd (omega (arith, there))
@@ -37,16 +31,6 @@ module _ (parts : Parts) (is : AreParts parts) (now : Prepared) (same : seen par
   within : count ≤ parts.count
   unfolding count
   within = omega (arith, below_newest parts is now same revision held there)
-
-  pub replay_same : length (take (revision - parts.start) parts.takers) ≡ length (take (revision - parts.start) parts.deltas)
-  unfolding count
-  replay_same =
-      length-take-le (revision - parts.start) parts.takers (omega (arith, within, is.count, is.same))
-      ∙ sym (length-take-le (revision - parts.start) parts.deltas (omega (arith, within, is.count)))
-
-  pub replay_bound : parts.start + length (take (revision - parts.start) parts.deltas) < 2 ^ 53
-  unfolding count
-  replay_bound = omega (arith, length-take-le (revision - parts.start) parts.deltas (omega (arith, within, is.count)), within, is.count, is.revision)
 
   pub replay_sources : sources_after parts.start parts.sources (changes_by (take (revision - parts.start) parts.takers) (take (revision - parts.start) parts.deltas))
       ≡ sources_at now.past revision

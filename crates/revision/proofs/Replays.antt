@@ -1,6 +1,5 @@
 -- Deltas that stand on a document in turn: the first of them, and those that are left.
-use Rattle.std.proofs.Common.{◌≡◌, ℕ, zero, suc, ◌+◌, ◌≤◌, ◌<◌, List, [], ◌∷◌, length, take, drop, get_or, ap, sym, ◌∙◌, arith}
-use Rattle.std.proofs.lemmas.List.{at_drop_more}
+use Rattle.std.proofs.Common.{ℕ, zero, suc, ◌+◌, ◌≤◌, List, [], ◌∷◌, length, take, drop, arith}
 use Rattle.delta.specs.Element.{Element}
 use Rattle.delta.specs.Operation.{Operation}
 use Rattle.delta.specs.Gaps.{counted, apply}
@@ -8,11 +7,7 @@ use Rattle.compose.specs.Many.{applied}
 use Rattle.revision.specs.Late.{all_inserted}
 use Rattle.revision.specs.Past.{StandInTurn}
 use Rattle.revision.proofs.Room.{longer-by}
-
--- the list from a place on
-pub drop-here : (deltas : List (List Operation)) (i : ℕ) (taken : List Operation) → i < length deltas → taken ≡ get_or deltas i taken
-    → drop i deltas ≡ taken ∷ drop (i + 1) deltas
-drop-here deltas i taken lt is = at_drop_more (λ l. l) deltas i taken lt ∙ ap (λ t. t ∷ drop (i + 1) deltas) (sym is)
+pub use Rattle.attributes.proofs.CallerLemmas.{drop-here}
 
 -- so do the first of them
 pub stand-take : (n : ℕ) (units : List Element) (deltas : List (List Operation)) → StandInTurn units deltas → StandInTurn units (take n deltas)

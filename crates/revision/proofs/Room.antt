@@ -6,12 +6,11 @@ use Rattle.std.proofs.lemmas.List.Elements.{All-head, All-tail}
 use Rattle.refusal.specs.declared.Refusal.{Refusal}
 use Rattle.refusal.specs.declared.Refusal.TheVariants.{BadOps, NoMemory}
 use Rattle.attributes.specs.Map.{empty}
-use Rattle.attributes.specs.Attributes.{Changes}
 use Rattle.delta.specs.Element.{Element, letters, lettered, embedded}
 use Rattle.delta.specs.Operation.{Operation, insert_text, insert_embed, retain, delete, base_of, out_of}
 use Rattle.delta.specs.Gaps.{Gaps, End, Gap, Fate, Del, Keep, front, run, counted, apply, units_below, units_kept, units_made}
 use Rattle.delta.specs.Normal.{nf, spelled}
-use Rattle.delta.proofs.CallerLemmas.{units_below-front, units_below-run, units_below-counted, counted-spelled, units_made-counted, base_of-nf, lengths-nf, out_of-spelled, length-apply_counted}
+use Rattle.delta.proofs.CallerLemmas.{units_below-front, units_below-run, units_below-counted, counted-spelled, units_made-counted, base_of-nf, lengths-nf, out_of-spelled, length-apply_counted, units_made-front, units_made-keeps, units_made-deletes}
 use Rattle.document.specs.Weight.{weight_of}
 use Rattle.compose.specs.Inverse.{unit_back, inverse}
 use Rattle.xform.specs.After.{beside, left_of, after, second_past}
@@ -54,18 +53,9 @@ below-after (Gap xs f g) (End ys) priority = omega (arith, units_below-beside xs
 below-after (Gap xs f g) (Gap ys e h) priority =
     omega (arith, units_below-beside xs ys priority (left_of f e priority (after g h priority)), below-left_of f e priority (after g h priority), below-after g h priority)
 
--- how many units it makes
-made-front : (xs : List Element) (g : Gaps) → units_made (front xs g) ≡ length xs + units_made g
-made-front xs (End ys) = length-append xs ys
-made-front xs (Gap ys f g) = omega (arith, length-append xs ys)
-
-made-keeps : (n : ℕ) (c : Changes) (g : Gaps) → units_made (run n (Keep c) g) ≡ n + units_made g
-made-keeps zero c g = omega arith
-made-keeps (suc n) c g = omega (arith, made-keeps n c g)
-
 made-beside : (xs ys : List Element) (priority : Bool) (g : Gaps) → units_made (beside xs ys priority g) ≡ length xs + length ys + units_made g
-made-beside xs ys true g = omega (arith, made-keeps (length xs) empty (front ys g), made-front ys g)
-made-beside xs ys false g = omega (arith, made-front ys (run (length xs) (Keep empty) g), made-keeps (length xs) empty g)
+made-beside xs ys true g = omega (arith, units_made-keeps (length xs) empty (front ys g), units_made-front ys g)
+made-beside xs ys false g = omega (arith, units_made-front ys (run (length xs) (Keep empty) g), units_made-keeps (length xs) empty g)
 
 made-left_of : (f e : Fate) (priority : Bool) (g : Gaps) → units_made (left_of f e priority g) ≤ units_kept e + units_made g
 made-left_of Del e priority g = omega arith
@@ -120,11 +110,6 @@ only_memory edit since BadOps room refused = absurd (refused (can-pass edit sinc
 only_memory edit since NoMemory room memory = refl
 only_memory edit since _ room refused = absurd refused
 
--- the way back stands on no more units than there were and were inserted, and makes no more than there were
-made-deletes : (n : ℕ) (g : Gaps) → units_made (run n Del g) ≡ units_made g
-made-deletes zero g = refl
-made-deletes (suc n) g = omega (arith, made-deletes n g)
-
 below-unit_back : (f : Fate) (x : Element) (g : Gaps) → units_below (unit_back f x g) ≤ 1 + units_below g
 below-unit_back Del x g = omega (arith, units_below-front (x ∷ []) g)
 below-unit_back (Keep c) x g = omega arith
@@ -136,14 +121,14 @@ below-inverse (Gap xs f g) (x ∷ d) =
     omega (arith, units_below-run (length xs) Del (unit_back f x (inverse g d)), below-unit_back f x (inverse g d), below-inverse g d)
 
 made-unit_back : (f : Fate) (x : Element) (g : Gaps) → units_made (unit_back f x g) ≡ 1 + units_made g
-made-unit_back Del x g = omega (arith, made-front (x ∷ []) g)
+made-unit_back Del x g = omega (arith, units_made-front (x ∷ []) g)
 made-unit_back (Keep c) x g = omega arith
 
 made-inverse : (g : Gaps) (d : List Element) → units_made (inverse g d) ≤ length d
-made-inverse (End xs) d = omega (arith, made-deletes (length xs) (End []))
-made-inverse (Gap xs f g) [] = omega (arith, made-deletes (length xs) (inverse g []), made-inverse g [])
+made-inverse (End xs) d = omega (arith, units_made-deletes (length xs) (End []))
+made-inverse (Gap xs f g) [] = omega (arith, units_made-deletes (length xs) (inverse g []), made-inverse g [])
 made-inverse (Gap xs f g) (x ∷ d) =
-    omega (arith, made-deletes (length xs) (unit_back f x (inverse g d)), made-unit_back f x (inverse g d), made-inverse g d)
+    omega (arith, units_made-deletes (length xs) (unit_back f x (inverse g d)), made-unit_back f x (inverse g d), made-inverse g d)
 
 pub room-back : (units : List Element) (taken : List Operation) (others : List (List Operation)) → length units + all_inserted (taken ∷ others) ≤ 2 ^ 48
     → HasRoom (way_back units taken) others

@@ -1,22 +1,23 @@
 -- What the rule of acceptance takes continues the state.
-use Rattle.std.proofs.Common.{◌≡◌, ℕ, suc, ◌+◌, ◌≤◌, ◌<◌, ◌^◌, Bool, true, false, cond, List, [], ◌∷◌, length, Option, Some, None, refl, sym, ap, ◌∙◌, arith}
+use Rattle.std.proofs.Common.{◌≡◌, ℕ, suc, ◌+◌, ◌<◌, ◌^◌, Bool, true, false, cond, List, [], ◌∷◌, length, Option, Some, None, refl, sym, ap, ◌∙◌, arith}
 use Rattle.std.specs.Prelude.{◌&&◌, ◌||◌, ◌==◌, not, nat_lt, nat_le, is_none, bytes_eq, slice_get}
 use Rattle.std.proofs.lemmas.Bool.Decides.{nat_tests}
 use Rattle.refusal.specs.declared.Refusal.TheVariants.{Exists, Gap, OldNumber, TooManySources, Future, TooOld, PastEnd, CutsPair, TooHeavy, TooWide, RevisionsSpent, NothingToUndo, TooManyDocuments, Deleted}
 use Rattle.attributes.specs.Map.{empty}
 use Rattle.delta.specs.Element.{Element}
 use Rattle.delta.specs.Operation.{Operation}
-use Rattle.revision.specs.Command.{Taken, Step, Edits, Deletes, Revives, width_of, Action, Create, Edit, Undo, Delete, Command}
+use Rattle.revision.specs.Command.{Taken, Edits, Deletes, Revives, width_of, Action, Create, Edit, Undo, Delete, Command}
 use Rattle.revision.specs.State.{reaches_past, Limits, DocumentRecord, State, find, revision_of, units_of, sources_of, is_live, last_of_all, weight_after, has_place, stands_on, follows, continues, grows}
 use Rattle.revision.specs.Window.{Window, revision_in, last_revision}
 use Rattle.revision.specs.Sources.{Sources, window_of}
 use Rattle.revision.specs.Parting.{parts_pair}
 use Rattle.revision.specs.Late.{late}
 use Rattle.revision.specs.Past.{undo_of, deltas_of, deltas_above}
-use Rattle.revision.specs.Acceptance.{Answer, Takes, Repeats, Refuses, take_within, take_on, if_live, revive, delete, creation, create_new, next_revision, change, edit, undo, by_retry, create_existing, by_number, answer_to, TakenGrows}
+use Rattle.revision.specs.Acceptance.{Answer, Takes, Refuses, take_within, take_on, if_live, revive, delete, creation, create_new, next_revision, change, edit, undo, by_retry, by_number, answer_to, TakenGrows}
+use Rattle.std.proofs.lemmas.Bool.{and_from}
 
 -- where a test answers otherwise, what is taken is not stopped by it
-passed : (b : Bool) (other next : Answer) (taken : Taken) → (other ≡ Takes taken → ⊥) → cond b other next ≡ Takes taken → (b ≡ false) × (next ≡ Takes taken)
+pub passed : (b : Bool) (other next : Answer) (taken : Taken) → (other ≡ Takes taken → ⊥) → cond b other next ≡ Takes taken → (b ≡ false) × (next ≡ Takes taken)
 passed true other next taken differs h = absurd (differs h)
 passed false other next taken differs h = (refl, h)
 
@@ -67,9 +68,6 @@ has_room_holds count docs found none many =
     let below : nat_lt count docs ≡ true = grind (arith, nat_tests) in
     rw (same, none, below) refl
 
-both_hold : (room begin : Bool) → room ≡ true → begin ≡ true → (room && begin) ≡ true
-both_hold room begin r b = rw (r, b) refl
-
 new_grows : (state : State) (command : Command) (delta : List Operation) (taken : Taken) → find command.name 0 state.documents ≡ None
     → create_new state command delta ≡ Takes taken → grows state taken ≡ true
 new_grows state command delta taken fresh h =
@@ -78,7 +76,7 @@ new_grows state command delta taken fresh h =
     let docs = passed (nat_le state.limits.docs (length state.documents)) (Refuses TooManyDocuments) _ taken (λ e. cc) gap.1 in
     let kept = taken_kept state.limits [] empty asked taken docs.1 in
     let begun : continues state.limits (slice_get state.documents (length state.documents)) asked ≡ true = rw (none_at_end state.documents) kept.kept in
-    let one : grows state asked ≡ true = both_hold _ _ (has_room_holds _ _ (find command.name 0 state.documents) fresh docs.0) begun in
+    let one : grows state asked ≡ true = and_from _ _ (has_room_holds _ _ (find command.name 0 state.documents) fresh docs.0) begun in
     ap (grows state) (sym kept.same) ∙ one
 
 existing_takes : (found : Option ℕ) (taken : Taken) → by_retry found (Refuses Exists) ≡ Takes taken → ⊥
@@ -118,11 +116,11 @@ found_at name documents number found h =
     rw place stands.2
 
 -- the number is the source's next one
-not_again : (found : Option ℕ) (next : Answer) (taken : Taken) → by_retry found next ≡ Takes taken → next ≡ Takes taken
+pub not_again : (found : Option ℕ) (next : Answer) (taken : Taken) → by_retry found next ≡ Takes taken → next ≡ Takes taken
 not_again None next taken h = h
 not_again (Some revision) next taken h = absurd (cc)
 
-number_next : (window : Window) (number : ℕ) (next : Answer) (taken : Taken) → by_number window number next ≡ Takes taken
+pub number_next : (window : Window) (number : ℕ) (next : Answer) (taken : Taken) → by_number window number next ≡ Takes taken
     → (number ≡ window.number + 1) × (next ≡ Takes taken)
 number_next window number next taken h =
     let new = not_again (revision_in number window) _ taken h in
@@ -182,7 +180,7 @@ module _ (state : State) (number : ℕ) (found : DocumentRecord) (command : Comm
       let within = taken_within state.limits (units_of found) (sources_of found) asked taken spent.1 in
       let one : follows state.limits found asked ≡ true =
       follows_holds (revision_of found) command.number (window_of command.source (sources_of found)).number _ _ _ _ live next bound spent.0
-      (holds_of _ full.0) (both_hold _ _ within.light within.narrow) in
+      (holds_of _ full.0) (and_from _ _ within.light within.narrow) in
       let continued : continues state.limits (slice_get state.documents number) asked ≡ true = rw (found_at command.name state.documents number found there) one in
       ap (grows state) (sym within.same) ∙ continued
 

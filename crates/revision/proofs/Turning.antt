@@ -1,17 +1,17 @@
 -- What is prepared of a past, as it is kept: each delta leads to what stands after its step; and what comes of it once it is accepted.
-use Rattle.std.proofs.Common.{◌≡◌, ℕ, zero, suc, ◌+◌, ◌-◌, ◌≤◌, ◌<◌, max, Bool, true, false, List, [], ◌∷◌, ◌++◌, length, take, drop, map, get_or, length-append, refl, sym, ap, ap₂, subst, ◌∙◌, true≢false, arith}
+use Rattle.std.proofs.Common.{◌≡◌, ℕ, zero, suc, ◌+◌, ◌-◌, ◌≤◌, ◌<◌, max, Bool, true, false, List, [], ◌∷◌, ◌++◌, length, take, drop, get_or, length-append, refl, sym, ap, ap₂, subst, ◌∙◌, true≢false, arith}
 use Rattle.std.specs.Prelude.{◌||◌, ◌==◌}
 use Rattle.std.proofs.lemmas.List.{drop_all}
 use Rattle.delta.specs.Element.{Element}
 use Rattle.delta.specs.Operation.{Operation}
 use Rattle.delta.specs.Gaps.{counted, apply}
 use Rattle.compose.specs.Many.{applied}
-use Rattle.revision.specs.declared.taker.Taker.{Taker}
+use Rattle.revision.specs.declared.rule.taker.Taker.{Taker}
 use Rattle.revision.specs.Command.{Step, Edits, Deletes, Revives, edits}
-use Rattle.revision.specs.Sources.{Sources, with_taken}
-use Rattle.revision.specs.Past.{Past, Content, Change, Next, own_delta, next_by, nexts_by, changes_by, is_content, suits, live_after, units_after, content_after, content_after_all, LeadsTo, LeadInTurn, newest, newest_content, newest_sources, deltas_of, sources_after, sources_at, content_at, from_floor, with_change, rebased, with_step, with_steps}
+use Rattle.revision.specs.Sources.{with_taken}
+use Rattle.revision.specs.Past.{Past, Content, Change, own_delta, next_by, nexts_by, changes_by, is_content, suits, live_after, units_after, content_after, content_after_all, LeadsTo, LeadInTurn, newest, newest_content, newest_sources, sources_at, content_at, from_floor, rebased, with_step, with_steps}
 use Rattle.revision.specs.Floors.{longer}
-use Rattle.revision.specs.steps.Turning.{turn_or, steps_up_to_turn, turned_floor, live_after_takers, leaves_live, live_by_last}
+use Rattle.revision.specs.steps.Turning.{turn_or, steps_to_last_reset, floor_after_reset, live_after_takers, leaves_live, live_by_last}
 use Rattle.revision.proofs.Floors.{newest-from, from-from, change-from}
 use Rattle.revision.proofs.Changing.{newest-longer, units-longer, sources-longer}
 
@@ -258,15 +258,15 @@ steps-from keep whole floor (taker ∷ takers) (delta ∷ deltas) above there sa
 
 pub floor-is : (keep newest floor : ℕ) (first : Taker) (others : List Taker) → 1 ≤ keep → floor ≤ newest
     → floor_after keep newest floor (first ∷ others)
-    ≡ max (turned_floor newest floor (steps_up_to_turn (first ∷ others))) (newest + length (first ∷ others) - keep)
+    ≡ max (floor_after_reset newest floor (steps_to_last_reset (first ∷ others))) (newest + length (first ∷ others) - keep)
 floor-is keep newest floor first [] some le = by_step first.step where
-  by_step : (step : Step) → next_floor keep newest floor step ≡ max (turned_floor newest floor (turn_or 0 step)) (newest + 1 - keep)
+  by_step : (step : Step) → next_floor keep newest floor step ≡ max (floor_after_reset newest floor (turn_or 0 step)) (newest + 1 - keep)
   by_step Edits = refl
   by_step Deletes = omega arith
   by_step Revives = omega arith
 floor-is keep newest floor first (second ∷ others) some le =
     floor-is keep (newest + 1) (next_floor keep newest floor first.step) second others some (bounded first.step)
-    ∙ by_later (steps_up_to_turn (second ∷ others)) first.step
+    ∙ by_later (steps_to_last_reset (second ∷ others)) first.step
   where
     bounded : (step : Step) → next_floor keep newest floor step ≤ newest + 1
     bounded Edits = omega (arith, le)
@@ -274,17 +274,17 @@ floor-is keep newest floor first (second ∷ others) some le =
     bounded Revives = omega arith
 
     by_later : (later : ℕ) (step : Step)
-        → max (turned_floor (newest + 1) (next_floor keep newest floor step) later) (newest + 1 + length (second ∷ others) - keep)
-        ≡ max (turned_floor newest floor (turn_or later step)) (newest + length (first ∷ second ∷ others) - keep)
+        → max (floor_after_reset (newest + 1) (next_floor keep newest floor step) later) (newest + 1 + length (second ∷ others) - keep)
+        ≡ max (floor_after_reset newest floor (turn_or later step)) (newest + length (first ∷ second ∷ others) - keep)
     by_later zero Edits = omega arith
     by_later zero Deletes = omega arith
     by_later zero Revives = omega arith
     by_later (suc later) step = omega arith
 
 -- no more of them lead up to it than there are
-pub turns-within : (takers : List Taker) → steps_up_to_turn takers ≤ length takers
+pub turns-within : (takers : List Taker) → steps_to_last_reset takers ≤ length takers
 turns-within [] = omega arith
-turns-within (first ∷ others) = by_later (steps_up_to_turn others) first.step (turns-within others)
+turns-within (first ∷ others) = by_later (steps_to_last_reset others) first.step (turns-within others)
   where
     by_later : (later : ℕ) (step : Step) → later ≤ length others → turn_or later step ≤ length (first ∷ others)
     by_later zero Edits le = omega arith
@@ -294,7 +294,7 @@ turns-within (first ∷ others) = by_later (steps_up_to_turn others) first.step 
 
 -- the last of some that edit, and the last of some that doesn't
 pub turn-edits : (n : ℕ) (takers : List Taker) (t : Taker) → n < length takers → t ≡ get_or takers n t → edits t.step ≡ true
-    → steps_up_to_turn (take (suc n) takers) ≡ steps_up_to_turn (take n takers)
+    → steps_to_last_reset (take (suc n) takers) ≡ steps_to_last_reset (take n takers)
 turn-edits n [] t there same edit = absurd (omega (arith, there))
 turn-edits zero (first ∷ others) t there same edit = by_step first.step (ap (λ (u : Taker). edits u.step) (sym same) ∙ edit)
   where
@@ -306,7 +306,7 @@ turn-edits (suc n) (first ∷ others) t there same edit =
     ap (λ l. turn_or l first.step) (turn-edits n others t (omega (arith, there)) same edit)
 
 pub turn-here : (n : ℕ) (takers : List Taker) (t : Taker) → n < length takers → t ≡ get_or takers n t → edits t.step ≡ false
-    → steps_up_to_turn (take (suc n) takers) ≡ suc n
+    → steps_to_last_reset (take (suc n) takers) ≡ suc n
 turn-here n [] t there same other = absurd (omega (arith, there))
 turn-here zero (first ∷ others) t there same other = by_step first.step (ap (λ (u : Taker). edits u.step) (sym same) ∙ other)
   where

@@ -1,5 +1,5 @@
 -- Windows as commands are taken.
-use Rattle.std.proofs.Common.{◌≡◌, ◌⊎◌, inl, inr, ℕ, zero, suc, ◌+◌, ◌-◌, ◌≤◌, ◌<◌, Bool, true, false, cond, List, [], ◌∷◌, ◌++◌, length, drop, Option, Some, None, refl, sym, ap, subst, ◌∙◌, length-append, arith}
+use Rattle.std.proofs.Common.{◌≡◌, inl, inr, ℕ, zero, suc, ◌+◌, ◌-◌, ◌≤◌, ◌<◌, Bool, true, false, cond, List, [], ◌∷◌, ◌++◌, length, drop, Option, Some, None, refl, sym, ap, subst, ◌∙◌, length-append, arith}
 use Rattle.std.specs.Prelude.{◌&&◌, nat_lt, nat_le, slice_get, unwrap_or, min}
 use Rattle.std.proofs.lemmas.Bool.{and_parts, and_from, leb-true, ltb-true, le-leb, lt-ltb, cases_lt}
 use Rattle.std.proofs.lemmas.Bool.Decides.{nat_tests}
@@ -77,10 +77,6 @@ none_outside window number outside = elim (cases_lt window.number (number + leng
       | inl beyond ↦ omega (arith, beyond)
       | inr below ↦ absurd (outside (record { above = above; below = below }))
     ]
-
--- no number above the last one made a revision
-pub none_above : (window : Window) (number : ℕ) → window.number < number → revision_in number window ≡ None
-none_above window number above = none_outside window number (λ is. absurd (omega (arith, above, is.below)))
 
 -- ---- a command more
 

@@ -13,8 +13,8 @@ use Rattle.compose.specs.Many.{applied}
 use Rattle.revision.specs.Late.{late}
 use Rattle.revision.specs.Command.{Step, Edits, Deletes, Revives}
 use Rattle.revision.specs.Sources.{Sources, sources_code, with_taken}
-use Rattle.revision.specs.declared.kept_document.Kept.{Kept}
-use Rattle.revision.specs.declared.taker.Taker.{Taker}
+use Rattle.revision.specs.declared.past.kept_document.Kept.{Kept}
+use Rattle.revision.specs.declared.rule.taker.Taker.{Taker}
 
 -- each delta stands on what those before it leave: the document there has all units that it speaks of, it parts no pair, and
 -- the document after it has at most 2^48 units

@@ -3,7 +3,7 @@ use Rattle.std.specs.Prelude.{◌≡◌, ℕ, Option, Some, None, List, [], refl
 use Rattle.std.specs.Coded.{Coded, code_by, coded×, coded_list, coded_ℕ}
 use Rattle.delta.specs.Element.{Element}
 use Rattle.revision.specs.Sources.{Sources, Table}
-use Rattle.revision.specs.Past.{Past, Prepared, prepared_code, newest, newest_units, newest_sources, prepared_units, sources_after, changes_in, with_steps}
+use Rattle.revision.specs.Past.{Prepared, prepared_code, newest, newest_units, newest_sources, prepared_units, sources_after, changes_in, with_steps}
 use Rattle.revision.specs.State.{DocumentRecord}
 
 -- the document's name, and its past with the changes that are prepared

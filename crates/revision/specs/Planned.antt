@@ -5,10 +5,10 @@ use Rattle.refusal.specs.declared.Refusal.TheVariants.{PastEnd, CutsPair, TooHea
 use Rattle.delta.specs.Element.{Element}
 use Rattle.delta.specs.Operation.{Operation}
 use Rattle.delta.specs.Gaps.{counted, apply}
-use Rattle.revision.specs.declared.planning.Plan as program
-use Rattle.revision.specs.declared.planning.Plan.TheVariants as plans
-use Rattle.revision.specs.declared.planning.Reply as replied
-use Rattle.revision.specs.declared.planning.Reply.TheVariants as replies
+use Rattle.revision.specs.declared.rule.planning.Plan as program
+use Rattle.revision.specs.declared.rule.planning.Plan.TheVariants as plans
+use Rattle.revision.specs.declared.rule.planning.Reply as replied
+use Rattle.revision.specs.declared.rule.planning.Reply.TheVariants as replies
 use Rattle.revision.specs.Command.{Action, Create, Edit, Undo, Delete, Command, Deletes, Taken, width_of}
 use Rattle.revision.specs.Window.{Window}
 use Rattle.revision.specs.Past.{units_after}

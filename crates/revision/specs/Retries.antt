@@ -1,6 +1,6 @@
 -- What holds of windows as commands are taken. It holds of every value, also of such as no program makes. That it is so is promised by
 -- `laws::windows`.
-use Rattle.std.specs.Prelude.{◌≡◌, ◌⊎◌, ℕ, ◌+◌, ◌-◌, ◌≤◌, ◌<◌, min, map, nat_lt, slice_get, if◌then◌else◌, true, List, [], ◌∷◌, length, Option, Some, None}
+use Rattle.std.specs.Prelude.{◌≡◌, ◌⊎◌, ℕ, ◌+◌, ◌-◌, ◌≤◌, ◌<◌, min, map, nat_lt, slice_get, if◌then◌else◌, true, List, length, Some, None}
 use Rattle.revision.specs.Window.{longest, Window, nothing_taken, taken_next, taken_all, revision_in, IsIn}
 use Rattle.revision.specs.Sources.{cut, total_of}
 use Rattle.revision.specs.State.{Limits, last_of_all, is_window, are_sources, window_weight}

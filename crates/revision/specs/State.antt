@@ -3,7 +3,7 @@ use Rattle.std.specs.Prelude.{ℕ, zero, suc, ◌+◌, ◌-◌, ◌*◌, ◌^◌
 use Rattle.attributes.specs.Map.{empty}
 use Rattle.delta.specs.Element.{Element}
 use Rattle.delta.specs.Operation.{Operation}
-use Rattle.delta.specs.Gaps.{counted, apply, units_below}
+use Rattle.delta.specs.Gaps.{counted, units_below}
 use Rattle.document.specs.Weight as document
 use Rattle.revision.specs.Command.{Taken, Step, Edits, Deletes, Revives, edits, width_of}
 use Rattle.revision.specs.Window.{longest, Window, ascend}

@@ -1,5 +1,5 @@
 -- A source's window: its last number, and the revisions that its last numbers made.
-use Rattle.std.specs.Prelude.{◌≡◌, ℕ, ◌+◌, ◌-◌, ◌≤◌, ◌<◌, ◌==◌, nat_lt, nat_le, if◌then◌else◌, ◌&&◌, bytes_eq, Bool, true, Option, Some, None, unwrap_or, List, [], ◌∷◌, ◌++◌, length, drop, slice_get, refl}
+use Rattle.std.specs.Prelude.{◌≡◌, ℕ, ◌+◌, ◌-◌, ◌≤◌, ◌<◌, ◌==◌, nat_lt, nat_le, if◌then◌else◌, ◌&&◌, bytes_eq, Bool, true, Option, None, unwrap_or, List, [], ◌∷◌, ◌++◌, length, drop, slice_get, refl}
 use Rattle.std.specs.Bool.{Decides}
 use Rattle.std.specs.Coded.{Coded, code_by, coded×, coded_list, coded_ℕ}
 use Rattle.std.proofs.Common.{ap}

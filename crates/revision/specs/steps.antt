@@ -6,6 +6,7 @@ pub mod LimitsView
 pub mod PastView
 pub mod Turning
 pub mod Preparing
+pub mod Given
 pub mod Weighing
 pub mod Counting
 pub mod Index

@@ -33,44 +33,15 @@
 //! ```
 #![tactic(auto)]
 
-mod adopting;
-mod batch;
-mod command;
-mod copying;
-mod doc_state;
-mod documents;
-mod growing;
-mod kept_document;
-mod late;
 pub mod laws;
-mod limits;
-mod moved;
-mod name;
-mod names;
 mod past;
-mod planning;
-mod reading;
-mod source_table;
-mod sources;
-mod state;
+mod rule;
 mod step;
-mod taken;
-mod taker;
-mod widths;
-mod window;
 
-pub use batch::Batch;
-pub use command::{Action, Command};
-pub use doc_state::DocState;
-pub use limits::Limits;
-pub use moved::{LateEdit, MovedEdit};
-pub use name::Name;
-pub use past::{Past, Replay};
-pub use planning::{Plan, Reply};
-pub use sources::Sources;
-pub use state::{PreparedState, State, Unprepared};
+pub use past::{
+    DocState, LateEdit, MovedEdit, Past, PrepareError, PreparedState, Replay, Sources, State,
+};
+pub use rule::{
+    Action, Batch, Command, LONGEST, Limits, Name, Plan, Reply, Taken, Taker, Window, delta_width,
+};
 pub use step::Step;
-pub use taken::Taken;
-pub use taker::Taker;
-pub use widths::delta_width;
-pub use window::{LONGEST, Window};

@@ -1,5 +1,5 @@
 //! What a row comes to.
-ghost use Rattle.std.specs.Prelude.{◌≡◌, ◌++◌, codes, decimal, IfOk, IsOkUnless};
+ghost use Rattle.std.specs.Prelude.{◌≡◌, ◌++◌, codes, decimal, IfOk};
 ghost use Rattle.std.specs.String.{string_bytes};
 ghost use Rattle.optext.specs.Answer.{IsAnswer};
 ghost use Rattle.rows.specs.Words.{delta_in};
@@ -11,7 +11,7 @@ use delta::{Delta, MAX_LEN};
 use document::Document;
 use optext::{member_count, read_json, read_ops};
 use refusal::Refusal;
-use std::alloc::Global;
+use std::alloc::{AllocError, Global};
 use utf16::{len16, split_at16};
 use xform::{move_past, transform_position};
 
@@ -62,7 +62,7 @@ fn transform(alloc: Global, first: &str, second: &str, priority: bool) -> Result
 fn moved(alloc: Global, ops: &str, others: &str) -> Result<String, Refusal> {
     let first = read(alloc, ops)?;
     let second = read(alloc, others)?;
-    write_delta(alloc, &move_past(alloc, &first, second)?)
+    Ok(write_delta(alloc, &move_past(alloc, &first, second)?)?)
 }
 
 // the delta that an array of operations describes
@@ -77,7 +77,7 @@ fn read(alloc: Global, ops: &str) -> Result<Delta, Refusal>
 }
 
 fn normal(alloc: Global, ops: &str) -> Result<String, Refusal> {
-    write_delta(alloc, &read(alloc, ops)?)
+    Ok(write_delta(alloc, &read(alloc, ops)?)?)
 }
 
 fn many(alloc: Global, words: &[&str]) -> Result<String, Refusal> {
@@ -85,7 +85,7 @@ fn many(alloc: Global, words: &[&str]) -> Result<String, Refusal> {
     for ops in words {
         deltas.push(read(alloc, ops)?)?;
     }
-    write_delta(alloc, &compose_many(alloc, &deltas)?)
+    Ok(write_delta(alloc, &compose_many(alloc, &deltas)?)?)
 }
 
 fn same(alloc: Global, ops: &str, others: &str) -> Result<String, Refusal> {
@@ -95,25 +95,24 @@ fn same(alloc: Global, ops: &str, others: &str) -> Result<String, Refusal> {
 
 fn lengths(alloc: Global, ops: &str) -> Result<String, Refusal> {
     let delta = read(alloc, ops)?;
-    both(alloc, delta.base_len(), delta.out_len())
+    Ok(both(alloc, delta.base_len(), delta.out_len())?)
 }
 
 fn document(alloc: Global, ops: &str) -> Result<String, Refusal> {
     let document = Document::from_delta(alloc, &read(alloc, ops)?)?;
-    both(alloc, document.len16(), document.weight())
+    Ok(both(alloc, document.len16(), document.weight())?)
 }
 
 fn weighs(alloc: Global, ops: &str, others: &str) -> Result<String, Refusal> {
     let document = Document::from_delta(alloc, &read(alloc, ops)?)?;
     let delta = read(alloc, others)?;
     let told = document.weigh(&delta)?;
-    both(alloc, told, document.after(alloc, &delta)?.weight())
+    Ok(both(alloc, told, document.after(alloc, &delta)?.weight())?)
 }
 
 // two numbers, set apart by a blank
-fn both(alloc: Global, first: u64, second: u64) -> Result<String, Refusal>
+fn both(alloc: Global, first: u64, second: u64) -> Result<String, AllocError>
     ensures text { IfOk result (λ text. string_bytes text ≡ decimal first ++ (codes " " ++ decimal second)) }
-    ensures only { IsOkUnless result Refusal.NoMemory }
 {
     Ok(format!(in alloc; "{first} {second}")?)
 }

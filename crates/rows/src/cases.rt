@@ -115,7 +115,7 @@ fn found(alloc: Global, call: &str, first: &Delta, second: &Delta) -> Result<Del
 fn applied(alloc: Global, start: &Delta, delta: &Delta) -> Result<Delta, Refusal> {
     let mut document = Document::from_delta(alloc, start)?;
     document.apply(alloc, delta)?;
-    document.as_delta(alloc)
+    Ok(document.as_delta(alloc)?)
 }
 
 // the first, the second, and the first again

@@ -35,7 +35,7 @@ impl Numbers {
         match self.below(3) {
             0 => Ok(Value::flag(true)),
             1 => Value::whole(-7),
-            _ => Value::text(alloc, "red"),
+            _ => Ok(Value::text(alloc, "red")?),
         }
     }
 

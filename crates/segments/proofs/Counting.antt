@@ -1,5 +1,5 @@
 -- How many slots are open.
-use Rattle.std.proofs.Common.{ℕ, ◌+◌, ◌≤◌, Option, Some, None, List, [], ◌∷◌, length, arith}
+use Rattle.std.proofs.Common.{ℕ, ◌≤◌, Option, Some, None, List, [], ◌∷◌, length, arith}
 use Rattle.segments.specs.Numbers.{open_count}
 
 -- no more than there are

@@ -15,3 +15,4 @@ pub mod TablesRead
 pub mod Gathering
 pub mod RingsRead
 pub mod Counting
+pub mod Costing

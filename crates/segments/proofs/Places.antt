@@ -1,23 +1,17 @@
 -- Bytes that stay where other bytes of a content change.
 use Rattle.std.proofs.Common.{◌≡◌, ◌≢◌, inl, inr, ℕ, ◌+◌, ◌-◌, ◌*◌, ◌≤◌, ◌<◌, List, take, drop, get_or, sym, ◌∙◌, ap, arith}
 use Rattle.std.proofs.lemmas.Bool.{cases_lt}
-use Rattle.std.proofs.lemmas.List.{take-take, drop-take, drop-drop, get_or-take, get_or-drop}
+use Rattle.std.proofs.lemmas.List.{drop-drop, get_or-take, get_or-drop}
 use Rattle.std.proofs.Math.Nat.{mul-le-mul_right}
 use Rattle.disk.specs.Device.{SameOutside}
 use Rattle.segments.specs.Table.{slot_bytes}
+pub use Rattle.disk.proofs.CallerLemmas.{range_before}
 
 -- a slot lies before the end of all of them
 pub slot_before : (k count size : ℕ) → k < count → k * size + size ≤ count * size
 slot_before k count size below =
     let above : k + 1 ≤ count = omega arith in
     omega (arith, mul-le-mul_right size above)
-
--- a range before a place
-pub range_before : (p n q : ℕ) (old new : List ℕ) → p + n ≤ q → take q new ≡ take q old → take n (drop p new) ≡ take n (drop p old)
-range_before p n q old new ends same =
-    let part : (l : List ℕ) → take n (drop p l) ≡ drop p (take (p + n) (take q l)) =
-    λ l. sym (drop-take p n l) ∙ ap (λ (m : List ℕ). drop p m) (sym (take-take (p + n) q l ends)) in
-    part new ∙ ap (λ (l : List ℕ). drop p (take (p + n) l)) same ∙ sym (part old)
 
 -- what is behind a place
 pub rest_behind : (q p : ℕ) (old new : List ℕ) → q ≤ p → drop q new ≡ drop q old → drop p new ≡ drop p old

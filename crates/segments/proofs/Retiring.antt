@@ -1,19 +1,37 @@
 -- What closing the gate of the oldest segment's slot makes of the table.
 use Rattle.std.proofs.Common.{◌≡◌, inl, inr, ⊎_elim, ℕ, ◌+◌, ◌-◌, ◌≤◌, ◌<◌, Option, Some, None, List, [], ◌∷◌, length, set, get_or, refl, sym, ◌∙◌, ap, subst, arith}
+use Rattle.std.specs.Prelude.{◌⊎◌}
 use Rattle.std.proofs.lemmas.List.{get_or-set_other}
-use Rattle.disk.specs.Device.{overwritten, SameOutside}
+use Rattle.disk.specs.Device.{History, IsWrite, IsAtMostOneStep, NoStep, OneStep, overwritten, SameOutside}
 use Rattle.disk.proofs.CallerLemmas.{overwritten_same_outside, byte_overwritten, same_outside_wider}
 use Rattle.journal.specs.Area.{Place}
 use Rattle.segments.specs.Slot.{Segment, HoldsSegment, HoldsSlot}
 use Rattle.segments.specs.Numbers.{open_count, NumbersDiffer, IsNewest, IsOldest}
 use Rattle.segments.specs.Table.{slot_place, slot_at, slot_bytes, numbers_of, HoldsTable, IsRetired}
 use Rattle.segments.specs.declared.ring.Ring.{Ring}
-use Rattle.segments.specs.Ring.{known_numbers, ring_size, end_of, KnowsNewest, Fits, FitsNow, IsLeftByRetiring}
+use Rattle.segments.specs.Ring.{known_numbers, ring_size, end_of, KnowsNewest, Fits, FitsNow, IsLeftByRetiring, IsSameButOldest}
 use Rattle.segments.proofs.Places.{slot_before, first_byte}
 use Rattle.segments.proofs.Slots.{gate_written}
 use Rattle.segments.proofs.Numbering.{differ_set, newest_is_not_oldest, newest_stays}
 use Rattle.segments.proofs.Tables.{number_held, numbers_set, numbers_long, segment_held, slot_there, kept, changed, within_ring}
 use Rattle.segments.proofs.Rings.{fits_later}
+
+-- a write, good or not, has changed nothing, or its range alone
+write_outside : (at count : ℕ) (old new : History) → IsAtMostOneStep (IsWrite at count) old new → (new.now.seen ≡ old.now.seen) ⊎ SameOutside at count old.now.seen new.now.seen
+write_outside at count old new (NoStep same) = inl (ap (λ (h : History). h.now.seen) same)
+write_outside at count old new (OneStep more step) = inr step.seen
+
+pub gate_outside : (ring : Ring) (slot number at : ℕ) → IsOldest (known_numbers ring) slot number → at ≡ slot_place ring.at ring.size slot
+    → (old new : History) → IsAtMostOneStep (IsWrite at 1) old new → (last : List ℕ) → last ≡ new.now.seen → IsSameButOldest ring old.now.seen last
+gate_outside ring slot number at oldest is old new time last same = ⊎_elim
+    (λ still. inl (same ∙ still))
+    (λ written. inr (
+      slot,
+      number,
+      oldest,
+      subst (λ n. SameOutside n 1 old.now.seen last) is (subst (λ (l : List ℕ). SameOutside at 1 old.now.seen l) (sym same) written),
+    ))
+    (write_outside at 1 old new time)
 
 module _ (old : List ℕ) (ring : Ring) (table : List (Option Segment)) (fits : Fits old ring table) (within : end_of ring ≤ length old)
     (slot number : ℕ) (oldest : IsOldest (known_numbers ring) slot number) (two : 2 ≤ open_count (known_numbers ring)) where

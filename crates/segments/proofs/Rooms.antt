@@ -9,6 +9,7 @@ use Rattle.segments.specs.Laws.{OpenedDiffers, FullRing}
 use Rattle.segments.specs.Ring.{known_numbers, fits_newest}
 use Rattle.segments.proofs.Numbering.{next_differs}
 use Rattle.segments.proofs.Tables.{numbers_set}
+use Rattle.std.proofs.lemmas.Bool.{false_from_ne_true}
 
 -- a closed gate is told, and is there where it is told
 closed_told : (numbers : List (Option ℕ)) (slot : ℕ) → slot < length numbers → number_at numbers slot ≡ None → has_closed numbers ≡ true
@@ -37,12 +38,8 @@ free_there numbers told =
     let closed = closed_there numbers both.0 in
     (closed.0, record { there = closed.1; closed = closed.2; next = grind (arith, nat_tests, both.1) })
 
-not_true : (b : Bool) → (b ≡ true → ⊥) → b ≡ false
-not_true true no_way = absurd (no_way refl)
-not_true false no_way = refl
-
 pub full_told : (numbers : List (Option ℕ)) → IsFull numbers → has_free numbers ≡ false
-full_told numbers full = not_true (has_free numbers) (λ told. let free = free_there numbers told in full free.0 free.1)
+full_told numbers full = false_from_ne_true (has_free numbers) (λ told. let free = free_there numbers told in full free.0 free.1)
 
 pub told_full : (numbers : List (Option ℕ)) → has_free numbers ≡ false → IsFull numbers
 told_full numbers told slot free = let both : true ≡ false = sym (free_told numbers slot free) ∙ told in absurd cc

@@ -3,6 +3,7 @@ pub mod Numbers
 pub mod Table
 pub mod Order
 pub mod Ring
+pub mod RingCalls
 pub mod Room
 pub mod Recovered
 pub mod Laws

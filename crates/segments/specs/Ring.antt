@@ -4,7 +4,7 @@ use Rattle.disk.specs.Device.{SameOutside}
 use Rattle.journal.specs.Area.{Place, open_records}
 use Rattle.segments.specs.declared.ring.Ring.{Ring}
 use Rattle.segments.specs.Slot.{Segment}
-use Rattle.segments.specs.Numbers.{IsNewest, IsNext, open_count}
+use Rattle.segments.specs.Numbers.{IsNewest, IsNext, IsOldest, open_count}
 use Rattle.segments.specs.Table.{slot_place, slot_at, numbers_of, HoldsTable, IsOpened, IsAppended, IsRetired}
 
 -- where the first slot lies, how many bytes each has, and the number of each that is open
@@ -110,6 +110,12 @@ abbrev pub IsLeftByRetiring : List ℕ → Ring → List (Option Segment) → Li
 IsLeftByRetiring old ring table content =
     HoldsInRing old ring table content
     ⊎ ((after : List (Option Segment)) × IsRetired table after × HoldsInRing old ring after content)
+
+-- Nothing has changed but the gate of the slot of the oldest segment.
+abbrev pub IsSameButOldest : Ring → List ℕ → List ℕ → Type 0
+IsSameButOldest ring old new =
+    (new ≡ old)
+    ⊎ ((slot : ℕ) × (number : ℕ) × IsOldest (known_numbers ring) slot number × SameOutside (slot_place (at_of ring) (size_of ring) slot) 1 old new)
 
 -- A call that is done: outside the slots nothing has changed, and the new ring is that of a content with this table.
 pub record FitsNow (old : List ℕ) (before : Ring) (new : List ℕ) (after : Ring) (table : List (Option Segment)) : Type 0 where

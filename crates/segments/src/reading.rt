@@ -1,5 +1,6 @@
 //! Reading what the slots hold.
-ghost use Rattle.std.specs.Prelude.{◌≡◌, ◌⊎◌, ◌+◌, ◌-◌, ◌*◌, ◌<◌, ◌≤◌, ◌^◌, ℕ, Option, Some, None, length, take, drop, OnOk, IfOk, IfErr, IfSome};
+ghost use Rattle.std.specs.Prelude.{◌≡◌, ◌+◌, ◌-◌, ◌*◌, ◌<◌, ◌≤◌, ◌^◌, Option, Some, None, length, take, drop, OnOk, IfOk, IfErr, [], ◌∷◌};
+ghost use Rattle.refusal.specs.Refusal.{IsOneOf};
 ghost use Rattle.std.specs.Int.{w64, to_le_bytes};
 ghost use Rattle.segments.specs.Slot.{Segment, HoldsSlot};
 ghost use Rattle.segments.specs.steps.Reading.{segment_of, KnowsArea, KnowsNext, AreRead, KnowAreas, IsDamaged, number_read, area_read, IsNewestRead};
@@ -10,7 +11,7 @@ use crate::numbers::newest;
 use disk::Disk;
 use journal::{Area, OPEN};
 use refusal::Refusal;
-use std::alloc::Global;
+use std::alloc::{AllocError, Global};
 
 /// What was read of an open slot: the segment's number, its area, and the bodies of its records.
 #[derive(Drop)]
@@ -46,7 +47,7 @@ fn read_slot<D: Disk>(
     ensures next { IfOk result (λ slot. D.honest disk.new → KnowsNext slot) }
     ensures damaged { IfErr result (λ e. e ≡ Refusal.Damaged → D.honest disk.new
         → (slot : Option Segment) → ¬ HoldsSlot (take size (drop at (D.seen disk.old))) slot) }
-    ensures only { IfErr result (λ e. (e ≡ Refusal.Damaged) ⊎ ((e ≡ Refusal.NoMemory) ⊎ (e ≡ Refusal.Fault))) }
+    ensures only { IfErr result (λ e. IsOneOf e (Refusal.Damaged ∷ Refusal.NoMemory ∷ Refusal.Fault ∷ [])) }
     ensures only_read { HasOnlyRead ⟦<D as Disk>⟧ disk.old disk.new }
     ensures faults { CountsFaultsAs ⟦<D as Disk>⟧ Refusal.Fault result disk.old disk.new }
 {
@@ -107,7 +108,7 @@ pub fn read_slots<D: Disk>(
     ensures areas { IfOk result (λ slots. KnowAreas at size slots.items count) }
     ensures damaged { IfErr result (λ e. e ≡ Refusal.Damaged → D.honest disk.new
         → IsDamaged at size count (D.seen disk.old)) }
-    ensures only { IfErr result (λ e. (e ≡ Refusal.Damaged) ⊎ ((e ≡ Refusal.NoMemory) ⊎ (e ≡ Refusal.Fault))) }
+    ensures only { IfErr result (λ e. IsOneOf e (Refusal.Damaged ∷ Refusal.NoMemory ∷ Refusal.Fault ∷ [])) }
     ensures only_read { HasOnlyRead ⟦<D as Disk>⟧ disk.old disk.new }
     ensures faults { CountsFaultsAs ⟦<D as Disk>⟧ Refusal.Fault result disk.old disk.new }
 {
@@ -120,9 +121,11 @@ pub fn read_slots<D: Disk>(
 }
 
 /// The number of each slot that is open.
-pub fn numbers_of(alloc: Global, slots: &[Option<ReadSegment>]) -> Result<Vec<Option<u64>>, Refusal>
+pub fn numbers_of(
+    alloc: Global,
+    slots: &[Option<ReadSegment>],
+) -> Result<Vec<Option<u64>>, AllocError>
     ensures numbers { IfOk result (λ v. v.items ≡ map number_read slots.now) }
-    ensures only { IfErr result (λ e. e ≡ Refusal.NoMemory) }
 {
     let mut numbers = Vec::with_capacity(alloc, slots.len())?;
     for slot in slots {

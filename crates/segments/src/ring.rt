@@ -1,9 +1,10 @@
 //! The ring of slots, as it is known in memory.
-ghost use Rattle.std.specs.Prelude.{◌≡◌, ◌⊎◌, ◌↔◌, ℕ, ◌+◌, ◌-◌, ◌*◌, ◌^◌, ◌<◌, ◌≤◌, Option, Some, None, List, [], ◌∷◌, ◌++◌, set, true, false, length, OnOk, OnErr, IsErrOf, IfErr, IfOk, IfSome};
+ghost use Rattle.std.specs.Prelude.{◌≡◌, ◌↔◌, ℕ, ◌+◌, ◌-◌, ◌*◌, ◌^◌, ◌<◌, ◌≤◌, Option, Some, None, List, [], ◌∷◌, ◌++◌, true, false, length, OnOk, OnErr, IfErr, IfOk, IfSome};
+ghost use Rattle.refusal.specs.Refusal.{IsOneOf};
 ghost use Rattle.std.specs.Int.{w64, to_le_bytes};
 ghost use Rattle.std.specs.Option.{ForSome};
-ghost use Rattle.disk.specs.Calls.{HasOnlyRead, HasOnlyWritten, CountsFaults, CountsFaultsAs};
-ghost use Rattle.disk.specs.Counted.{calls_of, syncs_of};
+ghost use Rattle.disk.specs.Calls.{HasOnlyRead, HasOnlyWritten, CountsFaultsAs};
+ghost use Rattle.disk.specs.Counted.{CostsInAll};
 
 use crate::numbers::{differ, newest, next_slot, oldest_of_two};
 use crate::order::in_order;
@@ -43,12 +44,12 @@ pub struct RecoveredRing {
 
 impl Ring {
     ghost use Rattle.disk.specs.Crash.{LeavesOnly};
-    ghost use Rattle.journal.specs.Area.{Place};
     ghost use Rattle.segments.specs.Slot.{Segment};
-    ghost use Rattle.segments.specs.Numbers.{IsFull, IsNext, IsNewest, IsOldest, number_at, open_count};
+    ghost use Rattle.segments.specs.Numbers.{IsFull, IsNewest, IsOldest, number_at, open_count};
     ghost use Rattle.segments.specs.Numbers.{newest_number};
-    ghost use Rattle.segments.specs.Table.{slot_place, HoldsTable, IsOpened, IsAppended, IsRetired};
-    ghost use Rattle.segments.specs.Ring.{at_of, size_of, known_numbers, end_of, fits_newest, used_bytes, Fits, FitsNow, SamePlaces, IsSameOrOpened, IsReady, IsLeftByOpening, IsLeftReady, IsLeftByAppend, IsLeftByRetiring};
+    ghost use Rattle.segments.specs.Table.{slot_place, HoldsTable};
+    ghost use Rattle.segments.specs.Ring.{at_of, size_of, known_numbers, end_of, fits_newest, used_bytes, Fits, SamePlaces, IsSameOrOpened, IsLeftByOpening, IsLeftReady, IsLeftByAppend, IsLeftByRetiring, IsSameButOldest};
+    ghost use Rattle.segments.specs.RingCalls.{IsRefusedExactly, KeepsSlots, SlotIsOpened, AreaIsReady, BodyIsAppended, OldestIsRetired, CostsByRoom};
     ghost use Rattle.segments.specs.Recovered.{IsReadAs};
     ghost use Rattle.segments.specs.Room.{has_room_for};
 
@@ -72,7 +73,7 @@ impl Ring {
             × ((size_of read.ring ≡ size) × (length (known_numbers read.ring) ≡ count))) }
         ensures damaged { IfErr result (λ e. e ≡ Refusal.Damaged → D.honest disk.new
             → (table : List (Option Segment)) → length table ≡ count → ¬ HoldsTable at size (D.seen disk.old) table) }
-        ensures only { IfErr result (λ e. (e ≡ Refusal.Damaged) ⊎ ((e ≡ Refusal.NoMemory) ⊎ (e ≡ Refusal.Fault))) }
+        ensures only { IfErr result (λ e. IsOneOf e (Refusal.Damaged ∷ Refusal.NoMemory ∷ Refusal.Fault ∷ [])) }
         ensures only_read { HasOnlyRead ⟦<D as Disk>⟧ disk.old disk.new }
         ensures faults { CountsFaultsAs ⟦<D as Disk>⟧ Refusal.Fault result disk.old disk.new }
     {
@@ -98,31 +99,18 @@ impl Ring {
     pub fn open_slot<D: Disk>(&mut self, disk: &mut D) -> Result<(), Refusal>
         requires within { end_of self.old ≤ length (D.seen disk.old) }
 
-        ensures full { IsErrOf result Refusal.JournalFull ↔ IsFull (known_numbers self.old) }
-        ensures untouched { IsErrOf result Refusal.JournalFull → disk.new ≡ disk.old }
-        ensures only { IfErr result (λ e. (e ≡ Refusal.JournalFull) ⊎ (e ≡ Refusal.Fault)) }
-        ensures err { OnErr result (self.new ≡ self.old) }
-
-        // Which slot it takes, under which number.
-        ensures takes { OnOk result ((slot : ℕ) × (number : ℕ) × IsNext (known_numbers self.old) slot number
-            × (known_numbers self.new ≡ set (known_numbers self.old) slot (Some number))) }
-        ensures places { SamePlaces self.old self.new }
-        // Each body that a slot can hold fits into the one that was opened.
-        ensures room { OnOk result ((len : ℕ) → len + 15 ≤ size_of self.old → fits_newest self.new len ≡ true) }
+        ensures refused { IsRefusedExactly Refusal.JournalFull (IsFull (known_numbers self.old)) result
+            self.old self.new disk.old disk.new }
+        ensures slots { KeepsSlots result self.old self.new }
 
         // Whatever the slots held: a crash at any moment leaves that, or that with the next slot open and empty.
         ensures any_moment { (table : List (Option Segment)) → D.unsynced disk.old ≡ []
             → Fits (D.seen disk.old) self.old table
             → LeavesOnly ⟦<D as Disk>⟧ (IsLeftByOpening (D.seen disk.old) self.old table) disk.old disk.new }
-        ensures done { OnOk result ((table : List (Option Segment)) → Fits (D.seen disk.old) self.old table
-            → (after : List (Option Segment)) × IsOpened table after
-            × FitsNow (D.seen disk.old) self.old (D.seen disk.new) self.new after) }
-        ensures synced { OnOk result (D.unsynced disk.new ≡ []) }
+        ensures opened { OnOk result (SlotIsOpened ⟦<D as Disk>⟧ self.old self.new disk.old disk.new) }
 
         // Four calls of the device at most, good or not, and of these two syncs.
-        ensures calls { length (D.past disk.new) ≤ length (D.past disk.old) + 4 }
-        ensures every_call { calls_of ⟦<D as Disk>⟧ disk.new ≤ calls_of ⟦<D as Disk>⟧ disk.old + 4 }
-        ensures syncs { syncs_of ⟦<D as Disk>⟧ disk.new ≤ syncs_of ⟦<D as Disk>⟧ disk.old + 2 }
+        ensures costs { CostsInAll ⟦<D as Disk>⟧ 4 2 disk.old disk.new }
         ensures only_written { HasOnlyWritten ⟦<D as Disk>⟧ disk.old disk.new }
         ensures faults { CountsFaultsAs ⟦<D as Disk>⟧ Refusal.Fault result disk.old disk.new }
     {
@@ -143,10 +131,9 @@ impl Ring {
         requires within { end_of self.old ≤ length (D.seen disk.old) }
         requires fits { length added.now + 15 ≤ size_of self.old }
 
-        ensures full { IsErrOf result Refusal.JournalFull ↔ (fits_newest self.old (length added.now) ≡ false)
-            × IsFull (known_numbers self.old) }
-        ensures untouched { IsErrOf result Refusal.JournalFull → (disk.new ≡ disk.old) × (self.new ≡ self.old) }
-        ensures only { IfErr result (λ e. (e ≡ Refusal.JournalFull) ⊎ (e ≡ Refusal.Fault)) }
+        ensures refused { IsRefusedExactly Refusal.JournalFull
+            ((fits_newest self.old (length added.now) ≡ false) × IsFull (known_numbers self.old)) result
+            self.old self.new disk.old disk.new }
         ensures err { OnErr result (IsSameOrOpened self.old self.new) }
         ensures places { SamePlaces self.old self.new }
 
@@ -155,22 +142,11 @@ impl Ring {
         ensures any_moment { (table : List (Option Segment)) → D.unsynced disk.old ≡ []
             → Fits (D.seen disk.old) self.old table
             → LeavesOnly ⟦<D as Disk>⟧ (IsLeftByAppend (D.seen disk.old) self.old table added.now) disk.old disk.new }
-        ensures done { OnOk result ((table : List (Option Segment)) → Fits (D.seen disk.old) self.old table
-            → (ready : List (Option Segment)) × IsReady self.old (length added.now) table ready
-            × (after : List (Option Segment)) × IsAppended ready added.now after
-            × FitsNow (D.seen disk.old) self.old (D.seen disk.new) self.new after) }
-        ensures synced { OnOk result (D.unsynced disk.new ≡ []) }
+        ensures appended { OnOk result
+            (BodyIsAppended ⟦<D as Disk>⟧ added.now self.old self.new disk.old disk.new) }
 
-        // Four calls of the device at most, of these two syncs, and as many again where a slot is opened. A call that fails is counted too.
-        ensures calls { length (D.past disk.new) ≤ length (D.past disk.old) + 8 }
-        ensures calls_where_it_fits { fits_newest self.old (length added.now) ≡ true
-            → length (D.past disk.new) ≤ length (D.past disk.old) + 4 }
-        ensures every_call { calls_of ⟦<D as Disk>⟧ disk.new ≤ calls_of ⟦<D as Disk>⟧ disk.old + 8 }
-        ensures every_call_where_it_fits { fits_newest self.old (length added.now) ≡ true
-            → calls_of ⟦<D as Disk>⟧ disk.new ≤ calls_of ⟦<D as Disk>⟧ disk.old + 4 }
-        ensures syncs { syncs_of ⟦<D as Disk>⟧ disk.new ≤ syncs_of ⟦<D as Disk>⟧ disk.old + 4 }
-        ensures syncs_where_it_fits { fits_newest self.old (length added.now) ≡ true
-            → syncs_of ⟦<D as Disk>⟧ disk.new ≤ syncs_of ⟦<D as Disk>⟧ disk.old + 2 }
+        // Four calls of the device at most, of these two syncs, and as many again where a slot is opened.
+        ensures costs { CostsByRoom ⟦<D as Disk>⟧ (fits_newest self.old (length added.now)) disk.old disk.new }
         ensures only_written { HasOnlyWritten ⟦<D as Disk>⟧ disk.old disk.new }
         ensures faults { CountsFaultsAs ⟦<D as Disk>⟧ Refusal.Fault result disk.old disk.new }
     {
@@ -185,27 +161,19 @@ impl Ring {
         requires within { end_of self.old ≤ length (D.seen disk.old) }
         requires fits { len + 15 ≤ size_of self.old }
 
-        ensures full { IsErrOf result Refusal.JournalFull ↔ (fits_newest self.old len ≡ false)
-            × IsFull (known_numbers self.old) }
-        ensures untouched { IsErrOf result Refusal.JournalFull → disk.new ≡ disk.old }
-        ensures only { IfErr result (λ e. (e ≡ Refusal.JournalFull) ⊎ (e ≡ Refusal.Fault)) }
-        ensures err { OnErr result (self.new ≡ self.old) }
-        ensures newest { IfOk result (λ area. (self.new.newest ≡ Some area) × (area.next + 6 + len ≤ area.size)) }
+        ensures refused { IsRefusedExactly Refusal.JournalFull
+            ((fits_newest self.old len ≡ false) × IsFull (known_numbers self.old)) result
+            self.old self.new disk.old disk.new }
+        ensures slots { KeepsSlots result self.old self.new }
         ensures kept { fits_newest self.old len ≡ true → (disk.new ≡ disk.old) × (self.new ≡ self.old) }
-        ensures takes { IsSameOrOpened self.old self.new }
-        ensures places { SamePlaces self.old self.new }
 
         ensures any_moment { (table : List (Option Segment)) → D.unsynced disk.old ≡ []
             → Fits (D.seen disk.old) self.old table
             → LeavesOnly ⟦<D as Disk>⟧ (IsLeftReady (D.seen disk.old) self.old len table) disk.old disk.new }
-        ensures done { OnOk result ((table : List (Option Segment)) → Fits (D.seen disk.old) self.old table
-            → (ready : List (Option Segment)) × IsReady self.old len table ready
-            × FitsNow (D.seen disk.old) self.old (D.seen disk.new) self.new ready) }
-        ensures synced { OnOk result (D.unsynced disk.old ≡ [] → D.unsynced disk.new ≡ []) }
+        ensures ready { IfOk result (λ area.
+            AreaIsReady ⟦<D as Disk>⟧ len area self.old self.new disk.old disk.new) }
 
-        ensures calls { length (D.past disk.new) ≤ length (D.past disk.old) + 4 }
-        ensures every_call { calls_of ⟦<D as Disk>⟧ disk.new ≤ calls_of ⟦<D as Disk>⟧ disk.old + 4 }
-        ensures syncs { syncs_of ⟦<D as Disk>⟧ disk.new ≤ syncs_of ⟦<D as Disk>⟧ disk.old + 2 }
+        ensures costs { CostsInAll ⟦<D as Disk>⟧ 4 2 disk.old disk.new }
         ensures only_written { HasOnlyWritten ⟦<D as Disk>⟧ disk.old disk.new }
         ensures faults { CountsFaultsAs ⟦<D as Disk>⟧ Refusal.Fault result disk.old disk.new }
     {
@@ -300,28 +268,19 @@ impl Ring {
     pub fn retire_oldest<D: Disk>(&mut self, disk: &mut D) -> Result<(), Refusal>
         requires within { end_of self.old ≤ length (D.seen disk.old) }
 
-        ensures needed { IsErrOf result Refusal.StillNeeded ↔ (open_count (known_numbers self.old) < 2) }
-        ensures untouched { IsErrOf result Refusal.StillNeeded → disk.new ≡ disk.old }
-        ensures only { IfErr result (λ e. (e ≡ Refusal.StillNeeded) ⊎ (e ≡ Refusal.Fault)) }
-        ensures err { OnErr result (self.new ≡ self.old) }
-
-        // Which slot it closes.
-        ensures takes { OnOk result ((slot : ℕ) × (number : ℕ) × IsOldest (known_numbers self.old) slot number
-            × (known_numbers self.new ≡ set (known_numbers self.old) slot None)) }
-        ensures places { SamePlaces self.old self.new }
+        ensures refused { IsRefusedExactly Refusal.StillNeeded (open_count (known_numbers self.old) < 2) result
+            self.old self.new disk.old disk.new }
+        ensures slots { KeepsSlots result self.old self.new }
 
         // Whatever the slots held: a crash at any moment leaves that, or that without the oldest segment.
         ensures any_moment { (table : List (Option Segment)) → D.unsynced disk.old ≡ []
             → Fits (D.seen disk.old) self.old table
             → LeavesOnly ⟦<D as Disk>⟧ (IsLeftByRetiring (D.seen disk.old) self.old table) disk.old disk.new }
-        ensures done { OnOk result ((table : List (Option Segment)) → Fits (D.seen disk.old) self.old table
-            → (after : List (Option Segment)) × IsRetired table after
-            × FitsNow (D.seen disk.old) self.old (D.seen disk.new) self.new after) }
-        ensures synced { OnOk result (D.unsynced disk.new ≡ []) }
+        ensures retired { OnOk result (OldestIsRetired ⟦<D as Disk>⟧ self.old self.new disk.old disk.new) }
+        ensures outside { IsSameButOldest self.old (D.seen disk.old) (D.seen disk.new) }
 
-        // Two calls of the device at most. A call that fails is counted as a sync too.
-        ensures calls { length (D.past disk.new) ≤ length (D.past disk.old) + 2 }
-        ensures syncs { syncs_of ⟦<D as Disk>⟧ disk.new ≤ syncs_of ⟦<D as Disk>⟧ disk.old + 2 }
+        // Two calls of the device at most, good or not.
+        ensures costs { CostsInAll ⟦<D as Disk>⟧ 2 2 disk.old disk.new }
         ensures only_written { HasOnlyWritten ⟦<D as Disk>⟧ disk.old disk.new }
         ensures faults { CountsFaultsAs ⟦<D as Disk>⟧ Refusal.Fault result disk.old disk.new }
     {

@@ -11,7 +11,7 @@ ghost use Rattle.server.specs.Calls.{Call, Found, Missed, Unseen, Opened, Failed
 
 use crate::notes::Notes;
 use crate::standard::Standard;
-use disk::{Disk, FileDisk, FileFault};
+use disk::{Disk, FileDisk, FileError};
 use std::fs::{self, File, Permissions};
 use std::io;
 use std::net::{Net, SocketAddr, TcpListener, TcpStream};
@@ -62,14 +62,14 @@ pub(crate) trait Calls {
         ensures failed { OnErr result (made self.new ≡ Unseen path.now ∷ made self.old) };
 
     /// A device over a file that is there, which is locked. A missing one isn't made.
-    fn open(&mut self, path: &str) -> Result<FileDisk, FileFault>
+    fn open(&mut self, path: &str) -> Result<FileDisk, FileError>
         ensures good { OnOk result (made self.new ≡ Opened path.now ∷ made self.old) }
         ensures untouched { IfOk result (λ disk. ⟦<FileDisk as Disk>⟧.past disk ≡ []) }
         ensures failed { OnErr result (made self.new ≡ FailedOpening path.now ∷ made self.old) };
 
     /// A device of so many zeros over a new file, which is locked, and its owner's alone where the file system has rights. One that is there
     /// isn't touched, and the call fails.
-    fn make(&mut self, path: &str, len: u64) -> Result<FileDisk, FileFault>
+    fn make(&mut self, path: &str, len: u64) -> Result<FileDisk, FileError>
         ensures good { OnOk result (made self.new ≡ Made path.now ∷ made self.old) }
         ensures failed { OnErr result (made self.new ≡ FailedMaking path.now ∷ made self.old) };
 
@@ -129,7 +129,7 @@ impl<R: Files<File = File> + Net<Listener = TcpListener, Stream = TcpStream>> Ca
         }
     }
 
-    fn open(&mut self, path: &str) -> Result<FileDisk, FileFault> {
+    fn open(&mut self, path: &str) -> Result<FileDisk, FileError> {
         match FileDisk::open(self.rt, path) {
             Ok(disk) => {
                 self.notes.note(&[OPENED], path.as_bytes());
@@ -142,7 +142,7 @@ impl<R: Files<File = File> + Net<Listener = TcpListener, Stream = TcpStream>> Ca
         }
     }
 
-    fn make(&mut self, path: &str, len: u64) -> Result<FileDisk, FileFault> {
+    fn make(&mut self, path: &str, len: u64) -> Result<FileDisk, FileError> {
         match FileDisk::create(self.rt, path, len) {
             Ok(disk) => {
                 let _ = fs::set_permissions(self.rt, path, Permissions::from_mode(OWNER_ALONE));

@@ -16,7 +16,7 @@ use disk::Disk;
 use recovery::{OpenFault, Pick, Store};
 use refusal::Refusal;
 use revision::{DocState, State};
-use serving::Failure;
+use serving::ServingError;
 use session::Output;
 use std::alloc::{AllocError, Global};
 
@@ -36,7 +36,7 @@ pub fn dump_store<D: Disk, O: Output>(
     let store = match Store::open(alloc, disk, pick) {
         Ok(store) => store,
         Err(OpenFault { disk, refusal }) => {
-            let done = Err(Failure::Refused(refusal));
+            let done = Err(ServingError::Refused(refusal));
             return Printed { disk, done };
         }
     };
@@ -49,15 +49,15 @@ pub fn dump_store<D: Disk, O: Output>(
 
 /// Writes one line for each document, in order of creation: name, revision, floor and operations, or `deleted`. Ends where a write
 /// fails (`Stream`), or with `NoMemory`, and then a prefix of the lines is written.
-pub fn dump<O: Output>(alloc: Global, state: &State, output: &mut O) -> Result<(), Failure>
+pub fn dump<O: Output>(alloc: Global, state: &State, output: &mut O) -> Result<(), ServingError>
     ensures dumped { OnOk result (Appends (O.contents output.old) (O.contents output.new)
         (spec.dump_of state.now.documents)) }
-    ensures only { IfErr result (λ e. (e ≡ Failure.Stream) ⊎ (e ≡ Failure.Refused Refusal.NoMemory)) }
+    ensures only { IfErr result (λ e. (e ≡ ServingError.Stream) ⊎ (e ≡ ServingError.Refused Refusal.NoMemory)) }
     ensures front { OnErr result (AppendsFront (O.contents output.old) (O.contents output.new)
         (spec.dump_of state.now.documents)) }
     // It is the output that fails where a write fails, and where memory runs out no write has failed.
-    ensures cause { IsErrOf result Failure.Stream → O.has_failed output.new ≡ true }
-    ensures no_memory { IsErrOf result (Failure.Refused Refusal.NoMemory)
+    ensures cause { IsErrOf result ServingError.Stream → O.has_failed output.new ≡ true }
+    ensures no_memory { IsErrOf result (ServingError.Refused Refusal.NoMemory)
         → O.has_failed output.new ≡ O.has_failed output.old }
 {
     for document in state.documents() {
@@ -68,9 +68,8 @@ pub fn dump<O: Output>(alloc: Global, state: &State, output: &mut O) -> Result<(
     Ok(())
 }
 
-fn line_of(alloc: Global, document: &DocState) -> Result<String, Refusal>
+fn line_of(alloc: Global, document: &DocState) -> Result<String, AllocError>
     ensures ok { IfOk result (λ line. string_bytes line ≡ spec.document_line (record_of document.now)) }
-    ensures only { IfErr result (λ e. e ≡ Refusal.NoMemory) }
 {
     let content = content_text(alloc, document)?;
     let name = document.name().as_str();
@@ -79,9 +78,8 @@ fn line_of(alloc: Global, document: &DocState) -> Result<String, Refusal>
 }
 
 // what stands in a document, or that it is deleted
-fn content_text(alloc: Global, document: &DocState) -> Result<String, Refusal>
+fn content_text(alloc: Global, document: &DocState) -> Result<String, AllocError>
     ensures ok { IfOk result (λ text. string_bytes text ≡ spec.content_text (record_of document.now)) }
-    ensures only { IfErr result (λ e. e ≡ Refusal.NoMemory) }
 {
     if !document.is_live() {
         let text = String::from_str(alloc, "deleted")?;

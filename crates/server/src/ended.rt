@@ -1,10 +1,10 @@
 //! Why the program ends with status 1 or 2.
 use disk::FileDisk;
 use refusal::Refusal;
-use serving::Failure;
+use serving::ServingError;
 use std::fmt::{self, Display, Formatter};
 use std::io::{self, Write};
-use words::LinesFault;
+use words::LinesError;
 
 /// What is tried with an address.
 pub(crate) const LISTENING: &str = "listening on";
@@ -79,20 +79,20 @@ impl<'a> Ended<'a> {
     }
 }
 
-impl From<Failure> for Ended<'_> {
-    fn from(failure: Failure) -> Self {
+impl From<ServingError> for Ended<'_> {
+    fn from(failure: ServingError) -> Self {
         match failure {
-            Failure::Refused(refusal) => Ended::Refused(refusal, None),
-            Failure::Stream => Ended::Stream,
+            ServingError::Refused(refusal) => Ended::Refused(refusal, None),
+            ServingError::Stream => Ended::Stream,
         }
     }
 }
 
-impl From<LinesFault> for Ended<'_> {
-    fn from(fault: LinesFault) -> Self {
+impl From<LinesError> for Ended<'_> {
+    fn from(fault: LinesError) -> Self {
         match fault {
-            LinesFault::Usage(error) => Ended::Usage(error),
-            LinesFault::Stream => Ended::Stream,
+            LinesError::Usage(error) => Ended::Usage(error),
+            LinesError::Stream => Ended::Stream,
         }
     }
 }

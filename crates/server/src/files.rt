@@ -5,7 +5,7 @@ ghost use Rattle.server.specs.Calls.{Found, Missed, Unseen, Opened, FailedOpenin
 use crate::calls::Calls;
 use crate::ended::Ended;
 use crate::reserving::write_zeros;
-use disk::{Disk, Fault, FileDisk, FileFault, Tried};
+use disk::{Disk, Fault, FileDisk, FileError, Tried};
 use recovery::{OpenFault, Pick, Shape, Store};
 use refusal::Refusal;
 use std::alloc::Global;
@@ -130,7 +130,7 @@ pub(crate) fn make_file<'a, C: Calls>(
 }
 
 // A file can't be had, for this fault.
-fn failed(path: &str, fault: FileFault) -> Ended<'_> {
+fn failed(path: &str, fault: FileError) -> Ended<'_> {
     without(fault.tried, path, fault.reason)
 }
 

@@ -14,7 +14,7 @@ use disk::{Disk, FileDisk};
 use inspection::{Checked, check, documents, info};
 use recovery::{OpenFault, Pick, Store};
 use refusal::Refusal;
-use serving::Failure;
+use serving::ServingError;
 use session::{Output, Stream};
 use std::alloc::{AllocError, Global};
 use std::io::Write;
@@ -23,7 +23,7 @@ use std::io::Write;
 #[derive(Drop)]
 pub struct Printed<D> {
     pub disk: D,
-    pub done: Result<(), Failure>,
+    pub done: Result<(), ServingError>,
 }
 
 impl Printed<FileDisk> {
@@ -34,8 +34,8 @@ impl Printed<FileDisk> {
         let Printed { disk, done } = self;
         let ended = match done {
             Ok(()) => Ok(()),
-            Err(Failure::Refused(refusal)) => Err(Ended::over(path, &disk, refusal)),
-            Err(Failure::Stream) => Err(Ended::Stream),
+            Err(ServingError::Refused(refusal)) => Err(Ended::over(path, &disk, refusal)),
+            Err(ServingError::Stream) => Err(Ended::Stream),
         };
         calls.close(path, disk);
         ended
@@ -66,7 +66,7 @@ fn tell_of<D: Disk, O: Output>(alloc: Global, disk: D, each: bool, output: &mut 
     let store = match Store::open(alloc, disk, Pick::Newer) {
         Ok(store) => store,
         Err(OpenFault { disk, refusal }) => {
-            let done = Err(Failure::Refused(refusal));
+            let done = Err(ServingError::Refused(refusal));
             return Printed { disk, done };
         }
     };
@@ -82,11 +82,11 @@ fn tell_of<D: Disk, O: Output>(alloc: Global, disk: D, each: bool, output: &mut 
 }
 
 // The failure, as the program has it.
-fn as_served(told: Result<(), inspection::Failure>) -> Result<(), Failure> {
+fn as_served(told: Result<(), inspection::InspectionError>) -> Result<(), ServingError> {
     match told {
         Ok(()) => Ok(()),
-        Err(inspection::Failure::Refused(refusal)) => Err(Failure::Refused(refusal)),
-        Err(inspection::Failure::Stream) => Err(Failure::Stream),
+        Err(inspection::InspectionError::Refused(refusal)) => Err(ServingError::Refused(refusal)),
+        Err(inspection::InspectionError::Stream) => Err(ServingError::Stream),
     }
 }
 
@@ -127,10 +127,10 @@ fn print_counts<O: Output>(
     documents: u64,
     changes: u64,
     output: &mut O,
-) -> Result<(), Failure>
+) -> Result<(), ServingError>
     ensures printed { OnOk result (Appends (O.contents output.old) (O.contents output.new) (checked_line documents changes)) }
-    ensures only { IfErr result (λ e. (e ≡ Failure.Stream) ⊎ (e ≡ Failure.Refused Refusal.NoMemory)) }
-    ensures cause { IsErrOf result Failure.Stream → O.has_failed output.new ≡ true }
+    ensures only { IfErr result (λ e. (e ≡ ServingError.Stream) ⊎ (e ≡ ServingError.Refused Refusal.NoMemory)) }
+    ensures cause { IsErrOf result ServingError.Stream → O.has_failed output.new ≡ true }
 {
     let line = counted(alloc, documents, changes)?;
     output.put(line.as_bytes())?;

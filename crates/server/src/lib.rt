@@ -1,6 +1,6 @@
 //! The program `richd`, as a call over its words and its standard streams.
 //!
-//! `run` reads the words and makes, serves or prints the store of a file, by `run_on` over the calls of the system; `run_given` takes the words
+//! `run` reads the words and makes, serves or prints the store of a file, by `run_on` over the calls of the system; `run_with_args` takes the words
 //! from the system. `dump` writes a line for each document of a state (`specs/Dump.antt`), and `print_answer` the line of what a task on deltas
 //! comes to (`specs/Deltas.antt`). Sessions are served by `serve_streams` and `serve_on` of `server_threads`.
 //!
@@ -68,5 +68,5 @@ pub use deltas::print_answer;
 pub use documents::{dump, dump_store};
 pub use inspected::Printed;
 pub use patient::Patient;
-pub use program::{run, run_given};
+pub use program::{run, run_with_args};
 pub use server_threads::serve_on;

@@ -60,7 +60,7 @@ pub fn run<
 }
 
 /// Runs the program over the words that the system gives it, as `run` does. Words that aren't UTF-8 can't be used.
-pub fn run_given<
+pub fn run_with_args<
     R: Files<File = File>
         + AllocGlobal
         + Env

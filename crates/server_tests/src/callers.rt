@@ -4,7 +4,7 @@ ghost use Rattle.std.specs.String.{string_bytes};
 ghost use Rattle.std.specs.Io.KnownBytes.{IsAtEnd};
 
 use refusal::Refusal;
-use serving::{Failure, serve_session};
+use serving::{ServingError, serve_session};
 use session::{Desk, Output, Session, Shelf};
 use std::alloc::Global;
 use std::io::Read;
@@ -42,7 +42,7 @@ pub fn serve_whole<K: Desk, I: Read, O: Output>(
     desk: &mut K,
     input: &mut I,
     output: &mut O,
-) -> Result<(), Failure>
+) -> Result<(), ServingError>
     ensures at_end { OnOk result (IsAtEnd (I.remaining input.new)) }
     ensures sent { OnOk result (O.has_failed output.new ≡ false) }
 {

@@ -1,24 +1,24 @@
 -- What a session's desk acknowledged stands in what the thread that writes has written.
 use Rattle.std.proofs.Common.{◌≡◌, ◌≤◌, ◌⊎◌, inl, inr, ℕ, true, List, [], ◌∷◌, ◌++◌, length, length-append, append-nil, refl, sym, ◌∙◌, ap, subst, arith}
-use Rattle.std.specs.Prelude.{◌<◌, ◌&&◌, Bool, Option, Result, Ok, Err, OnOk, OnErr}
+use Rattle.std.specs.Prelude.{◌<◌, Bool, Option, Result, Ok, Err, OnOk, OnErr}
 use Rattle.std.specs.Io.KnownBytes.{IsAtEnd}
-use Rattle.std.proofs.lemmas.Bool.{and_parts, cases_lt}
+use Rattle.std.proofs.lemmas.Bool.{cases_lt}
 use mathlib.Core.List.{IsPrefix}
 use Rattle.disk.specs.declared.device.Disk.{Ghosts}
 use Rattle.disk.proofs.CallerLemmas.{leaves_map}
 use Rattle.revision.specs.Command.{Taken}
-use Rattle.revision.specs.State.{State, grows, grown, all_grow, fold}
+use Rattle.revision.specs.State.{State, all_grow, fold}
 use Rattle.recovery.specs.declared.store.Store.{Store}
 use Rattle.recovery.specs.Found.{commands_of, FoundAs}
 use Rattle.recovery.specs.Open.{state_of}
 use Rattle.world.specs.World.{Entry}
-use Rattle.published.proofs.CallerLemmas.{prefix_self, prefix_trans, prefix_shorter, begun_grows}
+use Rattle.published.proofs.CallerLemmas.{prefix_self, prefix_trans, prefix_shorter, begun_grows, grow_first as grow_front}
 use Rattle.flusher.specs.Batches.{IsBeginning}
 use Rattle.flusher.proofs.CallerLemmas.{commands-append}
 use Rattle.session.specs.Session.{Session}
 use Rattle.session.specs.Exchange.{Exchange}
 use Rattle.session.specs.Replies.{Asks}
-use Rattle.serving.specs.declared.failure.Failure.{Failure}
+use Rattle.serving.specs.declared.failure.ServingError.{ServingError}
 use Rattle.serving.specs.Serving.{Serves, StopsServing, IsServed as IsAnswered, IsServedSoFar, beginning}
 use Rattle.hub_desk.specs.AtHub.{Desk, PassesAtHub}
 use Rattle.hub_desk.specs.Standing.{AllStand}
@@ -41,13 +41,6 @@ found_whole start batches content begins =
     let joined : commands_of begins.first ++ commands_of begins.more ≡ commands_of batches =
     sym (commands-append begins.first begins.more) ∙ ap commands_of begins.whole in
     subst (λ (c : List Taken). FoundAs content (fold start c)) (all_of (commands_of begins.first) (commands_of begins.more) (commands_of batches) joined begins.enough) begins.found
-
--- a prefix of commands that continue a state continues it
-grow_front : (state : State) (front back : List Taken) → all_grow state (front ++ back) ≡ true → all_grow state front ≡ true
-grow_front state [] back grow = refl
-grow_front state (first ∷ others) back grow =
-    let parts = and_parts (grows state first) (all_grow (grown state first) (others ++ back)) grow in
-    ap (λ (b : Bool). b && all_grow (grown state first) others) parts.0 ∙ grow_front (grown state first) others back parts.1
 
 -- and so does a prefix of batches
 grow_first : (state : State) (first all : List (List Taken)) → IsPrefix first all → all_grow state (commands_of all) ≡ true → all_grow state (commands_of first) ≡ true
@@ -88,7 +81,7 @@ from_first start old new desk desk' input input' output output' failed same (inr
     inr (new, subst (λ (s : Session). Serves (PassesAtHub start) s new desk desk' input input' output output') same serves)
 
 -- a session that was served from its beginning, at a desk at its own
-pub answered_whole : (start : State) (old new : Session) (desk desk' : Desk) (input input' output output' : Option (List ℕ)) (result : Result (Unit {0}) Failure)
+pub answered_whole : (start : State) (old new : Session) (desk desk' : Desk) (input input' output output' : Option (List ℕ)) (result : Result (Unit {0}) ServingError)
     → old ≡ beginning → desk ≡ first_desk → OnOk result (Serves (PassesAtHub start) old new desk desk' input input' output output') → OnOk result (IsAtEnd input')
     → OnOk result (IsAnsweredAtHub start input input' output output' desk')
 answered_whole start old new desk desk' input input' output output' (Ok answer) same first serves end = record {
@@ -103,7 +96,7 @@ answered_whole start old new desk desk' input input' output output' (Ok answer) 
 answered_whole start old new desk desk' input input' output output' (Err failure) same first serves end = tt
 
 -- one that a stream stopped
-pub stops_there : (start : State) (old new : Session) (desk desk' : Desk) (input input' output output' : Option (List ℕ)) (failed : Bool) (result : Result (Unit {0}) Failure)
+pub stops_there : (start : State) (old new : Session) (desk desk' : Desk) (input input' output output' : Option (List ℕ)) (failed : Bool) (result : Result (Unit {0}) ServingError)
     → old ≡ beginning → desk ≡ first_desk → OnErr result (StopsServing (PassesAtHub start) old desk desk' input input' output output')
     → OnErr result ((failed ≡ true) ⊎ Serves (PassesAtHub start) old new desk desk' input input' output output')
     → OnErr result (StopsAtHub start input input' output output' failed desk')

@@ -4,7 +4,7 @@ use denote.Ref.{NamedLft}
 use denote.Param.Send.{IsSend, IsSync, sendable}
 use Rattle.std.proofs.Crossing.{crosses}
 use Rattle.core.specs.declared.ledger.Ledger as ledger
-use Rattle.published.specs.declared.site.Site as site
+use Rattle.published.specs.declared.life.Life as life
 use Rattle.published.proofs.Crossing.{told_send}
 use Rattle.view.proofs.CallerLemmas.{viewer_send}
 use Rattle.hub.proofs.CallerLemmas.{found_send, seat_send, hub_sync}
@@ -14,7 +14,7 @@ use Rattle.hub_desk.specs.contracts.desk.HubDesk as desk
 pub counters_sync : IsSync counters.the_row
 counters_sync = search (sendable, crosses) depth 60 fits 20000
 
-pub desk_send : (k : NamedLft) (D T R : RattleType) (s : site.Ghosts T.Denot) (l : ledger.Ghosts T.Denot) → IsSend T → IsSync T → IsSync R
+pub desk_send : (k : NamedLft) (D T R : RattleType) (s : life.Ghosts T.Denot) (l : ledger.Ghosts T.Denot) → IsSend T → IsSync T → IsSync R
     → IsSend (desk.the_row k D T R s l)
 desk_send k D T R s l a b c =
     let hub = hub_sync D T s l a b in

@@ -6,8 +6,8 @@ use Rattle.refusal.specs.declared.Refusal.{Refusal}
 use Rattle.refusal.specs.declared.Refusal.TheVariants.{NoMemory, Fault}
 use Rattle.revision.specs.State.{State}
 use Rattle.session.specs.Session.{Session}
-use Rattle.serving.specs.declared.failure.Failure.{Failure}
-use Rattle.serving.specs.declared.failure.Failure.TheVariants.{Stream, Refused}
+use Rattle.serving.specs.declared.failure.ServingError.{ServingError}
+use Rattle.serving.specs.declared.failure.ServingError.TheVariants.{Stream, Refused}
 use Rattle.serving.specs.Serving.{Serves, StopsServing, beginning}
 use Rattle.hub_desk.specs.AtHub.{Desk, PassesAtHub}
 use Rattle.server_threads.specs.Answers.{first_desk}
@@ -15,7 +15,7 @@ use Rattle.server_threads.specs.Streams.{ByOne, EndsAtHub, first_of}
 use Rattle.server_threads.proofs.Answered.{answered_whole, stops_there}
 
 -- a session that was served from its beginning on, at a desk at its own
-pub ends_at_hub : (start : State) (old new : Session) (desk desk' : Desk) (input input' output output' : Option (List ℕ)) (failed : Bool) (result : Result (Unit {0}) Failure)
+pub ends_at_hub : (start : State) (old new : Session) (desk desk' : Desk) (input input' output output' : Option (List ℕ)) (failed : Bool) (result : Result (Unit {0}) ServingError)
     → old ≡ beginning → desk ≡ first_desk → OnOk result (Serves (PassesAtHub start) old new desk desk' input input' output output') → OnOk result (IsAtEnd input')
     → OnErr result (StopsServing (PassesAtHub start) old desk desk' input input' output output')
     → OnErr result ((failed ≡ true) ⊎ Serves (PassesAtHub start) old new desk desk' input input' output output')
@@ -23,23 +23,23 @@ pub ends_at_hub : (start : State) (old new : Session) (desk desk' : Desk) (input
 ends_at_hub start old new desk desk' input input' output output' failed (Ok answer) same first serves end stops cause sent only =
     (answered_whole start old new desk desk' input input' output output' (Ok answer) same first serves end, sent)
 ends_at_hub start old new desk desk' input input' output output' failed (Err failure) same first serves end stops cause sent only =
-    subst (λ (f : Failure). EndsAtHub (Err f) start input input' output output' failed desk') (sym only)
+    subst (λ (f : ServingError). EndsAtHub (Err f) start input input' output output' failed desk') (sym only)
     (stops_there start old new desk desk' input input' output output' failed (Err failure) same first stops cause)
 
 -- the store may have failed besides
-pub ends_with : (start : State) (input input' output output' : Option (List ℕ)) (failed : Bool) (answer : Result (Unit {0}) Failure) (written : Result (Unit {0}) Refusal) (last : Desk)
+pub ends_with : (start : State) (input input' output output' : Option (List ℕ)) (failed : Bool) (answer : Result (Unit {0}) ServingError) (written : Result (Unit {0}) Refusal) (last : Desk)
     → EndsAtHub answer start input input' output output' failed last → EndsAtHub (first_of answer written) start input input' output output' failed last
 ends_with start input input' output output' failed (Ok answer) (Ok written) last ends = ends
 ends_with start input input' output output' failed (Ok answer) (Err refusal) last ends = inl (refl, ends.0, ends.1)
 ends_with start input input' output output' failed (Err failure) written last ends = ends
 
-pub well_with : (answer : Result (Unit {0}) Failure) (written : Result (Unit {0}) Refusal) → is_ok (first_of answer written) ≡ true → is_ok written ≡ true
+pub well_with : (answer : Result (Unit {0}) ServingError) (written : Result (Unit {0}) Refusal) → is_ok (first_of answer written) ≡ true → is_ok written ≡ true
 well_with (Ok answer) (Ok written) well = refl
 well_with (Ok answer) (Err refusal) well = well
 well_with (Err failure) written well = absurd (cc well)
 
 -- it never ends out of memory then
-pub with_memory : (answer : Result (Unit {0}) Failure) (written : Result (Unit {0}) Refusal) → IfErr answer (λ failure. failure ≡ Stream)
+pub with_memory : (answer : Result (Unit {0}) ServingError) (written : Result (Unit {0}) Refusal) → IfErr answer (λ failure. failure ≡ Stream)
     → first_of answer written ≡ Err (Refused NoMemory) → ⊥
 with_memory (Ok answer) (Ok written) only is = cc is
 with_memory (Ok answer) (Err refusal) only is = cc is
@@ -59,7 +59,7 @@ works_ended : (old new : Bool) (written : Unit {0}) → (old ≡ false → (new 
 works_ended old true written fails works = absurd (let is = (fails works).0 refl in cc is)
 works_ended old false written fails works = refl
 
-pub works_with : (answer : Result (Unit {0}) Failure) (written : Result (Unit {0}) Refusal) (old new : Bool) → (old ≡ false → (new ≡ true ↔ IsErrOf written Fault))
+pub works_with : (answer : Result (Unit {0}) ServingError) (written : Result (Unit {0}) Refusal) (old new : Bool) → (old ≡ false → (new ≡ true ↔ IsErrOf written Fault))
     → OnOk (first_of answer written) (old ≡ false → new ≡ false)
 works_with (Ok answer) (Ok written) old new fails = works_ended old new written fails
 works_with (Ok answer) (Err refusal) old new fails = tt

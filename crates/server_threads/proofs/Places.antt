@@ -13,7 +13,7 @@ use Rattle.revision.specs.Acceptance.{TakenAt, AgainAt, Refused}
 use Rattle.recovery.specs.Found.{commands_of}
 use Rattle.world.specs.Board.{Ticket}
 use Rattle.world.specs.World.{Entry, entry_of, takens}
-use Rattle.published.proofs.CallerLemmas.{prefix_trans}
+use Rattle.published.proofs.CallerLemmas.{prefix_trans, takens_begin}
 use Rattle.flusher.proofs.CallerLemmas.{commands-append}
 use Rattle.hub.specs.Found.{IsRefusedAfter}
 use Rattle.hub.specs.Legal.{counted}
@@ -59,10 +59,6 @@ all_have_places start old last (Answered command (Ok reply) ∷ others) all (nex
 all_have_places start old last (Answered command (Err refusal) ∷ others) all (next, passes, rest) within = all_have_places start next last others all rest within
 all_have_places start old last (Shown (Some state) ∷ others) all (next, passes, rest) within = all_have_places start next last others all rest within
 all_have_places start old last (Shown None ∷ others) all (next, passes, rest) within = all_have_places start next last others all rest within
-
--- what was taken of a beginning of the order begins what was taken of all
-takens_begin : (first all : List Entry) → IsPrefix first all → IsPrefix (takens first) (takens all)
-takens_begin first all (more, whole) = (takens more, sym (map-append (λ (e : Entry). e.taken) first more) ∙ ap takens whole)
 
 -- a command was refused by what was found then, within an order that begins with that
 cause_by : (start : State) (old next : Desk) (command : Command) (refusal : Refusal) (order : List Entry) → Refuses start old command refusal next

@@ -2,7 +2,6 @@
 use Rattle.std.proofs.Common.{◌≡◌, ◌≤◌, ◌⊎◌, ◌↔◌, inl, inr, ℕ, ◌+◌, true, false, List, [], ◌∷◌, ◌++◌, length, length-append, append_assoc, append-nil, refl, sym, ◌∙◌, ap, subst, arith, Ok}
 use Rattle.std.specs.Prelude.{◌<◌, Bool, Result, Err, OnOk, IsErrOf, is_ok, All, sum_by}
 use Rattle.std.proofs.lemmas.Bool.{false≢true, cases_lt}
-use Rattle.std.proofs.lemmas.List.{map-append}
 use Rattle.std.proofs.lemmas.List.Elements.{All-nil, All-cons, All-weaker}
 use mathlib.Core.List.{IsPrefix}
 use Rattle.disk.specs.declared.device.Disk.{Ghosts}
@@ -18,7 +17,7 @@ use Rattle.recovery.proofs.CallerLemmas.{goes_none, goes_map, found_as, found_op
 use Rattle.world.specs.World.{Entry, takens}
 use Rattle.published.specs.Batches.{IsShorter}
 use Rattle.published.specs.Order.{IsLegal}
-use Rattle.published.proofs.CallerLemmas.{prefix_self, prefix_trans, prefix_shorter, prefix_whole}
+use Rattle.published.proofs.CallerLemmas.{prefix_self, prefix_trans, prefix_shorter, prefix_whole, takens_long, takens_begin}
 use Rattle.flusher.specs.declared.flusher.Flusher.{Flusher}
 use Rattle.flusher.specs.Batches.{IsBeginning}
 use Rattle.flusher.specs.Holding.{store_of, told_of, committed_of, waiting_of}
@@ -62,19 +61,19 @@ module _ {D : Type 0} {disk : Ghosts D} where
     behind = goes;
   }
 
-module _ {D J : Type 0} {disk : Ghosts D} where
+module _ {D L : Type 0} {disk : Ghosts D} where
   -- what its type keeps of a flusher
-  abbrev pub Kept : State → Flusher D J disk → Type 0
+  abbrev pub Kept : State → Flusher D L disk → Type 0
   Kept start flusher = state_of (store_of flusher) ≡ fold start (commands_of (told_of flusher ++ committed_of flusher))
 
   -- at its beginning the store holds the start
-  held_start : (start : State) (old : Flusher D J disk) → IsStarted old → Kept start old → state_of (store_of old) ≡ start
+  held_start : (start : State) (old : Flusher D L disk) → IsStarted old → Kept start old → state_of (store_of old) ≡ start
   held_start start old started before =
       before
       ∙ ap (λ (l : List (List Taken)). fold start (commands_of l)) (ap (λ (t : List (List Taken)). t ++ committed_of old) started.nothing ∙ started.none)
 
   -- a moment of a flusher's, from a start when nothing was published, as a moment of its store's
-  was_in_store : (start : State) (old new : Flusher D J disk) (first : List (List Taken)) → IsStarted old → state_of (store_of old) ≡ start
+  was_in_store : (start : State) (old new : Flusher D L disk) (first : List (List Taken)) → IsStarted old → state_of (store_of old) ≡ start
       → WasAt start (told_count old) first (given_to new) (store_of old) (store_of new)
       → WasAt (state_of (store_of old)) 0 first ((told_of new ++ committed_of new) ++ waiting_of new) (store_of old) (store_of new)
   was_in_store start old new first started same was =
@@ -84,7 +83,7 @@ module _ {D J : Type 0} {disk : Ghosts D} where
       (ap (λ (t : List (List Taken)). length (commands_of t)) started.nothing) was))
 
   -- a flusher that was just started, what its thread wrote, and an order that begins with all that it was given
-  pub written_by : (start : State) (order : List Entry) (old new : Flusher D J disk) → IsStarted old → Kept start old → Kept start new
+  pub written_by : (start : State) (order : List Entry) (old new : Flusher D L disk) → IsStarted old → Kept start old → Kept start new
       → length (committed_of new) ≤ 1 → length (waiting_of new) ≤ 1 → Writes start old new → IsLegal start order
       → IsPrefix (commands_of (told_of new ++ (committed_of new ++ waiting_of new))) (takens order)
       → IsWritten order (told_of new ++ committed_of new) (waiting_of new) (store_of old) (store_of new)
@@ -139,9 +138,9 @@ begins_shown start told committed waiting content none found =
       found = subst (λ (l : List (List Taken)). FoundAs content (fold start (commands_of l))) all found;
     }
 
-module _ {D J : Type 0} {disk : Ghosts D} where
+module _ {D L : Type 0} {disk : Ghosts D} where
   -- a flusher that was just started, and writes nothing
-  writes_nothing : (start : State) (here : Flusher D J disk) → IsStarted here → Kept start here → Writes start here here
+  writes_nothing : (start : State) (here : Flusher D L disk) → IsStarted here → Kept start here → Writes start here here
   writes_nothing start here started kept = record {
     told = ([], sym (append-nil (told_of here)));
     held = record {
@@ -168,7 +167,7 @@ module _ {D J : Type 0} {disk : Ghosts D} where
           (sym (ap (λ (l : List (List Taken)). told_of here ++ l) started.none ∙ append-nil (told_of here))) (shown content found)
 
   -- it has run where there was no thread for it, and where there was one
-  pub unbegun_run : (start : State) (here : Flusher D J disk) → IsStarted here → Kept start here → HasRun start here here (Ok tt) false
+  pub unbegun_run : (start : State) (here : Flusher D L disk) → IsStarted here → Kept start here → HasRun start here here (Ok tt) false
   unbegun_run start here started kept = record {
     wrote =
         record {
@@ -179,17 +178,17 @@ module _ {D J : Type 0} {disk : Ghosts D} where
     unbegun = λ not_begun. refl;
   }
 
-  pub has_written : (start : State) (old new : Flusher D J disk) (answer : Result (Unit {0}) Refusal) → Writes start old new
+  pub has_written : (start : State) (old new : Flusher D L disk) (answer : Result (Unit {0}) Refusal) → Writes start old new
       → OnOk answer ((committed_of new ≡ []) × (waiting_of new ≡ []))
       → (has_failed (store_of old) ≡ false → (has_failed (store_of new) ≡ true ↔ IsErrOf answer Fault)) → HasWritten start old new answer
   has_written start old new answer writes nothing fails = record { writes = writes; nothing = nothing; fails = fails }
 
-  pub ended_run : (start : State) (old new : Flusher D J disk) (answer : Result (Unit {0}) Refusal) (begun : Bool) → HasWritten start old new answer
+  pub ended_run : (start : State) (old new : Flusher D L disk) (answer : Result (Unit {0}) Refusal) (begun : Bool) → HasWritten start old new answer
       → begun ≡ true → HasRun start old new answer begun
   ended_run start old new answer begun wrote is = record { wrote = wrote; unbegun = λ not_begun. absurd (false≢true (sym not_begun ∙ is)) }
 
   -- of two flushers that were just started over one store the same is written
-  same_writes : (start : State) (here old new : Flusher D J disk) → IsStarted here → IsStarted old → store_of here ≡ store_of old
+  same_writes : (start : State) (here old new : Flusher D L disk) → IsStarted here → IsStarted old → store_of here ≡ store_of old
       → Writes start here new → Writes start old new
   same_writes start here old new begun started store writes =
       let told : told_of here ≡ told_of old = begun.nothing ∙ sym started.nothing in
@@ -207,7 +206,7 @@ module _ {D J : Type 0} {disk : Ghosts D} where
             writes.lasts (subst (λ (s : Store D disk). has_failed s ≡ false) (sym store) works) (subst (λ (s : Store D disk). IsOpen s) (sym store) is_open) content left;
       }
     where
-      none_given : (flusher : Flusher D J disk) → IsStarted flusher → given_to flusher ≡ []
+      none_given : (flusher : Flusher D L disk) → IsStarted flusher → given_to flusher ≡ []
       none_given flusher is =
           ap (λ (l : List (List Taken)). l ++ (committed_of flusher ++ waiting_of flusher)) is.nothing
           ∙ ap (λ (l : List (List Taken)). l ++ waiting_of flusher) is.none ∙ is.idle
@@ -219,7 +218,7 @@ module _ {D J : Type 0} {disk : Ghosts D} where
           subst (λ (s : Store D disk). WasAt start (length (commands_of told)) first (given_to new) s (store_of new)) store
           (subst (λ (t : List (List Taken)). WasAt start (length (commands_of t)) first (given_to new) (store_of here) (store_of new)) same was)
 
-  pub any_started : (start : State) (here new : Flusher D J disk) (store : Store D disk) (answer : Result (Unit {0}) Refusal) → IsStarted here
+  pub any_started : (start : State) (here new : Flusher D L disk) (store : Store D disk) (answer : Result (Unit {0}) Refusal) → IsStarted here
       → store ≡ store_of here → HasWritten start here new answer → StartedOverWrites start store new answer
   any_started start here new store answer begun is wrote old started over =
       let same : store_of here ≡ store_of old = sym is ∙ sym over in
@@ -229,29 +228,21 @@ module _ {D J : Type 0} {disk : Ghosts D} where
         fails = subst (λ (s : Store D disk). has_failed s ≡ false → (has_failed (store_of new) ≡ true ↔ IsErrOf answer Fault)) same wrote.fails;
       }
 
--- the commands of a prefix of the order are a prefix of the commands of all
-takens_first : (first all : List Entry) → IsPrefix first all → IsPrefix (takens first) (takens all)
-takens_first first all (more, whole) = (takens more, sym (map-append (λ (e : Entry). e.taken) first more) ∙ ap takens whole)
-
-takens_long : (entries : List Entry) → length (takens entries) ≡ length entries
-takens_long [] = refl
-takens_long (first ∷ others) = let more = takens_long others in omega (arith, more)
-
 -- an order at the end of a life: it is a legal history, and a token has a prefix of it
 pub order_legal : (start : State) (board : Inner Entry) → IsOfRun start board → IsLegal start board.order
 order_legal start board run = subst (λ (s : State). IsLegal s board.order) run.begun run.history.legal
 
 pub order_begins : (commands : List Taken) (token all : List Entry) → IsPrefix commands (takens token) → IsPrefix token all → IsPrefix commands (takens all)
-order_begins commands token all first begins = prefix_trans commands (takens token) (takens all) first (takens_first token all begins)
+order_begins commands token all first begins = prefix_trans commands (takens token) (takens all) first (takens_begin token all begins)
 
 -- a life that ended well, by an answer, or not
 well_of : {A : Type 0} (answer : Result (Unit {0}) Refusal) → is_ok answer ≡ true → OnOk answer A → A
 well_of (Ok answer) well held = held
 well_of (Err refusal) well held = absurd (cc well)
 
-module _ {D J : Type 0} {disk : Ghosts D} where
+module _ {D L : Type 0} {disk : Ghosts D} where
   -- all of the order is written where the writing ended well and the order has no more than is published
-  whole_by : (order : List Entry) (old new : Flusher D J disk) → IsWritten order (told_of new ++ committed_of new) (waiting_of new) (store_of old) (store_of new)
+  whole_by : (order : List Entry) (old new : Flusher D L disk) → IsWritten order (told_of new ++ committed_of new) (waiting_of new) (store_of old) (store_of new)
       → committed_of new ≡ [] → waiting_of new ≡ [] → length order ≡ length (commands_of (told_of new))
       → IsWhole order (told_of new ++ committed_of new) (waiting_of new) (store_of old) (store_of new)
   whole_by order old new is none idle long = record {
@@ -279,7 +270,7 @@ module _ {D J : Type 0} {disk : Ghosts D} where
           (omega (arith, takens_long order, long, ap (λ (l : List (List Taken)). length (commands_of l)) shown))
 
   -- the whole life
-  pub lived_by : (Sessions : List Desk → Type 0) (start : State) (order : List Entry) (desks : List Desk) (old new : Flusher D J disk) (written answer : Result (Unit {0}) Refusal) (store : Store D disk)
+  pub lived_by : (Sessions : List Desk → Type 0) (start : State) (order : List Entry) (desks : List Desk) (old new : Flusher D L disk) (written answer : Result (Unit {0}) Refusal) (store : Store D disk)
       → store ≡ store_of new → IsStarted old → Kept start old → Kept start new → length (committed_of new) ≤ 1 → length (waiting_of new) ≤ 1
       → HasWritten start old new written → IsLegal start order → IsPrefix (commands_of (told_of new ++ (committed_of new ++ waiting_of new))) (takens order)
       → All (λ (desk : Desk). IsPrefix desk.told (told_of new ++ committed_of new)) desks → All (λ (desk : Desk). IsPrefix desk.found order) desks → length order ≡ sum_by (λ (desk : Desk). desk.counted) desks
@@ -317,9 +308,9 @@ module _ {D J : Type 0} {disk : Ghosts D} where
           subst (λ (r : Result (Unit {0}) Refusal). OnOk r ((committed_of new ≡ []) × (waiting_of new ≡ []))) well wrote.nothing in
           whole_by order old new is_written none.0 none.1 same
 
-module _ {D J : Type 0} {disk : Ghosts D} where
+module _ {D L : Type 0} {disk : Ghosts D} where
   -- the life of a flusher that was just started, of the sessions that were held beside it, and of the board that ended
-  pub lived_from : (Sessions : List Desk → Type 0) (start : State) (old : Flusher D J disk) (ordered : List Entry) (published counted : ℕ)
+  pub lived_from : (Sessions : List Desk → Type 0) (start : State) (old : Flusher D L disk) (ordered : List Entry) (published counted : ℕ)
       (written answer : Result (Unit {0}) Refusal) (new store : Store D disk) → store ≡ new → IsStarted old
       → HasHeld Sessions start old ordered published counted written new → IsCounted start ordered published counted written answer
       → HasLived Sessions answer (store_of old) store

@@ -1,15 +1,15 @@
 -- Seats and desks, one more at a time.
 use Rattle.std.proofs.Common.{◌≡◌, ℕ, ◌+◌, List, [], ◌∷◌, ◌++◌, length, length-append, append-nil, sym, ◌∙◌, ap, subst, arith}
 use Rattle.std.specs.Prelude.{All, sum_by}
-use Rattle.std.proofs.lemmas.List.{map-append}
 use Rattle.std.proofs.lemmas.List.Elements.{All-head, All-push, All-tail, All-weaker}
 use Rattle.std.proofs.lemmas.List.Sums.{sum_by-append}
 use mathlib.Core.List.{IsPrefix}
 use Rattle.revision.specs.Command.{Taken}
-use Rattle.world.specs.World.{Entry, takens}
+use Rattle.world.specs.World.{Entry}
 use Rattle.published.proofs.CallerLemmas.{prefix_trans}
 use Rattle.hub_desk.specs.AtHub.{Desk}
 use Rattle.server_threads.specs.Answers.{first_desk}
+pub use Rattle.server_threads.proofs.Served.{order_begins as begins_longer}
 
 -- one seat more is tallied
 pub one_seat_more : (before at after : ℕ) (desks : List Desk) (desk : Desk) → at ≡ before + length desks → after ≡ at + 1
@@ -34,11 +34,6 @@ pub one_found_more : (before after : List Entry) (desks : List Desk) (desk : Des
 one_found_more before after desks desk so_far longer found =
     All-push (λ (d : Desk). IsPrefix d.found after) desks desk
     (All-weaker (λ (d : Desk). IsPrefix d.found before) (λ (d : Desk). IsPrefix d.found after) (λ d first. prefix_trans d.found before after first longer) desks so_far) found
-
--- what begins a token's entries begins those of one that has no less
-pub begins_longer : (commands : List Taken) (before after : List Entry) → IsPrefix commands (takens before) → IsPrefix before after → IsPrefix commands (takens after)
-begins_longer commands before after first (more, whole) =
-    prefix_trans commands (takens before) (takens after) first (takens more, sym (map-append (λ (e : Entry). e.taken) before more) ∙ ap takens whole)
 
 -- what holds of all desks that were yielded holds of all, where none is left
 pub all_yielded : {A : Type 0} (P : A → Type 0) (yielded rest all : List A) → yielded ++ rest ≡ all → rest ≡ [] → All P yielded → All P all

@@ -16,14 +16,14 @@ use Rattle.hub.specs.Legal.{IsOfRun}
 use Rattle.hub_desk.specs.AtHub.{Desk}
 use Rattle.server_threads.specs.Written.{HasWritten}
 
-module _ {D J : Type 0} {disk : Ghosts D} where
+module _ {D L : Type 0} {disk : Ghosts D} where
   -- what its type keeps of a flusher: its store holds what is published and committed
-  pub record IsKept (start : State) (flusher : Flusher D J disk) : Type 0 where
+  pub record IsKept (start : State) (flusher : Flusher D L disk) : Type 0 where
     pub state : state_of (store_of flusher) ≡ fold start (commands_of (told_of flusher ++ committed_of flusher))
 
   -- The desks of a flusher that has written are tallied. The order begins with all that it was given and all that the desks found of it, so
   -- much of it was published, no desk was told of more than it committed, and the seats' count is that of the desks.
-  pub record IsTallied (start : State) (desks : List Desk) (last : Flusher D J disk) (ordered : List Entry) (published counted : ℕ) (new : Store D disk) : Type 0 where
+  pub record IsTallied (start : State) (desks : List Desk) (last : Flusher D L disk) (ordered : List Entry) (published counted : ℕ) (new : Store D disk) : Type 0 where
     pub store : new ≡ store_of last
     pub kept : IsKept start last
     pub few_committed : length (committed_of last) ≤ 1
@@ -35,9 +35,9 @@ module _ {D J : Type 0} {disk : Ghosts D} where
     pub counts : counted ≡ sum_by (λ (desk : Desk). desk.counted) desks
 
   -- A flusher that was just started has written, the desks that its sessions left are tallied, and this is so of the desks.
-  pub record HasHeld (Sessions : List Desk → Type 0) (start : State) (old : Flusher D J disk) (ordered : List Entry) (published counted : ℕ)
+  pub record HasHeld (Sessions : List Desk → Type 0) (start : State) (old : Flusher D L disk) (ordered : List Entry) (published counted : ℕ)
       (written : Result (Unit {0}) Refusal) (new : Store D disk) : Type 0 where
-    pub last : Flusher D J disk
+    pub last : Flusher D L disk
     pub desks : List Desk
     pub before : IsKept start old
     pub wrote : HasWritten start old last written

@@ -83,9 +83,9 @@ module _ {D : Type 0} {disk : Ghosts D} where
     pub served : WasServed Sessions (is_ok written) old new
     pub fails : has_failed old ≡ false → (has_failed new ≡ true ↔ IsErrOf written Fault)
 
-module _ {D J : Type 0} {disk : Ghosts D} where
+module _ {D L : Type 0} {disk : Ghosts D} where
   -- a flusher that has nothing to write, and showed readers nothing yet
-  pub record IsStarted (flusher : Flusher D J disk) : Type 0 where
+  pub record IsStarted (flusher : Flusher D L disk) : Type 0 where
     pub nothing : told_of flusher ≡ []
     pub none : committed_of flusher ≡ []
     pub idle : waiting_of flusher ≡ []

@@ -4,8 +4,8 @@ use Rattle.refusal.specs.declared.Refusal.{Refusal}
 use Rattle.refusal.specs.declared.Refusal.TheVariants.{NoMemory, StoreFailed}
 use Rattle.revision.specs.State.{State}
 use Rattle.hub_desk.specs.AtHub.{Desk, PassesAtHub}
-use Rattle.serving.specs.declared.failure.Failure.{Failure}
-use Rattle.serving.specs.declared.failure.Failure.TheVariants.{Stream, Refused}
+use Rattle.serving.specs.declared.failure.ServingError.{ServingError}
+use Rattle.serving.specs.declared.failure.ServingError.TheVariants.{Stream, Refused}
 use Rattle.serving.specs.Serving.{IsServed as IsAnswered, IsServedSoFar, StopsServing, beginning}
 use Rattle.server_threads.specs.Answers.{first_desk}
 
@@ -21,7 +21,7 @@ pub record StopsAtHub (start : State) (input input' output output' : Option (Lis
 
 -- What the session's desk is by how serving ended. All of the input is answered, and the output works, after an Ok and where only the store
 -- failed; or `Stream` was answered; or, out of memory, nothing was asked.
-abbrev pub EndsAtHub : Result (Unit {0}) Failure → State → (input input' output output' : Option (List ℕ)) → (failed : Bool) → Desk → Type 0
+abbrev pub EndsAtHub : Result (Unit {0}) ServingError → State → (input input' output output' : Option (List ℕ)) → (failed : Bool) → Desk → Type 0
 EndsAtHub (Ok answer) start input input' output output' failed last = IsAnsweredAtHub start input input' output output' last × (failed ≡ false)
 EndsAtHub (Err Stream) start input input' output output' failed last = StopsAtHub start input input' output output' failed last
 EndsAtHub (Err (Refused refusal)) start input input' output output' failed last =
@@ -34,7 +34,7 @@ pub record ByOne (P : Desk → Type 0) (desks : List Desk) : Type 0 where
   pub session : P last
 
 -- how serving over streams ends: as the session did, and where that ended well, well where the writing did
-abbrev pub first_of : Result (Unit {0}) Failure → Result (Unit {0}) Refusal → Result (Unit {0}) Failure
+abbrev pub first_of : Result (Unit {0}) ServingError → Result (Unit {0}) Refusal → Result (Unit {0}) ServingError
 first_of (Ok answer) (Ok written) = Ok tt
 first_of (Ok answer) (Err refusal) = Err (Refused StoreFailed)
 first_of (Err failure) written = Err failure

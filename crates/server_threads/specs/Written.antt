@@ -11,19 +11,19 @@ use Rattle.flusher.specs.Holding.{store_of, committed_of, waiting_of}
 use Rattle.turns.specs.Writing.{Writes}
 use Rattle.server_threads.specs.Served.{IsStarted}
 
-module _ {D J : Type 0} {disk : Ghosts D} where
+module _ {D L : Type 0} {disk : Ghosts D} where
   -- A flusher wrote until the hub was ended, or until a turn failed. Where it says `Ok` it has nothing left to write or to publish, and it fails only
   -- with the device.
-  pub record HasWritten (start : State) (old new : Flusher D J disk) (answer : Result (Unit {0}) Refusal) : Type 0 where
+  pub record HasWritten (start : State) (old new : Flusher D L disk) (answer : Result (Unit {0}) Refusal) : Type 0 where
     pub writes : Writes start old new
     pub nothing : OnOk answer ((committed_of new ≡ []) × (waiting_of new ≡ []))
     pub fails : has_failed (store_of old) ≡ false → (has_failed (store_of new) ≡ true ↔ IsErrOf answer Fault)
 
   -- and one that wasn't begun left the flusher unchanged
-  pub record HasRun (start : State) (old new : Flusher D J disk) (answer : Result (Unit {0}) Refusal) (begun : Bool) : Type 0 where
+  pub record HasRun (start : State) (old new : Flusher D L disk) (answer : Result (Unit {0}) Refusal) (begun : Bool) : Type 0 where
     pub wrote : HasWritten start old new answer
     pub unbegun : begun ≡ false → new ≡ old
 
   -- what comes of any flusher that was just started over this store
-  abbrev pub StartedOverWrites : State → Store D disk → Flusher D J disk → Result (Unit {0}) Refusal → Type 0
-  StartedOverWrites start store new answer = (old : Flusher D J disk) → IsStarted old → store_of old ≡ store → HasWritten start old new answer
+  abbrev pub StartedOverWrites : State → Store D disk → Flusher D L disk → Result (Unit {0}) Refusal → Type 0
+  StartedOverWrites start store new answer = (old : Flusher D L disk) → IsStarted old → store_of old ≡ store → HasWritten start old new answer

@@ -10,7 +10,7 @@ use crate::written::{Written, WrittenBy};
 use disk::Disk;
 use flusher::Flusher;
 use hub::{Closer, Writer};
-use published::Site;
+use published::Life;
 use recovery::Store;
 use refusal::Refusal;
 use std::marker::PhantomData;
@@ -21,15 +21,15 @@ use std::thread::{self, Scope, Threads};
 
 // The sessions, their desks and how they are held at these, with the right to end the hub.
 #[derive(Drop)]
-struct Holding<'s, 'a, S, K, F, D, J: Site, R, W> {
-    shared: &'s Shared<'a, D, J, R, W>,
-    closer: Closer<J>,
+struct Holding<'s, 'a, S, K, F, D, L: Life, R, W> {
+    shared: &'s Shared<'a, D, L, R, W>,
+    closer: Closer<L>,
     sessions: S,
     desks: Vec<K>,
     hold: F,
 }
 
-impl<S: Drop, K: Drop, F: Drop, D: Drop, J: Site, R, W> Holding<'_, '_, S, K, F, D, J, R, W> {
+impl<S: Drop, K: Drop, F: Drop, D: Drop, L: Life, R, W> Holding<'_, '_, S, K, F, D, L, R, W> {
     ghost use Rattle.std.specs.Prelude.{◌≡◌};
 
     // The sessions, where they aren't held.
@@ -48,8 +48,8 @@ impl<S: Drop, K: Drop, F: Drop, D: Drop, J: Site, R, W> Holding<'_, '_, S, K, F,
 }
 
 /// What came of both: the flusher, how its writing ended, what the sessions answered, and their desks.
-pub(crate) struct Both<A, K, D: Disk, J: Site> {
-    pub(crate) flusher: Flusher<D, J>,
+pub(crate) struct Both<A, K, D: Disk, L: Life> {
+    pub(crate) flusher: Flusher<D, L>,
     pub(crate) written: Result<(), Refusal>,
     pub(crate) held: (A, Vec<K>),
 }
@@ -61,24 +61,24 @@ pub(crate) fn hold_beside<
     S: Drop,
     K: Drop,
     F: FnOnce(S, Vec<K>) -> (A, Vec<K>),
-    J: Site + Sync + Send,
+    L: Life + Sync + Send,
     R: Threads + Wait + Sync,
     D: Disk + Send + Drop,
     W: Watch<D>,
 >(
-    shared: &Shared<'_, D, J, R, W>,
+    shared: &Shared<'_, D, L, R, W>,
     held: Snapshot<Store<D>>,
-    flusher: Flusher<D, J>,
-    writer: Writer<J>,
-    closer: Closer<J>,
+    flusher: Flusher<D, L>,
+    writer: Writer<L>,
+    closer: Closer<L>,
     sessions: S,
     desks: Vec<K>,
     hold: F,
-) -> Result<Both<A, K, D, J>, (Flusher<D, J>, S)>
+) -> Result<Both<A, K, D, L>, (Flusher<D, L>, S)>
     requires held { held.value ≡ store_of flusher }
     requires started { IsStarted flusher }
     requires callable { F.pre hold sessions desks }
-    ensures written { IfOk result (λ both. HasWritten J.start flusher both.flusher both.written) }
+    ensures written { IfOk result (λ both. HasWritten L.start flusher both.flusher both.written) }
     ensures held { IfOk result (λ both. F.post hold sessions desks both.held) }
     ensures refused { IfErr result (λ back. (back.0 ≡ flusher) × (back.1 ≡ sessions)) }
 {
@@ -104,10 +104,10 @@ pub(crate) fn hold_beside<
     thread::scope(
         thread::scope_env(),
         shared.rt,
-        |scope| -> Result<Both<A, K, D, J>, (Flusher<D, J>, S)>
+        |scope| -> Result<Both<A, K, D, L>, (Flusher<D, L>, S)>
             requires { (written_by.store.value ≡ store_of writing.flusher) × IsStarted writing.flusher
                 × F.pre holding.hold holding.sessions holding.desks }
-            ensures written { IfOk result (λ both. HasWritten J.start writing.entry.flusher both.flusher both.written) }
+            ensures written { IfOk result (λ both. HasWritten L.start writing.entry.flusher both.flusher both.written) }
             ensures held { IfOk result (λ both. F.post holding.entry.hold holding.entry.sessions holding.entry.desks both.held) }
             ensures refused { IfErr result (λ back. (back.0 ≡ writing.entry.flusher) × (back.1 ≡ holding.entry.sessions)) }
         { hold_in(scope, written_by, writing, holding) },
@@ -122,20 +122,20 @@ fn hold_in<
     S: Drop,
     K: Drop,
     F: FnOnce(S, Vec<K>) -> (A, Vec<K>),
-    J: Site + Sync + Send,
+    L: Life + Sync + Send,
     R: Threads + Wait + Sync,
     D: Disk + Send + Drop,
     W: Watch<D>,
 >(
     scope: &Scope<'s, E>,
-    written_by: WrittenBy<D, J>,
-    writing: Writing<'s, D, J, R, W>,
-    holding: Holding<'_, '_, S, K, F, D, J, R, W>,
-) -> Result<Both<A, K, D, J>, (Flusher<D, J>, S)>
+    written_by: WrittenBy<D, L>,
+    writing: Writing<'s, D, L, R, W>,
+    holding: Holding<'_, '_, S, K, F, D, L, R, W>,
+) -> Result<Both<A, K, D, L>, (Flusher<D, L>, S)>
     requires held { written_by.store.value ≡ store_of writing.flusher }
     requires started { IsStarted writing.flusher }
     requires callable { F.pre holding.hold holding.sessions holding.desks }
-    ensures written { IfOk result (λ both. HasWritten J.start writing.entry.flusher both.flusher both.written) }
+    ensures written { IfOk result (λ both. HasWritten L.start writing.entry.flusher both.flusher both.written) }
     ensures held { IfOk result (λ both. F.post holding.entry.hold holding.entry.sessions holding.entry.desks both.held) }
     ensures refused { IfErr result (λ back. (back.0 ≡ writing.entry.flusher) × (back.1 ≡ holding.entry.sessions)) }
 {
@@ -143,9 +143,9 @@ fn hold_in<
     let has_thread = writing.has_thread;
     let spawned = scope.spawn_with(
         written_by,
-        move || -> Written<'_, D, J, R>
+        move || -> Written<'_, D, L, R>
             requires { IsStarted writing.flusher }
-            ensures { HasRun J.start writing.entry.flusher result.flusher result.answer result.is_begun }
+            ensures { HasRun L.start writing.entry.flusher result.flusher result.answer result.is_begun }
         { writing.run() },
     );
     match spawned {
@@ -183,11 +183,11 @@ fn hold_all<
     S: Drop,
     K: Drop,
     F: FnOnce(S, Vec<K>) -> (A, Vec<K>),
-    J: Site + Sync + Send,
+    L: Life + Sync + Send,
     R: Threads + Wait + Sync,
     D: Send + Drop,
     W: Sync,
->(holding: Holding<'_, '_, S, K, F, D, J, R, W>) -> (A, Vec<K>)
+>(holding: Holding<'_, '_, S, K, F, D, L, R, W>) -> (A, Vec<K>)
     requires callable { F.pre holding.hold holding.sessions holding.desks }
     ensures held { F.post holding.entry.hold holding.entry.sessions holding.entry.desks result }
 {

@@ -1,5 +1,5 @@
 //! A store over connections.
-ghost use Rattle.std.specs.Prelude.{◌≡◌, ◌+◌, ◌↔◌, true, false, Ok, All, IfOk, IfErr, OnOk, IsErrOf, IsOkUnless, is_ok, length};
+ghost use Rattle.std.specs.Prelude.{◌≡◌, ◌+◌, ◌↔◌, true, false, Ok, All, IfOk, IfErr, OnOk, IsErrOf, is_ok, length};
 ghost use Rattle.recovery.specs.Open.{state_of, has_failed};
 ghost use Rattle.flusher.specs.Holding.{store_of};
 ghost use Rattle.server_threads.specs.Answers.{first_desk};
@@ -9,7 +9,7 @@ ghost use Rattle.server_threads.specs.Served.{IsStarted, WasServed};
 
 use crate::beside::{Both, hold_beside};
 use crate::desks::desks_at;
-use crate::life::{Past, Server, begin, end, tally_all};
+use crate::life::{Ending, Server, begin, end, tally_all};
 use crate::seated::Seated;
 use crate::watch::Watch;
 use crate::writing::Shared;
@@ -17,11 +17,11 @@ use disk::Disk;
 use flusher::Flusher;
 use hub::Hub;
 use hub_desk::HubDesk;
-use published::{Opened, Site};
+use published::{Life, Opened};
 use recovery::Store;
 use refusal::Refusal;
 use sockets::serve_desks;
-use std::alloc::Global;
+use std::alloc::{AllocError, Global};
 use std::marker::Brand;
 use std::net::{OpenListener, TcpStream};
 use std::sync::Wait;
@@ -75,7 +75,7 @@ pub fn serve_on<
 
 // Serves the run that its ledger, its logs and its store's state name.
 fn serve_run<
-    J: Site + Sync + Send,
+    L: Life + Sync + Send,
     R: Threads + Wait + Clock + Sync,
     N: OpenListener<Stream = TcpStream>,
     D: Disk + Send + Drop,
@@ -91,15 +91,15 @@ fn serve_run<
     idle: u32,
     watch: &W,
 ) -> (Store<D>, Result<(), Refusal>)
-    requires book { opened ≡ J.book }
-    requires name { blank.name ≡ J.name }
-    requires parts { blank.parts ≡ J.parts }
+    requires book { opened ≡ L.book }
+    requires name { blank.name ≡ L.name }
+    requires parts { blank.parts ≡ L.parts }
     requires seats { blank.parts ≡ 65 }
-    requires start { state_of store ≡ J.start }
+    requires start { state_of store ≡ L.start }
     ensures served { WasServed (EachHasServed (state_of store)) (is_ok result.1) store result.0 }
     ensures fails { has_failed store ≡ false → (has_failed result.0 ≡ true ↔ IsErrOf result.1 Refusal.Fault) }
 {
-    match begin::<J, R, D>(rt, alloc, store, opened, blank, SEATS) {
+    match begin::<L, R, D>(rt, alloc, store, opened, blank, SEATS) {
         Ok((hub, server)) => serve_from(rt, alloc, hub, server, listener, every, idle, watch),
         Err((store, refusal)) => (store, Err(refusal)),
     }
@@ -107,7 +107,7 @@ fn serve_run<
 
 // Serves from a server's beginning to its end.
 fn serve_from<
-    J: Site + Sync + Send,
+    L: Life + Sync + Send,
     R: Threads + Wait + Clock + Sync,
     N: OpenListener<Stream = TcpStream>,
     D: Disk + Send + Drop,
@@ -115,8 +115,8 @@ fn serve_from<
 >(
     rt: &R,
     alloc: Global,
-    hub: Hub<D, J>,
-    server: Server<D, J>,
+    hub: Hub<D, L>,
+    server: Server<D, L>,
     listener: &N,
     every: u32,
     idle: u32,
@@ -125,9 +125,9 @@ fn serve_from<
     requires store { server.held.value ≡ store_of server.flusher }
     requires started { IsStarted server.flusher }
     requires new { All (λ seat. seat ≡ 0) server.seats.items }
-    requires parts { length server.seats.items + 1 ≡ J.parts }
+    requires parts { length server.seats.items + 1 ≡ L.parts }
     requires none { server.tally ≡ record { seats = 0; counted = 0 } }
-    ensures served { WasServed (EachHasServed J.start) (is_ok result.1) (store_of server.flusher) result.0 }
+    ensures served { WasServed (EachHasServed L.start) (is_ok result.1) (store_of server.flusher) result.0 }
     ensures fails { has_failed (store_of server.flusher) ≡ false → (has_failed result.0 ≡ true ↔ IsErrOf result.1 Refusal.Fault) }
 {
     match hold_at(rt, alloc, &hub, server, listener, every, idle, watch) {
@@ -142,7 +142,7 @@ fn serve_from<
 // Holds sessions over the connections at the desks of a hub, while a thread of its own writes. Refused where there is no memory or no
 // thread; the flusher is unchanged then.
 fn hold_at<
-    J: Site + Sync + Send,
+    L: Life + Sync + Send,
     R: Threads + Wait + Clock + Sync,
     N: OpenListener<Stream = TcpStream>,
     D: Disk + Send + Drop,
@@ -150,21 +150,20 @@ fn hold_at<
 >(
     rt: &R,
     alloc: Global,
-    hub: &Hub<D, J>,
-    server: Server<D, J>,
+    hub: &Hub<D, L>,
+    server: Server<D, L>,
     listener: &N,
     every: u32,
     idle: u32,
     watch: &W,
-) -> Result<(Past<D, J>, Result<(), Refusal>), Flusher<D, J>>
+) -> Result<(Ending<D, L>, Result<(), AllocError>), Flusher<D, L>>
     requires store { server.held.value ≡ store_of server.flusher }
     requires started { IsStarted server.flusher }
     requires new { All (λ seat. seat ≡ 0) server.seats.items }
     requires none { server.tally ≡ record { seats = 0; counted = 0 } }
-    ensures held { IfOk result (λ both. HasHeld (EachHasServed J.start) J.start server.flusher both.0.ordered both.0.published both.0.tally.counted
+    ensures held { IfOk result (λ both. HasHeld (EachHasServed L.start) L.start server.flusher both.0.ordered both.0.published both.0.tally.counted
         both.0.written (store_of both.0.flusher)) }
     ensures seats { IfOk result (λ both. both.0.tally.seats ≡ length server.seats.items) }
-    ensures only { IfOk result (λ both. IsOkUnless both.1 Refusal.NoMemory) }
     ensures refused { IfErr result (λ flusher. flusher ≡ server.flusher) }
 {
     let Server {
@@ -203,10 +202,9 @@ fn hold_at<
         closer,
         listener,
         desks,
-        |listener, desks| -> (Result<(), Refusal>, Vec<HubDesk<'_, D, J, R>>)
+        |listener, desks| -> (Result<(), AllocError>, Vec<HubDesk<'_, D, L, R>>)
             requires { All (λ desk. desk ≡ first_desk) desks.items }
-            ensures served { EachHasServed J.start result.1.items }
-            ensures only { IsOkUnless result.0 Refusal.NoMemory }
+            ensures served { EachHasServed L.start result.1.items }
             ensures as_many { length result.1.items ≡ length desks.entry.items }
         { serve_all(rt, alloc, desks, listener, idle, watch) },
     ) {
@@ -225,19 +223,21 @@ fn hold_at<
 }
 
 // What ended the writing, or else what kept it from serving.
-fn first_failure(written: Result<(), Refusal>, served: Result<(), Refusal>) -> Result<(), Refusal>
-    requires { IsOkUnless served Refusal.NoMemory }
+fn first_failure(
+    written: Result<(), Refusal>,
+    served: Result<(), AllocError>,
+) -> Result<(), Refusal>
     ensures ok { OnOk result (written ≡ Ok tt) }
     ensures fault { IsErrOf result Refusal.Fault ↔ IsErrOf written Refusal.Fault }
 {
     written?;
-    served
+    Ok(served?)
 }
 
 // Takes connections until the listener ends, and gives the desks back once each session has ended. Refused where none got a thread.
 fn serve_all<
     'a,
-    J: Site + Sync + Send,
+    L: Life + Sync + Send,
     R: Threads + Wait + Clock + Sync,
     N: OpenListener<Stream = TcpStream>,
     D: Send + Drop,
@@ -245,19 +245,18 @@ fn serve_all<
 >(
     rt: &R,
     alloc: Global,
-    desks: Vec<HubDesk<'a, D, J, R>>,
+    desks: Vec<HubDesk<'a, D, L, R>>,
     listener: &N,
     idle: u32,
     watch: &W,
-) -> (Result<(), Refusal>, Vec<HubDesk<'a, D, J, R>>)
+) -> (Result<(), AllocError>, Vec<HubDesk<'a, D, L, R>>)
     requires first { All (λ desk. desk ≡ first_desk) desks.items }
-    ensures served { EachHasServed J.start result.1.items }
-    ensures only { IsOkUnless result.0 Refusal.NoMemory }
+    ensures served { EachHasServed L.start result.1.items }
     ensures as_many { length result.1.items ≡ length desks.entry.items }
 {
     let seated: Seated<'_, D, W> = Seated::new(watch, SEATS as usize);
     match serve_desks(rt, alloc, desks, listener, idle, &seated) {
         Ok(desks) => (seated.served(), desks),
-        Err(failed) => (Err(Refusal::NoMemory), failed.value),
+        Err(failed) => (Err(AllocError), failed.value),
     }
 }

@@ -1,5 +1,5 @@
 //! Seats and desks: before sessions are held at them, and after.
-ghost use Rattle.std.specs.Prelude.{◌≡◌, ◌≤◌, ◌+◌, ◌++◌, [], All, length, sum_by, IfOk, IsOkUnless};
+ghost use Rattle.std.specs.Prelude.{◌≡◌, ◌≤◌, ◌+◌, ◌++◌, [], All, length, sum_by, IfOk};
 ghost use mathlib.Core.List.{IsPrefix};
 ghost use Rattle.flusher.specs.Holding.{store_of, told_of, committed_of};
 ghost use Rattle.server_threads.specs.Answers.{first_desk};
@@ -8,21 +8,19 @@ use disk::Disk;
 use flusher::Flusher;
 use hub::{Board, Hub, Seat, Tally};
 use hub_desk::{Counters, HubDesk};
-use published::{Ordered, Site};
-use refusal::Refusal;
-use std::alloc::Global;
+use published::{Life, Ordered};
+use std::alloc::{AllocError, Global};
 use std::sync::Wait;
 
 /// All seats that a board has to give, which are so many.
-pub(crate) fn seats_of<J: Site, D>(
+pub(crate) fn seats_of<L: Life, D>(
     alloc: Global,
-    board: &mut Board<D, J>,
+    board: &mut Board<D, L>,
     count: u32,
-) -> Result<Vec<Seat<J>>, Refusal>
+) -> Result<Vec<Seat<L>>, AllocError>
     requires left { board.old.left ≡ count }
     ensures new { IfOk result (λ seats. All (λ seat. seat ≡ 0) seats.items) }
     ensures all { IfOk result (λ seats. length seats.items ≡ count) }
-    ensures only { IsOkUnless result Refusal.NoMemory }
 {
     let mut seats = Vec::new(alloc);
     for i in 0..count {
@@ -35,22 +33,21 @@ pub(crate) fn seats_of<J: Site, D>(
 }
 
 /// A desk for each seat for which there is a viewer, with these counters, and the others tallied. Refused where there is no memory, or no viewer at all.
-pub(crate) fn desks_at<'a, J: Site, R: Wait, D: Disk + Drop>(
+pub(crate) fn desks_at<'a, L: Life, R: Wait, D: Disk + Drop>(
     rt: &'a R,
     alloc: Global,
-    flusher: &Flusher<D, J>,
-    hub: &'a Hub<D, J>,
+    flusher: &Flusher<D, L>,
+    hub: &'a Hub<D, L>,
     counters: Option<&'a Counters>,
-    seats: Vec<Seat<J>>,
-    tally: &mut Tally<J>,
-) -> Result<Vec<HubDesk<'a, D, J, R>>, Refusal>
+    seats: Vec<Seat<L>>,
+    tally: &mut Tally<L>,
+) -> Result<Vec<HubDesk<'a, D, L, R>>, AllocError>
     requires told { told_of flusher.now ≡ [] }
     requires new { All (λ seat. seat ≡ 0) seats.items }
     ensures some { IfOk result (λ desks. 1 ≤ length desks.items) }
     ensures first { IfOk result (λ desks. All (λ desk. desk ≡ first_desk) desks.items) }
     ensures all { IfOk result (λ desks. length desks.items + tally.new.seats ≡ length seats.items + tally.old.seats) }
     ensures none { IfOk result (λ desks. tally.new.counted ≡ tally.old.counted) }
-    ensures only { IsOkUnless result Refusal.NoMemory }
 {
     let mut desks = Vec::new(alloc);
     for seat in seats {
@@ -60,18 +57,18 @@ pub(crate) fn desks_at<'a, J: Site, R: Wait, D: Disk + Drop>(
         }
     }
     if desks.is_empty() {
-        return Err(Refusal::NoMemory);
+        return Err(AllocError);
     }
     Ok(desks)
 }
 
 /// Tallies the seats of desks that are used no longer, where each was told of a prefix of the batches that are published and
 /// committed. What they found is a prefix of the order, and of what the token has after it. It takes no memory.
-pub(crate) fn tally_desks<J: Site, R: Wait, D: Disk>(
-    flusher: &mut Flusher<D, J>,
-    desks: Vec<HubDesk<'_, D, J, R>>,
-    tally: &mut Tally<J>,
-    ordered: &mut Ordered<J>,
+pub(crate) fn tally_desks<L: Life, R: Wait, D: Disk>(
+    flusher: &mut Flusher<D, L>,
+    desks: Vec<HubDesk<'_, D, L, R>>,
+    tally: &mut Tally<L>,
+    ordered: &mut Ordered<L>,
 )
     ensures seats { tally.new.seats ≡ tally.old.seats + length desks.entry.items }
     ensures counted { tally.new.counted ≡ tally.old.counted + sum_by (λ desk. desk.counted) desks.entry.items }

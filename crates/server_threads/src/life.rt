@@ -7,10 +7,10 @@ ghost use Rattle.server_threads.specs.Served.{IsStarted};
 
 use crate::desks::{seats_of, tally_desks};
 use disk::Disk;
-use flusher::{Flusher, StartFault, start};
+use flusher::{Flusher, StartError, start};
 use hub::{Closer, Hub, Seat, Tally, Writer};
 use hub_desk::HubDesk;
-use published::{Opened, Ordered, Site};
+use published::{Life, Opened, Ordered};
 use recovery::Store;
 use refusal::Refusal;
 use std::alloc::Global;
@@ -20,29 +20,29 @@ use std::sync::ledger::Blank;
 
 /// What a server has beside its hub before it serves anybody: its store, the rights to write what the hub orders and to end it, and all seats
 /// that there are to give, with their tally.
-pub(crate) struct Server<D: Disk, J: Site> {
+pub(crate) struct Server<D: Disk, L: Life> {
     pub(crate) held: Snapshot<Store<D>>,
-    pub(crate) flusher: Flusher<D, J>,
-    pub(crate) writer: Writer<J>,
-    pub(crate) closer: Closer<J>,
-    pub(crate) seats: Vec<Seat<J>>,
-    pub(crate) tally: Tally<J>,
+    pub(crate) flusher: Flusher<D, L>,
+    pub(crate) writer: Writer<L>,
+    pub(crate) closer: Closer<L>,
+    pub(crate) seats: Vec<Seat<L>>,
+    pub(crate) tally: Tally<L>,
 }
 
 /// Begins a server of so many seats over a store. Refused out of memory alone; the store is unchanged then.
-pub(crate) fn begin<J: Site, R: Wait, D: Disk + Drop>(
+pub(crate) fn begin<L: Life, R: Wait, D: Disk + Drop>(
     rt: &R,
     alloc: Global,
     store: Store<D>,
     opened: Opened,
     blank: Blank,
     count: u32,
-) -> Result<(Hub<D, J>, Server<D, J>), (Store<D>, Refusal)>
-    requires book { opened ≡ J.book }
-    requires name { blank.name ≡ J.name }
-    requires parts { blank.parts ≡ J.parts }
+) -> Result<(Hub<D, L>, Server<D, L>), (Store<D>, Refusal)>
+    requires book { opened ≡ L.book }
+    requires name { blank.name ≡ L.name }
+    requires parts { blank.parts ≡ L.parts }
     requires count { blank.parts ≡ count + 1 }
-    requires start { state_of store ≡ J.start }
+    requires start { state_of store ≡ L.start }
     ensures store { IfOk result (λ begun. (begun.1.held.value ≡ store) × (store_of begun.1.flusher ≡ store)) }
     ensures started { IfOk result (λ begun. IsStarted begun.1.flusher) }
     ensures new { IfOk result (λ begun. All (λ seat. seat ≡ 0) begun.1.seats.items) }
@@ -51,15 +51,15 @@ pub(crate) fn begin<J: Site, R: Wait, D: Disk + Drop>(
     ensures refused { IfErr result (λ back. (back.0 ≡ store) × (back.1 ≡ Refusal.NoMemory)) }
 {
     let held = Snapshot::of(&store);
-    let (flusher, board) = match start::<D, J>(alloc, store, opened, blank, count) {
+    let (flusher, board) = match start::<D, L>(alloc, store, opened, blank, count) {
         Ok(started) => started,
-        Err(StartFault { store, refusal }) => return Err((store, refusal)),
+        Err(StartError { store, refusal }) => return Err((store, refusal)),
     };
     let mut board = board;
     let tally = board.tally();
     let seats = match seats_of(alloc, &mut board, count) {
         Ok(seats) => seats,
-        Err(refusal) => return Err((flusher.end(rt), refusal)),
+        Err(no_memory) => return Err((flusher.end(rt), no_memory.into())),
     };
     let (hub, writer, closer) = Hub::new(board);
     let server = Server {
@@ -75,23 +75,23 @@ pub(crate) fn begin<J: Site, R: Wait, D: Disk + Drop>(
 
 /// What is left where all sessions have ended: the flusher and how its writing ended, a token of the order, how many commands are published,
 /// and the tally of the seats.
-pub(crate) struct Past<D: Disk, J: Site> {
-    pub(crate) flusher: Flusher<D, J>,
+pub(crate) struct Ending<D: Disk, L: Life> {
+    pub(crate) flusher: Flusher<D, L>,
     pub(crate) written: Result<(), Refusal>,
-    pub(crate) ordered: Ordered<J>,
+    pub(crate) ordered: Ordered<L>,
     pub(crate) published: u64,
-    pub(crate) tally: Tally<J>,
+    pub(crate) tally: Tally<L>,
 }
 
 /// Tallies the seats of desks that are used no longer. It takes no memory.
-pub(crate) fn tally_all<J: Site, R: Wait, D: Disk>(
-    flusher: Flusher<D, J>,
+pub(crate) fn tally_all<L: Life, R: Wait, D: Disk>(
+    flusher: Flusher<D, L>,
     written: Result<(), Refusal>,
-    desks: Vec<HubDesk<'_, D, J, R>>,
-    tally: Tally<J>,
-) -> Past<D, J>
+    desks: Vec<HubDesk<'_, D, L, R>>,
+    tally: Tally<L>,
+) -> Ending<D, L>
     requires none { tally.counted ≡ 0 }
-    ensures tallied { IsTallied J.start desks.entry.items flusher result.ordered result.published result.tally.counted (store_of result.flusher) }
+    ensures tallied { IsTallied L.start desks.entry.items flusher result.ordered result.published result.tally.counted (store_of result.flusher) }
     ensures written { result.written ≡ written }
     ensures seats { result.tally.seats ≡ tally.seats + length desks.entry.items }
 {
@@ -102,7 +102,7 @@ pub(crate) fn tally_all<J: Site, R: Wait, D: Disk>(
     let mut ordered = flusher.ordered();
     let published = flusher.told().len();
     tally_desks(&mut flusher, desks, &mut tally, &mut ordered);
-    Past {
+    Ending {
         flusher,
         written,
         ordered,
@@ -113,16 +113,16 @@ pub(crate) fn tally_all<J: Site, R: Wait, D: Disk>(
 
 /// Ends a server all of whose seats are tallied, and gives the store back and how the writing ended: well only where all of the order is
 /// published.
-pub(crate) fn end<J: Site, R: Wait, D: Disk + Drop>(
+pub(crate) fn end<L: Life, R: Wait, D: Disk + Drop>(
     rt: &R,
-    hub: Hub<D, J>,
-    past: Past<D, J>,
+    hub: Hub<D, L>,
+    past: Ending<D, L>,
 ) -> (Store<D>, Result<(), Refusal>)
-    requires seats { past.tally.seats + 1 ≡ J.parts }
+    requires seats { past.tally.seats + 1 ≡ L.parts }
     ensures store { result.0 ≡ store_of past.flusher }
-    ensures counted { IsCounted J.start past.ordered past.published past.tally.counted past.written result.1 }
+    ensures counted { IsCounted L.start past.ordered past.published past.tally.counted past.written result.1 }
 {
-    let Past {
+    let Ending {
         flusher,
         written,
         ordered,

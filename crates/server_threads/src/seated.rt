@@ -1,9 +1,8 @@
 //! What the watch of a server is told of its listener.
-ghost use Rattle.std.specs.Prelude.{IsOkUnless};
 
 use crate::watch::Watch;
-use refusal::Refusal;
 use sockets::{ListenerWatch, Peers};
+use std::alloc::AllocError;
 use std::io;
 use std::marker::PhantomData;
 use std::sync::atomic::{AtomicBool, Ordering};
@@ -29,11 +28,9 @@ impl<'a, D, W> Seated<'a, D, W> {
     }
 
     /// Refused where no session got a thread.
-    pub(crate) fn served(&self) -> Result<(), Refusal>
-        ensures { IsOkUnless result Refusal.NoMemory }
-    {
+    pub(crate) fn served(&self) -> Result<(), AllocError> {
         if self.is_empty.load(Ordering::SeqCst) {
-            return Err(Refusal::NoMemory);
+            return Err(AllocError);
         }
         Ok(())
     }

@@ -10,17 +10,17 @@ ghost use Rattle.server_threads.specs.Streams.{ByOne, EndsAtHub, first_of};
 
 use crate::beside::{Both, hold_beside};
 use crate::desks::desks_at;
-use crate::life::{Past, Server, begin, end, tally_all};
+use crate::life::{Ending, Server, begin, end, tally_all};
 use crate::watch::Watch;
 use crate::writing::Shared;
 use disk::Disk;
 use flusher::Flusher;
 use hub::Hub;
 use hub_desk::HubDesk;
-use published::{Opened, Site};
+use published::{Life, Opened};
 use recovery::Store;
 use refusal::Refusal;
-use serving::{Failure, serve_session};
+use serving::{ServingError, serve_session};
 use session::{Output, Session, Shelf};
 use std::alloc::Global;
 use std::io::Read;
@@ -38,7 +38,7 @@ pub struct Streamed<I, O, D: Disk> {
     pub store: Store<D>,
     pub input: I,
     pub output: O,
-    pub served: Result<(), Failure>,
+    pub served: Result<(), ServingError>,
 }
 
 /// Serves one session to the end of the input, with the news after each line, while a thread of its own writes: a reply is out once its
@@ -67,7 +67,7 @@ pub fn serve_streams<
     ensures served { WasServed (ByOne (EndsAtHub result.served (state_of store)
         (I.remaining input) (I.remaining result.input) (O.contents output) (O.contents result.output)
         (O.has_failed result.output))) (is_ok result.served) store result.store }
-    ensures no_memory { IsErrOf result.served (Failure.Refused Refusal.NoMemory) → (result.store ≡ store)
+    ensures no_memory { IsErrOf result.served (ServingError.Refused Refusal.NoMemory) → (result.store ≡ store)
         × (result.input ≡ input) × (result.output ≡ output) }
     // A store that fails is told of.
     ensures works { OnOk result.served (has_failed store ≡ false → has_failed result.store ≡ false) }
@@ -77,7 +77,7 @@ pub fn serve_streams<
             store,
             input,
             output,
-            served: Err(Failure::Refused(Refusal::NoMemory)),
+            served: Err(ServingError::Refused(Refusal::NoMemory)),
         };
     };
     let blank = Blank::new(PARTS);
@@ -86,7 +86,7 @@ pub fn serve_streams<
 
 // Serves the run that its ledger, its logs and its store's state name.
 fn serve_run<
-    J: Site + Sync + Send,
+    L: Life + Sync + Send,
     R: Threads + Wait + Sync,
     I: Read + Drop,
     O: Output + Drop,
@@ -103,28 +103,28 @@ fn serve_run<
     every: u32,
     watch: &W,
 ) -> Streamed<I, O, D>
-    requires book { opened ≡ J.book }
-    requires name { blank.name ≡ J.name }
-    requires parts { blank.parts ≡ J.parts }
+    requires book { opened ≡ L.book }
+    requires name { blank.name ≡ L.name }
+    requires parts { blank.parts ≡ L.parts }
     requires seats { blank.parts ≡ 2 }
-    requires start { state_of store ≡ J.start }
+    requires start { state_of store ≡ L.start }
     ensures served { WasServed (ByOne (EndsAtHub result.served (state_of store)
         (I.remaining input) (I.remaining result.input) (O.contents output) (O.contents result.output)
         (O.has_failed result.output))) (is_ok result.served) store result.store }
-    ensures no_memory { IsErrOf result.served (Failure.Refused Refusal.NoMemory) → (result.store ≡ store)
+    ensures no_memory { IsErrOf result.served (ServingError.Refused Refusal.NoMemory) → (result.store ≡ store)
         × (result.input ≡ input) × (result.output ≡ output) }
     ensures works { OnOk result.served (has_failed store ≡ false → has_failed result.store ≡ false) }
 {
     let streams = OverStreams { input, output };
-    match begin::<J, R, D>(rt, alloc, store, opened, blank, 1) {
+    match begin::<L, R, D>(rt, alloc, store, opened, blank, 1) {
         Ok((hub, server)) => serve_from(rt, alloc, hub, server, streams, every, watch),
-        Err((store, refusal)) => streams.back(store, Err(Failure::Refused(refusal))),
+        Err((store, refusal)) => streams.back(store, Err(ServingError::Refused(refusal))),
     }
 }
 
 // Serves from a server's beginning to its end.
 fn serve_from<
-    J: Site + Sync + Send,
+    L: Life + Sync + Send,
     R: Threads + Wait + Sync,
     I: Read + Drop,
     O: Output + Drop,
@@ -133,8 +133,8 @@ fn serve_from<
 >(
     rt: &R,
     alloc: Global,
-    hub: Hub<D, J>,
-    server: Server<D, J>,
+    hub: Hub<D, L>,
+    server: Server<D, L>,
     streams: OverStreams<I, O>,
     every: u32,
     watch: &W,
@@ -143,12 +143,12 @@ fn serve_from<
     requires started { IsStarted server.flusher }
     requires new { All (λ seat. seat ≡ 0) server.seats.items }
     requires one { length server.seats.items ≡ 1 }
-    requires parts { J.parts ≡ 2 }
+    requires parts { L.parts ≡ 2 }
     requires none { server.tally ≡ record { seats = 0; counted = 0 } }
-    ensures served { WasServed (ByOne (EndsAtHub result.served J.start
+    ensures served { WasServed (ByOne (EndsAtHub result.served L.start
         (I.remaining streams.input) (I.remaining result.input) (O.contents streams.output) (O.contents result.output)
         (O.has_failed result.output))) (is_ok result.served) (store_of server.flusher) result.store }
-    ensures no_memory { IsErrOf result.served (Failure.Refused Refusal.NoMemory) → (result.store ≡ store_of server.flusher)
+    ensures no_memory { IsErrOf result.served (ServingError.Refused Refusal.NoMemory) → (result.store ≡ store_of server.flusher)
         × (result.input ≡ streams.input) × (result.output ≡ streams.output) }
     ensures works { OnOk result.served (has_failed (store_of server.flusher) ≡ false → has_failed result.store ≡ false) }
 {
@@ -158,7 +158,7 @@ fn serve_from<
             streams.back(store, first_failure(answer, written))
         }
         Err((flusher, streams)) => {
-            let refused = Err(Failure::Refused(Refusal::NoMemory));
+            let refused = Err(ServingError::Refused(Refusal::NoMemory));
             streams.back(flusher.end(rt), refused)
         }
     }
@@ -167,7 +167,7 @@ fn serve_from<
 // Holds the session over the streams at the one desk of a hub, while a thread of its own writes. Refused where there is no memory or no
 // thread; the flusher and the streams are unchanged then.
 fn hold_at<
-    J: Site + Sync + Send,
+    L: Life + Sync + Send,
     R: Threads + Wait + Sync,
     I: Read + Drop,
     O: Output + Drop,
@@ -176,26 +176,26 @@ fn hold_at<
 >(
     rt: &R,
     alloc: Global,
-    hub: &Hub<D, J>,
-    server: Server<D, J>,
+    hub: &Hub<D, L>,
+    server: Server<D, L>,
     streams: OverStreams<I, O>,
     every: u32,
     watch: &W,
 ) -> Result<
-    (Past<D, J>, OverStreams<I, O>, Result<(), Failure>),
-    (Flusher<D, J>, OverStreams<I, O>),
+    (Ending<D, L>, OverStreams<I, O>, Result<(), ServingError>),
+    (Flusher<D, L>, OverStreams<I, O>),
 >
     requires store { server.held.value ≡ store_of server.flusher }
     requires started { IsStarted server.flusher }
     requires new { All (λ seat. seat ≡ 0) server.seats.items }
     requires one { length server.seats.items ≡ 1 }
     requires none { server.tally ≡ record { seats = 0; counted = 0 } }
-    ensures held { IfOk result (λ all. HasHeld (ByOne (EndsAtHub all.2 J.start
+    ensures held { IfOk result (λ all. HasHeld (ByOne (EndsAtHub all.2 L.start
         (I.remaining streams.input) (I.remaining all.1.input) (O.contents streams.output) (O.contents all.1.output)
-        (O.has_failed all.1.output))) J.start server.flusher all.0.ordered all.0.published all.0.tally.counted
+        (O.has_failed all.1.output))) L.start server.flusher all.0.ordered all.0.published all.0.tally.counted
         all.0.written (store_of all.0.flusher)) }
     ensures seats { IfOk result (λ all. all.0.tally.seats ≡ 1) }
-    ensures only { IfOk result (λ all. IfErr all.2 (λ e. e ≡ Failure.Stream)) }
+    ensures only { IfOk result (λ all. IfErr all.2 (λ e. e ≡ ServingError.Stream)) }
     ensures refused { IfErr result (λ back. (back.0 ≡ server.flusher) × (back.1 ≡ streams)) }
 {
     let Server {
@@ -241,15 +241,15 @@ fn hold_at<
         streams,
         desks,
         |streams, desks| -> (
-            (OverStreams<I, O>, Result<(), Failure>),
-            Vec<HubDesk<'_, D, J, R>>,
+            (OverStreams<I, O>, Result<(), ServingError>),
+            Vec<HubDesk<'_, D, L, R>>,
         )
             requires { (session ≡ beginning) × (shelf ≡ []) × (length desks.items ≡ 1)
                 × All (λ desk. desk ≡ first_desk) desks.items }
-            ensures ends { ByOne (EndsAtHub result.0.1 J.start
+            ensures ends { ByOne (EndsAtHub result.0.1 L.start
                 (I.remaining streams.input) (I.remaining result.0.0.input) (O.contents streams.output) (O.contents result.0.0.output)
                 (O.has_failed result.0.0.output)) result.1.items }
-            ensures only { IfErr result.0.1 (λ e. e ≡ Failure.Stream) }
+            ensures only { IfErr result.0.1 (λ e. e ≡ ServingError.Stream) }
         { serve_one(alloc, session, shelf, streams, desks) },
     ) {
         Ok(
@@ -267,12 +267,15 @@ fn hold_at<
 }
 
 // What ended the session, or else that the store failed.
-fn first_failure(answer: Result<(), Failure>, written: Result<(), Refusal>) -> Result<(), Failure>
+fn first_failure(
+    answer: Result<(), ServingError>,
+    written: Result<(), Refusal>,
+) -> Result<(), ServingError>
     ensures { result ≡ first_of answer written }
 {
     answer?;
     if written.is_err() {
-        return Err(Failure::Refused(Refusal::StoreFailed));
+        return Err(ServingError::Refused(Refusal::StoreFailed));
     }
     Ok(())
 }
@@ -286,7 +289,7 @@ struct OverStreams<I, O> {
 
 impl<I, O> OverStreams<I, O> {
     // They are given back, with the store and how serving ended.
-    fn back<D: Disk>(self, store: Store<D>, served: Result<(), Failure>) -> Streamed<I, O, D>
+    fn back<D: Disk>(self, store: Store<D>, served: Result<(), ServingError>) -> Streamed<I, O, D>
         ensures { result ≡ record { store = store; input = self.input; output = self.output; served = served } }
     {
         let OverStreams { input, output } = self;
@@ -300,24 +303,24 @@ impl<I, O> OverStreams<I, O> {
 }
 
 // Serves the session at the one desk there is.
-fn serve_one<'a, J: Site, R: Wait, I: Read + Drop, O: Output + Drop, D>(
+fn serve_one<'a, L: Life, R: Wait, I: Read + Drop, O: Output + Drop, D>(
     alloc: Global,
     session: Session,
     shelf: Shelf,
     streams: OverStreams<I, O>,
-    desks: Vec<HubDesk<'a, D, J, R>>,
+    desks: Vec<HubDesk<'a, D, L, R>>,
 ) -> (
-    (OverStreams<I, O>, Result<(), Failure>),
-    Vec<HubDesk<'a, D, J, R>>,
+    (OverStreams<I, O>, Result<(), ServingError>),
+    Vec<HubDesk<'a, D, L, R>>,
 )
     requires session { session ≡ beginning }
     requires shelf { shelf ≡ [] }
     requires one { length desks.items ≡ 1 }
     requires first { All (λ desk. desk ≡ first_desk) desks.items }
-    ensures ends { ByOne (EndsAtHub result.0.1 J.start
+    ensures ends { ByOne (EndsAtHub result.0.1 L.start
         (I.remaining streams.input) (I.remaining result.0.0.input) (O.contents streams.output) (O.contents result.0.0.output)
         (O.has_failed result.0.0.output)) result.1.items }
-    ensures only { IfErr result.0.1 (λ e. e ≡ Failure.Stream) }
+    ensures only { IfErr result.0.1 (λ e. e ≡ ServingError.Stream) }
 {
     let OverStreams {
         mut input,
@@ -338,22 +341,22 @@ fn serve_one<'a, J: Site, R: Wait, I: Read + Drop, O: Output + Drop, D>(
 }
 
 // Serves the session by the first desk, which is the only one.
-fn serve_first<J: Site, R: Wait, I: Read, O: Output, D>(
+fn serve_first<L: Life, R: Wait, I: Read, O: Output, D>(
     alloc: Global,
     session: &mut Session,
-    desks: &mut Vec<HubDesk<'_, D, J, R>>,
+    desks: &mut Vec<HubDesk<'_, D, L, R>>,
     shelf: &mut Shelf,
     input: &mut I,
     output: &mut O,
-) -> Result<(), Failure>
+) -> Result<(), ServingError>
     requires session { session.old ≡ beginning }
     requires shelf { shelf.old ≡ [] }
     requires one { length desks.old.items ≡ 1 }
     requires first { All (λ desk. desk ≡ first_desk) desks.old.items }
-    ensures ends { ByOne (EndsAtHub result J.start
+    ensures ends { ByOne (EndsAtHub result L.start
         (I.remaining input.old) (I.remaining input.new) (O.contents output.old) (O.contents output.new)
         (O.has_failed output.new)) desks.new.items }
-    ensures only { IfErr result (λ e. e ≡ Failure.Stream) }
+    ensures only { IfErr result (λ e. e ≡ ServingError.Stream) }
 {
     serve_session(alloc, session, &mut desks[0], shelf, input, output)
 }

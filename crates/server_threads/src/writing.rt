@@ -11,7 +11,7 @@ use crate::written::Written;
 use disk::Disk;
 use flusher::Flusher;
 use hub::{Hub, Writer};
-use published::Site;
+use published::Life;
 use refusal::Refusal;
 use std::alloc::Global;
 use std::sync::Wait;
@@ -21,24 +21,24 @@ use turns::{Composers, OpenHalves, channels, compose_workers, flush_all};
 
 /// What the thread that writes and those of the sessions share.
 #[derive(Drop)]
-pub(crate) struct Shared<'a, D, J: Site, R, W> {
+pub(crate) struct Shared<'a, D, L: Life, R, W> {
     pub(crate) rt: &'a R,
     pub(crate) alloc: Global,
-    pub(crate) hub: &'a Hub<D, J>,
+    pub(crate) hub: &'a Hub<D, L>,
     pub(crate) every: u32,
     pub(crate) watch: &'a W,
 }
 
 /// What the thread that writes has, from its beginning on.
-pub(crate) struct Writing<'a, D: Disk + Drop, J: Site, R: Wait, W> {
-    pub(crate) shared: &'a Shared<'a, D, J, R, W>,
+pub(crate) struct Writing<'a, D: Disk + Drop, L: Life, R: Wait, W> {
+    pub(crate) shared: &'a Shared<'a, D, L, R, W>,
     /// Whether there is a thread for it.
     pub(crate) has_thread: &'a AtomicBool,
-    pub(crate) flusher: Flusher<D, J>,
-    pub(crate) writer: Writer<J>,
+    pub(crate) flusher: Flusher<D, L>,
+    pub(crate) writer: Writer<L>,
 }
 
-impl<D: Disk + Drop, J: Site, R: Wait, W> Drop for Writing<'_, D, J, R, W> {
+impl<D: Disk + Drop, L: Life, R: Wait, W> Drop for Writing<'_, D, L, R, W> {
     fn drop(self) {
         let Writing {
             shared,
@@ -50,15 +50,15 @@ impl<D: Disk + Drop, J: Site, R: Wait, W> Drop for Writing<'_, D, J, R, W> {
     }
 }
 
-impl<'a, D: Disk + Drop, J: Site, R: Threads + Wait + Sync, W: Watch<D>> Writing<'a, D, J, R, W> {
+impl<'a, D: Disk + Drop, L: Life, R: Threads + Wait + Sync, W: Watch<D>> Writing<'a, D, L, R, W> {
     ghost use Rattle.server_threads.specs.Served.{IsStarted};
     ghost use Rattle.server_threads.specs.Written.{HasRun};
 
     /// Makes turns until the hub is ended, beside composers. Where there is no thread for it, it writes nothing.
     #[tactic(auto, using(crate::proofs::Served::unbegun_run, crate::proofs::Served::ended_run))]
-    pub(crate) fn run(self) -> Written<'a, D, J, R>
+    pub(crate) fn run(self) -> Written<'a, D, L, R>
         requires { IsStarted self.flusher }
-        ensures { HasRun J.start self.entry.flusher result.flusher result.answer result.is_begun }
+        ensures { HasRun L.start self.entry.flusher result.flusher result.answer result.is_begun }
     {
         self.flusher.kept();
         if !self.has_thread.load(Ordering::SeqCst) {
@@ -80,8 +80,8 @@ impl<'a, D: Disk + Drop, J: Site, R: Threads + Wait + Sync, W: Watch<D>> Writing
 
     // Makes turns until the hub is ended.
     #[tactic(auto, using(crate::proofs::Served::has_written))]
-    fn write(self, composers: Option<Composers>) -> Written<'a, D, J, R>
-        ensures written { HasWritten J.start self.entry.flusher result.flusher result.answer }
+    fn write(self, composers: Option<Composers>) -> Written<'a, D, L, R>
+        ensures written { HasWritten L.start self.entry.flusher result.flusher result.answer }
         ensures begun { result.is_begun ≡ true }
     {
         let Writing {
@@ -104,10 +104,10 @@ impl<'a, D: Disk + Drop, J: Site, R: Threads + Wait + Sync, W: Watch<D>> Writing
 
 // Makes turns until the hub is ended, beside composers in a thread of their own. Where there is no memory for the channels to them, or no
 // such thread, it makes the turns without them.
-fn write_beside<'a, D: Disk + Drop, J: Site, R: Threads + Wait + Sync, W: Watch<D>>(
-    writing: Writing<'a, D, J, R, W>,
-) -> Written<'a, D, J, R>
-    ensures written { HasWritten J.start writing.entry.flusher result.flusher result.answer }
+fn write_beside<'a, D: Disk + Drop, L: Life, R: Threads + Wait + Sync, W: Watch<D>>(
+    writing: Writing<'a, D, L, R, W>,
+) -> Written<'a, D, L, R>
+    ensures written { HasWritten L.start writing.entry.flusher result.flusher result.answer }
     ensures begun { result.is_begun ≡ true }
 {
     let rt = writing.shared.rt;
@@ -117,8 +117,8 @@ fn write_beside<'a, D: Disk + Drop, J: Site, R: Threads + Wait + Sync, W: Watch<
             let (_ended, written) = join(
                 rt,
                 move || compose_workers(rt, alloc, first, second, &OpenHalves),
-                move || -> Written<'_, D, J, R>
-                    ensures written { HasWritten J.start writing.entry.flusher result.flusher result.answer }
+                move || -> Written<'_, D, L, R>
+                    ensures written { HasWritten L.start writing.entry.flusher result.flusher result.answer }
                     ensures begun { result.is_begun ≡ true }
                 { writing.write(Some(composers)) },
             );
@@ -129,13 +129,13 @@ fn write_beside<'a, D: Disk + Drop, J: Site, R: Threads + Wait + Sync, W: Watch<
 }
 
 // Makes turns until the hub is ended. Where the store fails the watch is told.
-fn write_all<J: Site, R: Wait, D: Disk, W: Watch<D>>(
-    shared: &Shared<'_, D, J, R, W>,
-    flusher: &mut Flusher<D, J>,
-    writer: &mut Writer<J>,
+fn write_all<L: Life, R: Wait, D: Disk, W: Watch<D>>(
+    shared: &Shared<'_, D, L, R, W>,
+    flusher: &mut Flusher<D, L>,
+    writer: &mut Writer<L>,
     composers: Option<Composers>,
 ) -> Result<(), Refusal>
-    ensures writes { Writes J.start flusher.old flusher.new }
+    ensures writes { Writes L.start flusher.old flusher.new }
     ensures nothing { OnOk result ((committed_of flusher.new ≡ []) × (waiting_of flusher.new ≡ [])) }
     ensures fails { has_failed (store_of flusher.old) ≡ false
         → (has_failed (store_of flusher.new) ≡ true ↔ IsErrOf result Refusal.Fault) }

@@ -1,7 +1,7 @@
 //! What comes of the thread that writes.
 use disk::Disk;
 use flusher::Flusher;
-use published::Site;
+use published::Life;
 use recovery::Store;
 use refusal::Refusal;
 use std::marker::PhantomData;
@@ -10,14 +10,14 @@ use std::sync::Wait;
 use std::thread::Promise;
 
 /// The flusher that wrote, how it ended, and whether it was begun.
-pub(crate) struct Written<'a, D: Disk + Drop, J: Site, R: Wait> {
+pub(crate) struct Written<'a, D: Disk + Drop, L: Life, R: Wait> {
     pub(crate) rt: &'a R,
-    pub(crate) flusher: Flusher<D, J>,
+    pub(crate) flusher: Flusher<D, L>,
     pub(crate) answer: Result<(), Refusal>,
     pub(crate) is_begun: bool,
 }
 
-impl<D: Disk + Drop, J: Site, R: Wait> Drop for Written<'_, D, J, R> {
+impl<D: Disk + Drop, L: Life, R: Wait> Drop for Written<'_, D, L, R> {
     fn drop(self) {
         let Written {
             rt,
@@ -29,11 +29,11 @@ impl<D: Disk + Drop, J: Site, R: Wait> Drop for Written<'_, D, J, R> {
     }
 }
 
-impl<D: Disk + Drop, J: Site, R: Wait> Written<'_, D, J, R> {
+impl<D: Disk + Drop, L: Life, R: Wait> Written<'_, D, L, R> {
     ghost use Rattle.std.specs.Prelude.{◌≡◌};
 
     /// Gives the flusher back, and how it ended.
-    pub(crate) fn into_parts(self) -> (Flusher<D, J>, Result<(), Refusal>)
+    pub(crate) fn into_parts(self) -> (Flusher<D, L>, Result<(), Refusal>)
         ensures flusher { result.0 ≡ self.entry.flusher }
         ensures answer { result.1 ≡ self.entry.answer }
     {
@@ -49,13 +49,13 @@ impl<D: Disk + Drop, J: Site, R: Wait> Written<'_, D, J, R> {
 
 /// Promises what comes of a flusher that was just started over this store.
 #[derive(Drop)]
-pub(crate) struct WrittenBy<D: Disk, J: Site> {
+pub(crate) struct WrittenBy<D: Disk, L: Life> {
     pub(crate) store: Snapshot<Store<D>>,
-    pub(crate) of: PhantomData<J>,
+    pub(crate) of: PhantomData<L>,
 }
 
-impl<'a, D: Disk + Drop, J: Site, R: Wait> Promise<Written<'a, D, J, R>> for WrittenBy<D, J> {
+impl<'a, D: Disk + Drop, L: Life, R: Wait> Promise<Written<'a, D, L, R>> for WrittenBy<D, L> {
     ghost use Rattle.server_threads.specs.Written.{StartedOverWrites};
 
-    ghost kept_by = { λ by written. StartedOverWrites J.start by.store.value written.flusher written.answer };
+    ghost kept_by = { λ by written. StartedOverWrites L.start by.store.value written.flusher written.answer };
 }

@@ -9,7 +9,7 @@ ghost use Rattle.sockets.specs.Desks.{HaveServed};
 
 use disk::Disk;
 use hub_desk::HubDesk;
-use published::Site;
+use published::Life;
 use recovery::Store;
 use refusal::Refusal;
 use revision::Command;
@@ -24,13 +24,13 @@ use std::thread::Threads;
 use std::time::Clock;
 
 /// Answers a command at a hub once it is settled: what the desk shows from then on has it.
-pub fn answer<D, J: Site, R: Wait>(
+pub fn answer<D, L: Life, R: Wait>(
     alloc: Global,
-    desk: &mut HubDesk<'_, D, J, R>,
+    desk: &mut HubDesk<'_, D, L, R>,
     command: &Command,
 ) -> Result<Reply, Refusal>
-    ensures ok { IfOk result (λ reply. Acknowledges J.start desk.old command.now reply desk.new) }
-    ensures err { IfErr result (λ e. Refuses J.start desk.old command.now e desk.new) }
+    ensures ok { IfOk result (λ reply. Acknowledges L.start desk.old command.now reply desk.new) }
+    ensures err { IfErr result (λ e. Refuses L.start desk.old command.now e desk.new) }
 {
     desk.ask(alloc, command)
 }

@@ -1,8 +1,8 @@
 -- Pieces of the input, as they are read.
-use Rattle.std.proofs.Common.{◌++◌, ◌<◌, false, ℕ, zero, suc, List, [], ◌∷◌, take, drop, length, slice_index, Option, Some, None, Result, Ok, Err, OnErr, ◌≡◌, ◌≢◌, refl, sym, ap, subst, ◌∙◌, append_assoc, append-nil, arith}
+use Rattle.std.proofs.Common.{◌++◌, ◌<◌, false, ℕ, zero, suc, List, [], ◌∷◌, drop, length, slice_index, Option, Some, None, ◌≡◌, ◌≢◌, refl, sym, ap, subst, ◌∙◌, append_assoc, append-nil, arith}
 use Rattle.std.proofs.lemmas.Bool.{false≢true}
 use Rattle.std.specs.Prelude.{◌==◌}
-use Rattle.std.specs.Io.KnownBytes.{Appends, Consumes, Keeps}
+use Rattle.std.specs.Io.KnownBytes.{Consumes, Keeps}
 use Rattle.session.specs.Session.{Session}
 use Rattle.session.specs.Exchange.{Exchange}
 use Rattle.session.specs.Line.{HasNoEnd}
@@ -10,21 +10,12 @@ use Rattle.session.specs.Replies.{Feeds, Stops}
 use Rattle.session.specs.Calls.{Call, Fed, OfPiece, TellsNews, StopsNews}
 use Rattle.serving.specs.Serving.{AreServedBy, no_bytes, within_line, line_end, ServesBytes, Serves, StopsAt, AtOnce, InReplies, InNews, StopsBytes, StopsServing, IsFedAtOnce, BeginsWithEnd}
 use Rattle.session.proofs.CallerLemmas.{asks-joined, appends-both, calls-joined, calls-one}
-
--- what holds anyhow holds of a call that fails
-pub on_err : {T E : Type 0} {P : Type 0} (r : Result T E) → P → OnErr r P
-on_err (Ok x) h = tt
-on_err (Err e) h = h
+pub use Rattle.session.proofs.CallerLemmas.{text_of as text-before, on_err}
+pub use Rattle.std.proofs.KnownBytes.{Appends-nil as appends-nothing, Consumes-nil as consumes-nothing, Appends-kept as appends-kept, Consumes-trans as consumes-both}
 
 pub keeps-same : (a : Option (List ℕ)) → Keeps a a
 keeps-same None = tt
 keeps-same (Some x) = refl
-
-pub keeps-both : (a b c : Option (List ℕ)) → Keeps a b → Keeps b c → Keeps a c
-keeps-both None b c first second = tt
-keeps-both (Some x) None c first second = absurd first
-keeps-both (Some x) (Some y) None first second = absurd second
-keeps-both (Some x) (Some y) (Some z) first second = second ∙ first
 
 -- what is read where nothing was lost before
 pub keeps-consumes : (a b c : Option (List ℕ)) (bytes : List ℕ) → Keeps a b → Consumes b c bytes → Consumes a c bytes
@@ -32,27 +23,6 @@ keeps-consumes None b c bytes first second = tt
 keeps-consumes (Some x) None c bytes first second = absurd first
 keeps-consumes (Some x) (Some y) None bytes first second = absurd second
 keeps-consumes (Some x) (Some y) (Some z) bytes first second = sym first ∙ second
-
-pub consumes-nothing : (a : Option (List ℕ)) → Consumes a a []
-consumes-nothing None = tt
-consumes-nothing (Some x) = refl
-
-pub consumes-both : (a b c : Option (List ℕ)) (front back : List ℕ) → Consumes a b front → Consumes b c back → Consumes a c (front ++ back)
-consumes-both None b c front back first second = tt
-consumes-both (Some x) None c front back first second = absurd first
-consumes-both (Some x) (Some y) None front back first second = absurd second
-consumes-both (Some x) (Some y) (Some z) front back first second = first ∙ ap (λ l. front ++ l) second ∙ sym (append_assoc front back z)
-
-pub appends-nothing : (a : Option (List ℕ)) → Appends a a []
-appends-nothing None = tt
-appends-nothing (Some x) = sym (append-nil x)
-
--- what is written is kept by a flush
-pub appends-kept : (a b c : Option (List ℕ)) (text : List ℕ) → Appends a b text → Keeps b c → Appends a c text
-appends-kept None b c text written kept = tt
-appends-kept (Some x) None c text written kept = absurd written
-appends-kept (Some x) (Some y) None text written kept = absurd kept
-appends-kept (Some x) (Some y) (Some z) text written kept = kept ∙ written
 
 -- the calls that serve bytes, one part behind another
 served-joined : (front back : List ℕ) (a b : List Call) → AreServedBy front a → AreServedBy back b → AreServedBy (front ++ back) (a ++ b)
@@ -62,13 +32,6 @@ served-joined front back a b (within_line text bytes calls inner rest) second =
     (within_line text (bytes ++ back) (calls ++ b) inner (served-joined bytes back calls b rest second))
 served-joined front back a b (line_end bytes calls news for_news rest) second =
     line_end (bytes ++ back) (calls ++ b) news for_news (served-joined bytes back calls b rest second)
-
--- what stands in front of the first line end is text within a line, and what stands from there on begins with the end
-pub text-before : (piece : List ℕ) (count : ℕ) → ((i : ℕ) → i < count → slice_index piece i ≢ 10) → HasNoEnd (take count piece)
-text-before [] zero inner = tt
-text-before [] (suc count) inner = tt
-text-before (byte ∷ bytes) zero inner = tt
-text-before (byte ∷ bytes) (suc count) inner = (inner 0 (omega arith), text-before bytes count (λ i below. inner (suc i) (omega arith)))
 
 pub end-at : (piece : List ℕ) (count : ℕ) → (count < length piece → slice_index piece count ≡ 10) → BeginsWithEnd (drop count piece)
 end-at [] zero end = tt

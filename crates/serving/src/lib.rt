@@ -2,7 +2,7 @@
 //!
 //! `serve_session` reads the input piece by piece and feeds it to a session line by line, so that the replies to a line and the news after
 //! it are out before the next one is taken. Its output is the replies to the lines of its input, made with the answers of its desk, and the
-//! news after each line (`specs/Serving.antt`). A `Failure` is why a program ends before its end.
+//! news after each line (`specs/Serving.antt`). A `ServingError` is why a program ends before its end.
 //!
 //! It stands on `session` for lines and replies.
 //!
@@ -12,7 +12,7 @@
 //! ghost use Rattle.std.specs.Prelude.{◌≡◌, false, OnOk};
 //! ghost use Rattle.std.specs.Io.KnownBytes.{IsAtEnd};
 //!
-//! use serving::{Failure, serve_session};
+//! use serving::{ServingError, serve_session};
 //! use session::{Desk, Output, Session, Shelf};
 //! use std::alloc::Global;
 //! use std::io::Read;
@@ -23,7 +23,7 @@
 //!     desk: &mut K,
 //!     input: &mut I,
 //!     output: &mut O,
-//! ) -> Result<(), Failure>
+//! ) -> Result<(), ServingError>
 //!     ensures at_end { OnOk result (IsAtEnd (I.remaining input.new)) }
 //!     ensures sent { OnOk result (O.has_failed output.new ≡ false) }
 //! {
@@ -37,5 +37,5 @@
 mod failure;
 mod serve;
 
-pub use failure::Failure;
+pub use failure::ServingError;
 pub use serve::serve_session;

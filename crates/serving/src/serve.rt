@@ -1,11 +1,11 @@
 //! One session over a pair of streams.
-ghost use Rattle.std.specs.Prelude.{◌≡◌, ◌⊎◌, ◌≤◌, ◌<◌, ◌∷◌, ◌++◌, List, ℕ, [], None, Some, true, false, take, length, IfOk, IfErr, IsErrOf, OnOk, OnErr};
+ghost use Rattle.std.specs.Prelude.{◌≡◌, ◌⊎◌, ◌≤◌, ◌<◌, ◌∷◌, ◌++◌, [], None, Some, true, false, take, length, IfOk, IfErr, OnOk, OnErr};
 ghost use Rattle.std.specs.Io.KnownBytes.{Consumes, IsAtEnd, Keeps};
 ghost use Rattle.session.specs.Line.{HasNoEnd};
 ghost use Rattle.session.specs.Shelf.{Fits};
 ghost use Rattle.serving.specs.Serving.{Serves, ServesBytes, StopsBytes, StopsServing, BeginsWithEnd};
 
-use crate::failure::Failure;
+use crate::failure::ServingError;
 use session::{Desk, Output, Session, Shelf, text_length};
 use std::alloc::Global;
 use std::io::{ErrorKind, Read};
@@ -22,7 +22,7 @@ pub fn serve_session<K: Desk, I: Read, O: Output>(
     shelf: &mut Shelf,
     input: &mut I,
     output: &mut O,
-) -> Result<(), Failure>
+) -> Result<(), ServingError>
     requires fits { Fits (K.reached desk.old) shelf.old }
     requires works { session.old.ended ≡ false }
     ensures fits { Fits (K.reached desk.new) shelf.new }
@@ -35,14 +35,14 @@ pub fn serve_session<K: Desk, I: Read, O: Output>(
         ⊎ Serves K.does session.old session.new desk.old desk.new
         (I.remaining input.old) (I.remaining input.new) (O.contents output.old) (O.contents output.new)) }
     ensures sent { OnOk result (O.has_failed output.new ≡ false) }
-    ensures only { IfErr result (λ e. e ≡ Failure.Stream) }
+    ensures only { IfErr result (λ e. e ≡ ServingError.Stream) }
 {
     'pieces: for _ in 0..u64::MAX {
         if !serve_piece(alloc, session, desk, shelf, input, output)? {
             return Ok(());
         }
     }
-    Err(Failure::Stream)
+    Err(ServingError::Stream)
 }
 
 // Reads a piece of the input and answers its lines. The answer is whether there was one.
@@ -53,7 +53,7 @@ fn serve_piece<K: Desk, I: Read, O: Output>(
     shelf: &mut Shelf,
     input: &mut I,
     output: &mut O,
-) -> Result<bool, Failure>
+) -> Result<bool, ServingError>
     requires fits { Fits (K.reached desk.old) shelf.old }
     requires works { session.old.ended ≡ false }
     ensures fits { Fits (K.reached desk.new) shelf.new }
@@ -67,7 +67,7 @@ fn serve_piece<K: Desk, I: Read, O: Output>(
         (I.remaining input.old) (I.remaining input.new) (O.contents output.old) (O.contents output.new)) }
     ensures works { OnOk result (session.new.ended ≡ false) }
     ensures sent { OnOk result (O.has_failed output.new ≡ false) }
-    ensures only { IfErr result (λ e. e ≡ Failure.Stream) }
+    ensures only { IfErr result (λ e. e ≡ ServingError.Stream) }
 {
     let mut piece = [0; PIECE];
     let count = read_some(input, &mut piece)?;
@@ -77,22 +77,22 @@ fn serve_piece<K: Desk, I: Read, O: Output>(
 }
 
 // A read that a signal cut short is made again.
-fn read_some<I: Read>(input: &mut I, piece: &mut [u8]) -> Result<usize, Failure>
+fn read_some<I: Read>(input: &mut I, piece: &mut [u8]) -> Result<usize, ServingError>
     requires { 0 < length piece.old }
     ensures within { IfOk result (λ n. n ≤ length piece.new) }
     ensures given { IfOk result (λ n. Consumes (I.remaining input.old) (I.remaining input.new) (take n piece.new)) }
     ensures at_end { IfOk result (λ n. n ≡ 0 → IsAtEnd (I.remaining input.new)) }
     ensures kept { OnErr result (Keeps (I.remaining input.old) (I.remaining input.new)) }
-    ensures only { IfErr result (λ e. e ≡ Failure.Stream) }
+    ensures only { IfErr result (λ e. e ≡ ServingError.Stream) }
 {
     'tries: for _ in 0..u64::MAX {
         match input.read(piece) {
             Ok(count) => return Ok(count),
             Err(error) if error.kind() == ErrorKind::Interrupted => {}
-            Err(_) => return Err(Failure::Stream),
+            Err(_) => return Err(ServingError::Stream),
         }
     }
-    Err(Failure::Stream)
+    Err(ServingError::Stream)
 }
 
 // Feeds a piece line by line, so that the replies to a line and the news after it are out before the next one is taken.
@@ -103,7 +103,7 @@ fn feed_all<K: Desk, O: Output>(
     shelf: &mut Shelf,
     piece: &[u8],
     output: &mut O,
-) -> Result<(), Failure>
+) -> Result<(), ServingError>
     requires fits { Fits (K.reached desk.old) shelf.old }
     requires works { session.old.ended ≡ false }
     ensures fits { Fits (K.reached desk.new) shelf.new }
@@ -113,7 +113,7 @@ fn feed_all<K: Desk, O: Output>(
         (O.contents output.old) (O.contents output.new)) }
     ensures cause { OnErr result (O.has_failed output.new ≡ true) }
     ensures works { OnOk result (session.new.ended ≡ false) }
-    ensures only { IfErr result (λ e. e ≡ Failure.Stream) }
+    ensures only { IfErr result (λ e. e ≡ ServingError.Stream) }
 {
     let mut rest = piece;
     while !rest.is_empty() {
@@ -147,7 +147,7 @@ fn feed_text<K: Desk, O: Output>(
     shelf: &mut Shelf,
     text: &[u8],
     output: &mut O,
-) -> Result<(), Failure>
+) -> Result<(), ServingError>
     requires fits { Fits (K.reached desk.old) shelf.old }
     requires works { session.old.ended ≡ false }
     requires text { HasNoEnd text.now }
@@ -158,10 +158,10 @@ fn feed_text<K: Desk, O: Output>(
         (O.contents output.old) (O.contents output.new)) }
     ensures cause { OnErr result (O.has_failed output.new ≡ true) }
     ensures works { OnOk result (session.new.ended ≡ false) }
-    ensures only { IfErr result (λ e. e ≡ Failure.Stream) }
+    ensures only { IfErr result (λ e. e ≡ ServingError.Stream) }
 {
     let Ok(()) = session.feed(alloc, text, output, desk, shelf) else {
-        return Err(Failure::Stream);
+        return Err(ServingError::Stream);
     };
     Ok(())
 }
@@ -173,7 +173,7 @@ fn end_line<K: Desk, O: Output>(
     desk: &mut K,
     shelf: &mut Shelf,
     output: &mut O,
-) -> Result<(), Failure>
+) -> Result<(), ServingError>
     requires fits { Fits (K.reached desk.old) shelf.old }
     requires works { session.old.ended ≡ false }
     ensures fits { Fits (K.reached desk.new) shelf.new }
@@ -183,26 +183,26 @@ fn end_line<K: Desk, O: Output>(
         (O.contents output.old) (O.contents output.new)) }
     ensures cause { OnErr result (O.has_failed output.new ≡ true) }
     ensures works { OnOk result (session.new.ended ≡ false) }
-    ensures only { IfErr result (λ e. e ≡ Failure.Stream) }
+    ensures only { IfErr result (λ e. e ≡ ServingError.Stream) }
 {
     let Ok(()) = session.feed(alloc, &[b'\n'], output, desk, shelf) else {
-        return Err(Failure::Stream);
+        return Err(ServingError::Stream);
     };
     let Ok(_) = session.on_news(alloc, output, desk) else {
-        return Err(Failure::Stream);
+        return Err(ServingError::Stream);
     };
     flush(output)?;
     Ok(())
 }
 
-fn flush<O: Output>(output: &mut O) -> Result<(), Failure>
+fn flush<O: Output>(output: &mut O) -> Result<(), ServingError>
     ensures kept { Keeps (O.contents output.old) (O.contents output.new) }
     ensures works { OnOk result (O.has_failed output.new ≡ false) }
     ensures failed { OnErr result (O.has_failed output.new ≡ true) }
-    ensures only { IfErr result (λ e. e ≡ Failure.Stream) }
+    ensures only { IfErr result (λ e. e ≡ ServingError.Stream) }
 {
     let Ok(()) = output.flush() else {
-        return Err(Failure::Stream);
+        return Err(ServingError::Stream);
     };
     Ok(())
 }

@@ -1,6 +1,5 @@
 -- The operations of an array whose tokens are read one after another.
-use Rattle.std.proofs.Common.{◌≡◌, ℕ, zero, suc, ◌+◌, ◌-◌, ◌<◌, ◌≤◌, ◌^◌, List, [], ◌∷◌, ◌++◌, length, Option, Some, None, Ok, option_map, option_and_then, refl, sym, ap, ◌∙◌, arith}
-use Rattle.std.proofs.lemmas.Bool.Decides.{nat_tests}
+use Rattle.std.proofs.Common.{◌≡◌, ℕ, suc, ◌+◌, ◌-◌, ◌≤◌, List, [], ◌∷◌, ◌++◌, length, Option, Some, None, option_map, option_and_then, refl, sym, ap, ◌∙◌, arith}
 use Rattle.std.proofs.lemmas.List.{append-nil}
 use Rattle.json.specs.Token.{Token, begin_array}
 use Rattle.json.specs.Json.{after_end_array, value, items, parse_map}
@@ -12,11 +11,12 @@ use Rattle.delta.specs.Operation.{Operation, IsBounded}
 use Rattle.delta.specs.Gaps.{counted}
 use Rattle.delta.specs.Normal.{nf, built}
 use Rattle.delta.specs.Laws.{BuiltInPieces, NormalOfBuilt, LengthsOfBuilt}
-use Rattle.optext.specs.Described.{operation_of, operations_of, delta_by, delta_of}
+use Rattle.optext.specs.Described.{operation_of, operations_of, delta_by}
 use Rattle.optext.proofs.Deltas.{delta_with, delta_with-nothing, delta_with-more, bounded_delta}
-use Rattle.session.specs.steps.Tokened.{Reads, Spells, DescribesDelta}
+use Rattle.session.specs.steps.Tokened.{Spells, DescribesDelta}
 use Rattle.session.proofs.Turns.{item_read, items_over, converted-array}
 use Rattle.session.proofs.Objects.{shorter}
+use Rattle.optext.proofs.CallerLemmas.{few_items}
 
 -- what the items that are left make of an array, whose first so many items were read and built
 abbrev pub Completes : ℕ → List Token → List Operation → ℕ → List Token → Type 0
@@ -62,9 +62,6 @@ module _ (pieces : BuiltInPieces) (normal : NormalOfBuilt) (lengths : LengthsOfB
         ),
   )
 
-few : (all : Items) → items_len all ≤ 1024 → delta_of all ≡ delta_by (operations_of all)
-few all small = grind (arith, nat_tests)
-
 -- the bracket that closes the array
 pub items_end : (depth : ℕ) (first ts r : List Token) (done : List Operation) (count : ℕ)
     → Completes depth first done count ts → count ≤ 1024 → IsBounded done → after_end_array ts ≡ Some r
@@ -75,7 +72,7 @@ items_end depth first ts r done count so_far small bounded ends =
       (
         all,
         refl,
-        few all (omega (arith, so_far.1 no_items))
+        few_items all (omega (arith, so_far.1 no_items))
             ∙ so_far.2 no_items
             ∙ ap (λ l. delta_by (Some l)) (append-nil done) ∙ bounded_delta done bounded,
       ),

@@ -1,20 +1,16 @@
 -- A map of attributes, beside the members that describe it.
-use Rattle.std.proofs.Common.{◌≡◌, ℕ, List, [], ◌∷◌, Option, Some, None, cond, option_map, option_and_then, Ordering, Less, Equal, Greater, refl, sym, ap, ◌∙◌, subst}
-use Rattle.std.specs.Prelude.{⊤}
+use Rattle.std.proofs.Common.{◌≡◌, ℕ, List, [], ◌∷◌, Option, Some, Ordering, Less, Equal, Greater, refl, ap, ◌∙◌, subst}
 use Rattle.std.specs.FinMap.Entries as entries
 use Rattle.std.specs.FinMap.Entries.{by_order}
 use Rattle.std.specs.Ordering.{match_ordering}
 use Rattle.serde_json.specs.Data.{Data, Members, no_members, member, put, object}
 use Rattle.attributes.specs.Map.{Map, by_bytes, empty, insert}
-use Rattle.attributes.specs.Attributes.{IsKey, is_key-Decides}
+use Rattle.attributes.specs.Attributes.{IsKey}
 use Rattle.attributes.specs.Laws.{with_entries}
 use Rattle.attributes.proofs.Prefixes.{with_entries-all}
 use Rattle.optext.specs.Described.{key_of, with_members, described_by}
 use Rattle.session.specs.steps.Tokened.{AreEntries}
-
--- a name that is one
-kept_name : (name : List ℕ) → IsKey name → key_of name ≡ Some name
-kept_name name is = ap (λ b. cond b (Some name) None) ((is_key-Decides name).1 is)
+use Rattle.optext.proofs.CallerLemmas.{key_of-key}
 
 module _ {X : Type 0} (value_of : Data → Option X) where
   -- members give the map of their entries
@@ -50,4 +46,4 @@ module _ {X : Type 0} (value_of : Data → Option X) where
   pub entries-insert : (map : Map X) (name : List ℕ) (value : Data) (x : X) (ms : Members)
       → IsKey name → value_of value ≡ Some x → AreEntries value_of ms map.entries → AreEntries value_of (put name value ms) (insert map name x).entries
   unfolding insert
-  entries-insert map name value x ms key is are = entries-put name value x ms map.entries (kept_name name key) is are
+  entries-insert map name value x ms key is are = entries-put name value x ms map.entries (key_of-key name key) is are

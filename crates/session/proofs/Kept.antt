@@ -1,6 +1,6 @@
 -- The list of subscriptions under each change.
-use Rattle.std.proofs.Common.{◌≡◌, ◌+◌, ◌-◌, ◌<◌, ◌≤◌, ◌++◌, ℕ, zero, suc, List, [], ◌∷◌, length, take, drop, get_or, Bool, true, false, cond, Option, Some, None, Ordering, refl, sym, ap, ap₂, subst, ◌∙◌, append_assoc, arith}
-use Rattle.std.specs.Prelude.{T, ◌&&◌, not}
+use Rattle.std.proofs.Common.{◌≡◌, ◌+◌, ◌-◌, ◌<◌, ◌≤◌, ◌++◌, ℕ, zero, suc, List, [], ◌∷◌, length, take, drop, get_or, Bool, true, false, cond, Option, Some, None, refl, sym, ap, ap₂, subst, ◌∙◌, append_assoc, arith}
+use Rattle.std.specs.Prelude.{T, not}
 use Rattle.std.specs.Cmp.Lexicographic.{nat_list_cmp_total}
 use Rattle.std.specs.FinMap.Entries.{put, is_sorted, below_all, is_sorted-put, is_sorted-where_key}
 use Rattle.std.specs.Ordering.{eq_by_cmp, is_lt}
@@ -9,21 +9,10 @@ use Rattle.std.proofs.Math.ListN.{set}
 use Rattle.std.proofs.lemmas.List.{take_more, drop_more, set_at, get_or_at, take_at, length-take-le}
 use Rattle.attributes.specs.Map.{by_bytes}
 use Rattle.attributes.specs.Place.{IsHere, IsFree}
-use Rattle.attributes.proofs.CallerLemmas.{set-here, remove-here, insert-free}
+use Rattle.attributes.proofs.CallerLemmas.{set-here, remove-here, insert-free, T_parts, T_both}
 use Rattle.session.specs.News.{subscription, going_on}
 use Rattle.session.specs.Subscriptions.{Subscriptions, with_subscription, without_subscription}
-
--- the two parts of a test
-T_parts : (a b : Bool) → T (a && b) → T a × T b
-T_parts true b h = (tt, h)
-T_parts false b h = absurd h
-
--- what a loop over a list reads, of the list that it is
-pub read_at : {A : Type 0} (items es : List A) (i : ℕ) (e : A) → items ≡ es → i < length items → e ≡ get_or items i e → (i < length es) × (e ≡ get_or es i e)
-read_at items es i e same inside is = subst (λ l. (i < length l) × (e ≡ get_or l i e)) same (inside, is)
-
-pub compared : (name text key : List ℕ) (order : Ordering) → order ≡ by_bytes name text → text ≡ key → by_bytes name key ≡ order
-compared name text key order is same = ap (by_bytes name) (sym same) ∙ sym is
+pub use Rattle.attributes.proofs.CallerLemmas.{compared, read_at}
 
 -- a change at the place of a name
 module _ (old list : Subscriptions) (text name : List ℕ) (i : ℕ) (is_list : list ≡ old) (is_name : text ≡ name) where
@@ -43,9 +32,6 @@ module _ (old list : Subscriptions) (text name : List ℕ) (i : ℕ) (is_list : 
   pub removed_is : IsHere text old i → list_remove list i ≡ without_subscription old name
   removed_is here = ap (λ l. list_remove l i) is_list ∙ remove-here here ∙ ap (without_subscription old) is_name
 
-  pub absent_is : IsFree text old i → old ≡ without_subscription old name
-  absent_is free = sym free.kept ∙ ap (without_subscription old) is_name
-
 -- each change keeps the order
 pub sorted_with : (old list : Subscriptions) (name : List ℕ) (revision : ℕ) → T (is_sorted by_bytes old) → list ≡ with_subscription old name revision → T (is_sorted by_bytes list)
 sorted_with old list name revision sorted is =
@@ -60,17 +46,13 @@ pub sorted_if : (old list : Subscriptions) (name : List ℕ) (revision : ℕ) (d
 sorted_if old list name revision true sorted is = sorted_with old list name revision sorted is
 sorted_if old list name revision false sorted is = subst (λ l. T (is_sorted by_bytes l)) (sym is) sorted
 
-both : (a b : Bool) → T a → T b → T (a && b)
-both true b p q = q
-both false b p q = absurd p
-
 below_going_on : (name : List ℕ) (old : Subscriptions) (last : List (Option ℕ)) → T (below_all by_bytes name old) → T (below_all by_bytes name (going_on old last))
 below_going_on name [] last below = tt
 below_going_on name (first ∷ others) [] below = tt
 below_going_on name (first ∷ others) (None ∷ more) below = below_going_on name others more (T_parts (is_lt (by_bytes name first.0)) _ below).1
 below_going_on name (first ∷ others) (Some revision ∷ more) below =
     let parts = T_parts (is_lt (by_bytes name first.0)) (below_all by_bytes name others) below in
-    both _ _ parts.0 (below_going_on name others more parts.1)
+    T_both _ _ parts.0 (below_going_on name others more parts.1)
 
 sorted_going_on : (old : Subscriptions) (last : List (Option ℕ)) → T (is_sorted by_bytes old) → T (is_sorted by_bytes (going_on old last))
 sorted_going_on [] last sorted = tt
@@ -78,7 +60,7 @@ sorted_going_on (first ∷ others) [] sorted = tt
 sorted_going_on (first ∷ others) (None ∷ more) sorted = sorted_going_on others more (T_parts (below_all by_bytes first.0 others) (is_sorted by_bytes others) sorted).1
 sorted_going_on (first ∷ others) (Some revision ∷ more) sorted =
     let parts = T_parts (below_all by_bytes first.0 others) (is_sorted by_bytes others) sorted in
-    both _ _ (below_going_on first.0 others more parts.0) (sorted_going_on others more parts.1)
+    T_both _ _ (below_going_on first.0 others more parts.0) (sorted_going_on others more parts.1)
 
 pub sorted_on : (old list : Subscriptions) (last : List (Option ℕ)) → T (is_sorted by_bytes old) → list ≡ going_on old last → T (is_sorted by_bytes list)
 sorted_on old list last sorted is = subst (λ l. T (is_sorted by_bytes l)) (sym is) (sorted_going_on old last sorted)
@@ -132,6 +114,3 @@ module _ (old items : Subscriptions) (last : List (Option ℕ)) (left : ℕ) (so
   pub goes_on_down : (e : List ℕ × ℕ) (revision : ℕ) → e ≡ get_or items (left - 1) e → Some revision ≡ get_or last (left - 1) (Some revision)
       → set items (left - 1) (e.0, revision) ≡ take (left - 1) old ++ going_on (drop (left - 1) old) (drop (left - 1) last)
   goes_on_down e revision read is = goes_on_at old items last (left - 1) (omega arith) (omega arith) up e revision read is
-
-  pub ends_down : None ≡ get_or last (left - 1) None → list_remove items (left - 1) ≡ take (left - 1) old ++ going_on (drop (left - 1) old) (drop (left - 1) last)
-  ends_down is = ends_at old items last (left - 1) (omega arith) (omega arith) up is

@@ -232,9 +232,6 @@ gives-grown state taken name revision units = by_found (find name 0 state.docume
   keep : ℕ
   keep = state.limits.keep
 
-  set_by : Option DocumentRecord → List DocumentRecord
-  set_by there = set_document place (record_by_name keep there taken taken.name) state.documents
-
   -- by what is in the command's place
   by_place : (there : Option DocumentRecord) (name_of : Option (List ℕ)) (at : ℕ) (found : DocumentRecord) → slice_get state.documents place ≡ there
       → find name 0 state.documents ≡ Some (at, found) → Gives revision units (Some (at, found))
@@ -290,10 +287,6 @@ pub later_by : {A E : Type 0} (old new : State) (taken : Taken) (result : Result
     → OnOk result (new ≡ grown old taken) → OnErr result (new ≡ old) → IsLater old new
 later_by old new taken (Ok a) grow added same = (taken ∷ [], ap (λ b. b && true) grow, added)
 later_by old new taken (Err e) grow added same = ([], refl, same)
-
--- a state is later than itself
-pub later_same : (state : State) → IsLater state state
-later_same state = ([], refl, refl)
 
 and_both : (a b : Bool) → (a && b) ≡ true → (a ≡ true) × (b ≡ true)
 and_both true b h = (refl, h)

@@ -41,7 +41,7 @@ goes_on_within (byte ∷ bytes) front inner room =
     )
 
 -- the bytes in front of the first line end are text
-text_of : (piece : List ℕ) (count : ℕ) → ((i : ℕ) → i < count → slice_index piece i ≢ 10) → HasNoEnd (take count piece)
+pub text_of : (piece : List ℕ) (count : ℕ) → ((i : ℕ) → i < count → slice_index piece i ≢ 10) → HasNoEnd (take count piece)
 text_of [] zero inner = tt
 text_of [] (suc count) inner = tt
 text_of (byte ∷ bytes) zero inner = tt

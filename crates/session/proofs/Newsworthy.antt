@@ -3,13 +3,14 @@ use Rattle.std.proofs.Common.{◌≡◌, ◌+◌, ◌-◌, ◌≤◌, ◌<◌, �
 use Rattle.std.specs.Prelude.{nat_lt}
 use Rattle.std.proofs.lemmas.Bool.{or_parts}
 use Rattle.std.proofs.lemmas.Bool.Decides.{nat_tests}
-use Rattle.std.proofs.lemmas.List.{drop_all, drop-drop, take-append-drop, length-drop, length-map, length-take-le, take_more, map_more}
+use Rattle.std.proofs.lemmas.List.{drop_all, drop-drop, take-append-drop, length-map, take_more, map_more}
 use Rattle.delta.specs.Operation.{Operation}
 use Rattle.revision.specs.Past.{Past, newest, deltas_of, deltas_above}
 use Rattle.revision.specs.State.{DocumentRecord, State, find}
 use Rattle.session.specs.Reply.{news_line}
 use Rattle.session.specs.Subscriptions.{Subscriptions}
 use Rattle.session.specs.News.{lines_of, lines_after, last_after, lines_found, last_found, lines_in, last_in, subscription, going_on, news, subscriptions_after, has_later, has_news, AreNone}
+pub use Rattle.revision.proofs.CallerLemmas.{above-count as length-above}
 
 -- the lines of one list of deltas behind another
 pub lines-append : (doc : List ℕ) (revision : ℕ) (front back : List (List Operation))
@@ -44,12 +45,6 @@ goes_on (first ∷ others) state = ap (λ (l : Subscriptions). subscription firs
 -- how many deltas stand above a revision
 length-deltas : (past : Past) → length (deltas_of past) ≡ length past.changes
 length-deltas past = length-map past.changes _
-
-pub length-above : (past : Past) (revision : ℕ) → past.floor ≤ revision → revision ≤ newest past → revision + length (deltas_above past revision) ≡ newest past
-length-above past revision held there =
-    let len = length-drop (revision - past.floor) (deltas_of past) in
-    let all = length-deltas past in
-    omega arith
 
 -- nothing is above the newest
 pub none-above : (past : Past) (revision : ℕ) → newest past ≤ revision → deltas_above past revision ≡ []
@@ -161,16 +156,6 @@ told_on doc last past later held there later_held grown same =
     held_lines doc (newest past) later (omega arith) ∙ ap (lines_of doc (newest past)) rest ∙ ap (λ n. lines_of doc n (drop count all)) (sym len) in
     ap₂ ◌++◌ first second ∙ sym (lines-append doc last (take count all) (drop count all)) ∙ ap (lines_of doc last) (take-append-drop count all)
     ∙ sym (held_lines doc last later later_held)
-
--- the lines of one delta more
-pub lines-next : (doc : List ℕ) (last : ℕ) (deltas : List (List Operation)) (i : ℕ) (delta : List Operation) (revision : ℕ)
-    → i < length deltas → delta ≡ get_or deltas i delta → revision ≡ last + i + 1
-    → lines_of doc last (take i deltas) ++ news_line doc revision delta ≡ lines_of doc last (take (i + 1) deltas)
-lines-next doc last deltas i delta revision inside is at =
-    let len : length (take i deltas) ≡ i = length-take-le i deltas (omega arith) in
-    ap (λ n. lines_of doc last (take i deltas) ++ news_line doc n delta) (omega (arith, at, len))
-    ∙ sym (lines-more doc last (take i deltas) delta)
-    ∙ ap (lines_of doc last) (ap (λ (d : List Operation). take i deltas ++ d ∷ []) is ∙ sym (take_more deltas i delta inside))
 
 -- the news of one subscription more
 pub news-next : (subscriptions : Subscriptions) (i : ℕ) (one : List ℕ × ℕ) (state : State) → i < length subscriptions → one ≡ get_or subscriptions i one

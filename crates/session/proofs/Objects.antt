@@ -1,10 +1,10 @@
 -- Members of an object whose tokens are read one after another.
-use Rattle.std.proofs.Common.{◌≡◌, ℕ, zero, suc, ◌-◌, ◌<◌, ◌≤◌, List, [], ◌∷◌, length, Option, Some, None, refl, sym, ap, ◌∙◌, arith}
-use Rattle.json.specs.Token.{Token, begin_object, key, end_object}
+use Rattle.std.proofs.Common.{◌≡◌, ℕ, suc, ◌-◌, ◌<◌, ◌≤◌, List, ◌∷◌, length, Some, None, refl, ap, ◌∙◌, arith}
+use Rattle.json.specs.Token.{Token, begin_object}
 use Rattle.json.specs.Json.{read_key, value, members, parse_map}
 use Rattle.json.proofs.Grammar.{left, value-begin_object, read_key-shorter, skip_value-shorter}
 use Rattle.serde_json.specs.Data.{Data, object, Members, no_members, put}
-use Rattle.serde_json.specs.Read.{of_json, of_members, converted}
+use Rattle.serde_json.specs.Read.{of_json, converted}
 use Rattle.session.proofs.Turns.{converted_some, converted-object, member_read, members_over}
 use Rattle.session.specs.steps.Tokened.{Reads, ReadsMembers}
 

@@ -1,13 +1,12 @@
 -- Values of one token.
-use Rattle.std.proofs.Common.{◌≡◌, ℕ, ◌<◌, ◌≤◌, ◌^◌, List, [], ◌∷◌, length, Option, Some, None, MatchOption, SomeIff, Bool, true, false, cond, refl, sym, ap, ◌∙◌, arith}
+use Rattle.std.proofs.Common.{◌≡◌, ℕ, ◌<◌, ◌^◌, List, ◌∷◌, Some, Bool, false, refl, ap, ◌∙◌, arith}
 use Rattle.std.proofs.lemmas.Bool.Decides.{nat_tests}
-use Rattle.std.specs.Prelude.{slice_index, ◌==◌, nat_lt, ◌≢◌, IfSome}
-use Rattle.fast_float.specs.Text.{scan, digits_of, IsInteger, Parts}
+use Rattle.std.specs.Prelude.{slice_index, ◌≢◌}
+use Rattle.fast_float.specs.Text.{scan, digits_of, IsInteger}
 use Rattle.json.specs.Token as token
 use Rattle.json.specs.Token.{Token}
-use Rattle.json.specs.Json.{value}
 use Rattle.json.proofs.Grammar.{value_is}
-use Rattle.serde_json.specs.Data.{Data, unsigned, string, number, boolean, null}
+use Rattle.serde_json.specs.Data.{unsigned, string, number, boolean, null}
 use Rattle.serde_json.specs.Read.{of_json, converted, number_of, number_from}
 use Rattle.session.specs.steps.Tokened.{Reads}
 

@@ -1,17 +1,17 @@
 -- One operation, from the tokens of its object.
-use Rattle.std.proofs.Common.{◌≡◌, ℕ, zero, suc, ◌-◌, ◌<◌, ◌≤◌, ◌^◌, List, [], ◌∷◌, length, Option, Some, None, option_map, option_and_then, true, refl, sym, ap, ◌∙◌, arith}
-use Rattle.std.proofs.lemmas.Bool.Decides.{nat_tests}
-use Rattle.std.specs.Prelude.{codes, nat_lt}
+use Rattle.std.proofs.Common.{◌≡◌, ℕ, ◌<◌, ◌^◌, List, ◌∷◌, Option, Some, None, option_map, option_and_then, refl, ap, ◌∙◌, arith}
+use Rattle.std.specs.Prelude.{codes}
 use Rattle.json.specs.Token.{Token, begin_object, end_object, key}
 use Rattle.json.specs.Json.{read_key}
-use Rattle.serde_json.specs.Data.{Data, string, number, unsigned, object, Members, no_members, member, put}
+use Rattle.serde_json.specs.Data.{Data, string, number, unsigned, object, no_members, member, put}
 use Rattle.utf16.specs.Units.{units_of}
-use Rattle.attributes.specs.Map.{Map, empty}
+use Rattle.attributes.specs.Map.{Map}
 use Rattle.attributes.specs.Attributes.{Attributes, Changes}
-use Rattle.delta.specs.Operation.{Operation, insert_text, retain, delete}
-use Rattle.optext.specs.Described.{attributes_of, changes_of, insertion_of, length_of, operation_of}
+use Rattle.delta.specs.Operation.{insert_text, retain, delete}
+use Rattle.optext.specs.Described.{attributes_of, changes_of, insertion_of, operation_of}
 use Rattle.session.specs.steps.Tokened.{Reads, Spells, ReadsMembers, Ends, beside}
 use Rattle.session.proofs.Objects.{deeper, no_member_yet, member_more, members_end}
+use Rattle.optext.proofs.CallerLemmas.{length_of-printed}
 
 module _ {X : Type 0} (described : Option Data → Option (Map X)) (tokens left : List Token) (map : Map X) where
   -- no attributes before the brace
@@ -37,15 +37,12 @@ inserts : (s : List ℕ) (attributes : Option Data) (map : Attributes) → attri
 inserts s None map e = ap (option_and_then (insertion_of (string s))) e
 inserts s (Some d) map e = ap (option_and_then (insertion_of (string s))) e
 
-short : (n : ℕ) → n < 2 ^ 32 → length_of (number (unsigned n)) ≡ Some n
-short n small = grind (arith, nat_tests)
-
 retains : (n : ℕ) (changes : Option Data) (map : Changes) → n < 2 ^ 32 → changes_of changes ≡ Some map
     → operation_of (object (beside changes (member (codes "retain") (number (unsigned n)) no_members))) ≡ Some (retain n map)
 retains n None map small e =
-    ap (option_and_then (λ len. option_map (retain len) (changes_of None))) (short n small) ∙ ap (option_map (retain n)) e
+    ap (option_and_then (λ len. option_map (retain len) (changes_of None))) (length_of-printed n small) ∙ ap (option_map (retain n)) e
 retains n (Some d) map small e =
-    ap (option_and_then (λ len. option_map (retain len) (changes_of (Some d)))) (short n small) ∙ ap (option_map (retain n)) e
+    ap (option_and_then (λ len. option_map (retain len) (changes_of (Some d)))) (length_of-printed n small) ∙ ap (option_map (retain n)) e
 
 -- an insert of a text
 pub spells_insert : (s : List ℕ) (map : Attributes) (ts r left : List Token) → Reads 0 ts (string s) r → Ends attributes_of r left map
@@ -70,6 +67,6 @@ pub spells_delete : (n : ℕ) (ts r left : List Token) → n < 2 ^ 32 → Reads 
     → Spells (λ value. operation_of value ≡ Some (delete n)) 2 (begin_object ∷ key (codes "delete") ∷ ts) left
 spells_delete n ts r left small reads closes = (
   object (member (codes "delete") (number (unsigned n)) no_members),
-  ap (option_map delete) (short n small),
+  ap (option_map delete) (length_of-printed n small),
   members_end 1 (key (codes "delete") ∷ ts) r left _ (first_member (codes "delete") ts r (number (unsigned n)) reads) (ap read_key closes),
 )

@@ -163,10 +163,7 @@ module _ {O : Type 0} {contents : O → Option (List ℕ)} {has_failed : O → B
       → Spells contents has_failed a p c r whole
   front-last so_far more = spells-as so_far.is (spells-both so_far.spells more)
 
-  pub front-whole : {a b : O} {p q : Page} {whole : List ℕ} → SpellsFront contents has_failed a p b q [] whole → Spells contents has_failed a p b q whole
-  front-whole so_far = spells-as (sym (append-nil so_far.front) ∙ so_far.is) so_far.spells
-
-  -- nothing is left, by another name
+  -- nothing is left
   pub front-end : {a b : O} {p q : Page} {left whole : List ℕ} → left ≡ [] → SpellsFront contents has_failed a p b q left whole → Spells contents has_failed a p b q whole
   front-end {left = left} none so_far =
       spells-as (sym (append-nil so_far.front) ∙ ap (λ (l : List ℕ). so_far.front ++ l) (sym none) ∙ so_far.is) so_far.spells

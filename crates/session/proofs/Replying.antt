@@ -195,7 +195,7 @@ same_line (Some bytes) read byte h = by_end (byte == 10) (length bytes == 65536)
 pub same_session : (old read : Session) (byte : ℕ) → with_byte old.line byte ≡ (Complete, read.line) → read ≡ record old { line = read.line } → read ≡ old
 same_session old read byte event others = others ∙ ap (λ (l : Partial). record old { line = l }) (same_line old.line read.line byte event)
 
--- and still is once what was sent ahead is settled
+-- and still is once what was sent ahead is answered
 pub read_after : (old read same : Session) (byte : ℕ) → same ≡ read → with_byte old.line byte ≡ (Complete, read.line) → read ≡ record old { line = read.line }
     → (with_byte old.line byte ≡ (Complete, same.line)) × (same ≡ record old { line = same.line })
 read_after old read same byte is event others = (

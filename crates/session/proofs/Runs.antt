@@ -7,25 +7,14 @@ use Rattle.delta.specs.Element.{Element, Item, code_unit, embed, letters, embedd
 use Rattle.delta.specs.Normal.{is_apart_text, spell_unit, spell_item, spell_inserts}
 use Rattle.delta.specs.Operation.{Operation, insert_text, insert_embed, retain, delete}
 use Rattle.document.specs.Runs.{units_of_runs, item_attributes, text_attributes, IsApart, IsRun, AreRuns}
-
-not_true : (b : Bool) → (b ≡ true → ⊥) → b ≡ false
-not_true true never = absurd (never refl)
-not_true false never = refl
-
-not_false : (b : Bool) → not b ≡ true → b ≡ false
-not_false true is = absurd cc
-not_false false is = refl
-
--- one list of units before another
-spell-append : (front back : List Element) (ops : List Operation) → spell_inserts (front ++ back) ops ≡ spell_inserts front (spell_inserts back ops)
-spell-append [] back ops = refl
-spell-append (x ∷ xs) back ops = ap (spell_item x.item x.attributes) (spell-append xs back ops)
+use Rattle.std.proofs.lemmas.Bool.{false_from_ne_true, not-true}
+use Rattle.delta.proofs.CallerLemmas.{spell_inserts-append}
 
 -- a unit before operations that don't take it in
 unit_first : (u : ℕ) (a : Attributes) (ops : List Operation) → is_apart_text a ops ≡ true → spell_unit u a ops ≡ insert_text (u ∷ []) a ∷ ops
 unit_first u a [] apart = refl
 unit_first u a (insert_text us b ∷ ops) apart =
-    ap (λ t. cond t (insert_text (u ∷ us) b ∷ ops) (insert_text (u ∷ []) a ∷ insert_text us b ∷ ops)) (not_false (same_attributes a b) apart)
+    ap (λ t. cond t (insert_text (u ∷ us) b ∷ ops) (insert_text (u ∷ []) a ∷ insert_text us b ∷ ops)) (not-true (same_attributes a b) apart)
 unit_first u a (insert_embed key value b ∷ ops) apart = refl
 unit_first u a (retain n c ∷ ops) apart = refl
 unit_first u a (delete n ∷ ops) apart = refl
@@ -50,7 +39,7 @@ unit_apart a b u (retain n c ∷ ops) differ = ap (λ t. not t) differ
 unit_apart a b u (delete n ∷ ops) differ = ap (λ t. not t) differ
 
 item_apart : (item : Item) (a b : Attributes) (ops : List Operation) → IsApart (Some a) (item_attributes item b) → is_apart_text a (spell_item item b ops) ≡ true
-item_apart (code_unit u) a b ops apart = unit_apart a b u ops (not_true (same_attributes a b) (λ same. apart ((same_attributes-Decides a b).0 same)))
+item_apart (code_unit u) a b ops apart = unit_apart a b u ops (false_from_ne_true (same_attributes a b) (λ same. apart ((same_attributes-Decides a b).0 same)))
 item_apart (embed key value) a b ops apart = refl
 
 -- and so does the next run
@@ -75,7 +64,7 @@ pub text_run : (units : List ℕ) (a : Attributes) (run : List Element) (behind 
     → AreRuns (run ∷ behind) → spell_inserts (units_of_runs (run ∷ behind)) [] ≡ insert_text units a ∷ spell_inserts (units_of_runs behind) []
 text_run [] a run behind is some runs = absurd (omega (arith, some))
 text_run (u ∷ us) a run behind is some runs =
-    spell-append run (units_of_runs behind) []
+    spell_inserts-append run (units_of_runs behind) []
     ∙ ap (λ (r : List Element). spell_inserts r (spell_inserts (units_of_runs behind) [])) (sym is)
     ∙ letters_first u us a (spell_inserts (units_of_runs behind) []) (runs_apart a run behind (ap text_attributes (sym is)) runs)
 

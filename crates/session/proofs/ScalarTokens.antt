@@ -1,9 +1,9 @@
 -- What is kept of a result that is asked for its value, and which values of attributes tokens are.
-use Rattle.std.proofs.Common.{◌≡◌, ℕ, ℤ, pos, List, ◌∷◌, Option, Some, None, Result, Ok, Err, Bool, true, IfSome, IfOk, OkIff, refl, sym, ap, subst, ◌∙◌}
+use Rattle.std.proofs.Common.{◌≡◌, ℕ, ℤ, pos, List, Option, Some, None, Result, Ok, Err, Bool, true, IfSome, IfOk, OkIff, sym, ap, subst, ◌∙◌}
 use Rattle.std.specs.Prelude.{if◌then◌else◌, MatchResult, ⊤}
 use Rattle.std.specs.Result.{result_ok}
 use Rattle.json.specs.Token as token
-use Rattle.serde_json.specs.Data.{Data, unsigned, string, number, boolean}
+use Rattle.serde_json.specs.Data.{unsigned, string, number, boolean}
 use Rattle.serde_json.specs.Read.{number_of}
 use Rattle.attributes.specs.Scalar.{Scalar, IsExact, is_exact, is_exact-Decides, text_scalar, whole_scalar, flag_scalar}
 use Rattle.session.specs.steps.Tokened.{IsScalarToken}
@@ -32,10 +32,6 @@ not_refused r a e is refused = subst IsThere (is ∙ ap result_ok refused) tt
 pub matched_ok : {A E : Type 0} (P : A → Type 0) (Q : E → Type 0) (r : Result A E) → MatchResult r P Q → IfOk r P
 matched_ok P Q (Ok a) is = is
 matched_ok P Q (Err e) is = tt
-
-pub some_so : {A : Type 0} (P Q : A → Type 0) (o : Option A) → ((a : A) → P a → Q a) → IfSome o P → IfSome o Q
-some_so P Q None so holds = tt
-some_so P Q (Some a) so holds = so a holds
 
 pub both_ok : {A E : Type 0} (P Q : A → Type 0) (r : Result A E) → IfOk r P → IfOk r Q → IfOk r (λ a. P a × Q a)
 both_ok P Q (Ok a) p q = (p, q)

@@ -16,7 +16,7 @@ use Rattle.session.specs.Output.{AppendsFront}
 use Rattle.session.specs.Request.{request_of}
 use Rattle.session.specs.Session.{Session}
 use Rattle.session.specs.Replies.{answer_line, IsLine, Asked, TakesByte, LineEnds, IsAtOnce, Replies, Asks, Feeds, Stops}
-use Rattle.session.specs.Ahead.{command_of, commands_of, exchange_of, exchanges_of, AreReplies, IsSentAhead, Settles, Ahead}
+use Rattle.session.specs.Ahead.{command_of, commands_of, exchange_of, exchanges_of, AreReplies, IsSentAhead, AnswersPending, Ahead}
 use Rattle.session.proofs.Feeding.{replies-joined, asks-joined, feeds-joined, feeds-nothing}
 use Rattle.session.proofs.Replying.{due_ok, some_line, pair, one_byte, goes_on_through}
 use Rattle.session.proofs.Writes.{front-longer}
@@ -125,9 +125,9 @@ module _ {D : Type 0} (does : D → Exchange → D → Type 0) where
       )
 
   -- what holds of the replies
-  pub settles_map : (commands : List Command) (desk desk' : D) (P Q : List ℕ → Type 0) → ((text : List ℕ) → P text → Q text)
-      → Settles does commands desk desk' P → Settles does commands desk desk' Q
-  settles_map commands desk desk' P Q so s =
+  pub answers_map : (commands : List Command) (desk desk' : D) (P Q : List ℕ → Type 0) → ((text : List ℕ) → P text → Q text)
+      → AnswersPending does commands desk desk' P → AnswersPending does commands desk desk' Q
+  answers_map commands desk desk' P Q so s =
       record { answered = s.answered; these = s.these; asks = s.asks; text = s.text; tell = s.tell; holds = so s.text s.holds }
 
   -- what was fed has nothing left that was sent ahead
@@ -169,17 +169,17 @@ module _ {D : Type 0} (does : D → Exchange → D → Type 0) where
     }
 
     -- what was sent ahead is asked and replied
-    pub settled : (desk' : D) (out' : Option (List ℕ)) → Settles does commands desk desk' (λ text. Appends out out' text) → Feeds does first piece old begun desk' clean out'
-    settled desk' out' settles =
+    pub answered_all : (desk' : D) (out' : Option (List ℕ)) → AnswersPending does commands desk desk' (λ text. Appends out out' text) → Feeds does first piece old begun desk' clean out'
+    answered_all desk' out' answers =
         let part : Feeds does ahead.mid ahead.back old desk desk' out out' =
-        record { asked = exchanges_of settles.answered; text = settles.text; replies = ahead.sent settles.answered settles.text settles.these settles.tell; asks = settles.asks; written = settles.holds } in
+        record { asked = exchanges_of answers.answered; text = answers.text; replies = ahead.sent answers.answered answers.text answers.these answers.tell; asks = answers.asks; written = answers.holds } in
         subst (λ (l : List ℕ). Feeds does first l old begun desk' clean out') (sym ahead.whole)
         (feeds-joined does ahead.front ahead.back first ahead.mid old begun desk desk' clean out out' ahead.fed part)
 
     -- or the write fails
-    pub stops_settling : (new : Session) (desk' : D) (out' : Option (List ℕ)) (rest : List ℕ) → Settles does commands desk desk' (λ text. AppendsFront out out' text)
+    pub stops_answering : (new : Session) (desk' : D) (out' : Option (List ℕ)) (rest : List ℕ) → AnswersPending does commands desk desk' (λ text. AppendsFront out out' text)
         → new ≡ record old { ended = true } → Stops does first (piece ++ rest) new begun desk' clean out'
-    stops_settling new desk' out' rest settles ended = record {
+    stops_answering new desk' out' rest answers ended = record {
       front = ahead.front;
       part = ahead.back;
       rest = rest;
@@ -188,20 +188,20 @@ module _ {D : Type 0} (does : D → Exchange → D → Type 0) where
       desk_mid = desk;
       out_mid = out;
       fed = ahead.fed;
-      asked = exchanges_of settles.answered;
-      text = settles.text;
+      asked = exchanges_of answers.answered;
+      text = answers.text;
       next = old;
-      replies = ahead.sent settles.answered settles.text settles.these settles.tell;
-      at_once = inl (all_answered settles.answered);
-      asks = settles.asks;
-      written = settles.holds;
+      replies = ahead.sent answers.answered answers.text answers.these answers.tell;
+      at_once = inl (all_answered answers.answered);
+      asks = answers.asks;
+      written = answers.holds;
       ended = ended;
     }
 
     -- or it fails where a further line has got too long
-    pub stops_overflowing : (read new : Session) (byte : ℕ) (line : List ℕ) (desk' : D) (out' : Option (List ℕ)) → Settles does commands desk desk' (λ text. AppendsFront out out' text)
+    pub stops_overflowing : (read new : Session) (byte : ℕ) (line : List ℕ) (desk' : D) (out' : Option (List ℕ)) → AnswersPending does commands desk desk' (λ text. AppendsFront out out' text)
         → Replies old (byte ∷ []) [] read line → new ≡ record read { ended = true } → Stops does first (piece ++ byte ∷ []) new begun desk' clean out'
-    stops_overflowing read new byte line desk' out' settles over ended = record {
+    stops_overflowing read new byte line desk' out' answers over ended = record {
       front = ahead.front;
       part = ahead.back ++ byte ∷ [];
       rest = [];
@@ -211,15 +211,15 @@ module _ {D : Type 0} (does : D → Exchange → D → Type 0) where
       desk_mid = desk;
       out_mid = out;
       fed = ahead.fed;
-      asked = exchanges_of settles.answered;
-      text = settles.text ++ line;
+      asked = exchanges_of answers.answered;
+      text = answers.text ++ line;
       next = read;
-      replies = subst (λ (l : List Exchange). Replies ahead.mid (ahead.back ++ byte ∷ []) l read (settles.text ++ line)) (append-nil (exchanges_of settles.answered))
-          (replies-joined ahead.back (byte ∷ []) ahead.mid old read (exchanges_of settles.answered) [] settles.text line
-          (ahead.sent settles.answered settles.text settles.these settles.tell) over);
-      at_once = inl (all_answered settles.answered);
-      asks = settles.asks;
-      written = front-longer out out' settles.text line settles.holds;
+      replies = subst (λ (l : List Exchange). Replies ahead.mid (ahead.back ++ byte ∷ []) l read (answers.text ++ line)) (append-nil (exchanges_of answers.answered))
+          (replies-joined ahead.back (byte ∷ []) ahead.mid old read (exchanges_of answers.answered) [] answers.text line
+          (ahead.sent answers.answered answers.text answers.these answers.tell) over);
+      at_once = inl (all_answered answers.answered);
+      asks = answers.asks;
+      written = front-longer out out' answers.text line answers.holds;
       ended = ended;
     }
 

@@ -1,9 +1,10 @@
 -- Writes to a stream whose bytes may be known.
-use Rattle.std.proofs.Common.{◌≡◌, ◌++◌, ◌+◌, ◌≤◌, List, ℕ, [], ◌∷◌, suc, length, take, drop, true, false, cond, refl, subst, arith, Option, Some, None, Result, Ok, Err, OnOk, OnErr, sym, ap, ◌∙◌, append_assoc, append-nil, true≢false}
+use Rattle.std.proofs.Common.{◌≡◌, ◌++◌, ◌+◌, ◌≤◌, List, ℕ, [], ◌∷◌, suc, length, take, drop, true, false, cond, refl, subst, arith, Option, Some, None, Result, Ok, Err, OnOk, OnErr, sym, ap, ◌∙◌, append_assoc, true≢false}
 use Rattle.std.specs.Result.{is_ok, is_err}
 use Rattle.std.proofs.lemmas.List.{take_at, take-append-drop, take-append-le, length-append}
 use Rattle.std.specs.Io.KnownBytes.{Appends, Keeps}
 use Rattle.session.specs.Output.{AppendsFront}
+pub use Rattle.std.proofs.KnownBytes.{Appends-nil as appends-nothing, Appends-kept as appends-kept}
 
 -- what holds of a call that succeeds holds where it did not fail
 pub on_ok : {T E : Type 0} {P : Type 0} (r : Result T E) → is_err r ≡ false → OnOk r P → P
@@ -20,24 +21,12 @@ pub on_err : {T E : Type 0} {P : Type 0} (r : Result T E) → P → OnErr r P
 on_err (Ok x) h = tt
 on_err (Err e) h = h
 
--- nothing is written
-pub appends-nothing : (known : Option (List ℕ)) → Appends known known []
-appends-nothing None = tt
-appends-nothing (Some bytes) = sym (append-nil bytes)
-
 -- one write after another
 pub appends-both : (a b c : Option (List ℕ)) (front back : List ℕ) → Appends a b front → Appends b c back → Appends a c (front ++ back)
 appends-both None b c front back first second = tt
 appends-both (Some x) None c front back first second = absurd first
 appends-both (Some x) (Some y) None front back first second = absurd second
 appends-both (Some x) (Some y) (Some z) front back first second = second ∙ ap (λ l. l ++ back) first ∙ append_assoc x front back
-
--- a write that keeps what was there
-pub appends-kept : (a b c : Option (List ℕ)) (text : List ℕ) → Appends a b text → Keeps b c → Appends a c text
-appends-kept None b c text written kept = tt
-appends-kept (Some x) None c text written kept = absurd written
-appends-kept (Some x) (Some y) None text written kept = absurd kept
-appends-kept (Some x) (Some y) (Some z) text written kept = kept ∙ written
 
 -- a prefix of a text, and of one text behind another
 pub front-of : (a b : Option (List ℕ)) (done rest text : List ℕ) → done ++ rest ≡ text → Appends a b done → AppendsFront a b text
@@ -51,7 +40,7 @@ front-of a b done rest text whole written = (
 pub front-kept : (a b c : Option (List ℕ)) (done rest text : List ℕ) → done ++ rest ≡ text → Appends a b done → Keeps b c → AppendsFront a c text
 front-kept a b c done rest text whole written kept = front-of a c done rest text whole (appends-kept a b c done written kept)
 
-take-behind : (front back : List ℕ) (n : ℕ) → take (length front + n) (front ++ back) ≡ front ++ take n back
+pub take-behind : (front back : List ℕ) (n : ℕ) → take (length front + n) (front ++ back) ≡ front ++ take n back
 take-behind [] back n = ap (λ k. take k back) (omega arith)
 take-behind (x ∷ xs) back n =
     ap (λ k. take k (x ∷ (xs ++ back))) (let one : length (x ∷ xs) + n ≡ suc (length xs + n) = omega arith in one)

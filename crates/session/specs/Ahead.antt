@@ -43,7 +43,7 @@ IsPut request old new None = (command : Command) × (request ≡ Ok (Ask command
 
 module _ {D : Type 0} (does : D → Exchange → D → Type 0) where
   -- The desk was asked for these commands, one after another, and this holds of the replies that tell its answers.
-  pub record Settles (commands : List Command) (desk desk' : D) (Holds : List ℕ → Type 0) : Type 0 where
+  pub record AnswersPending (commands : List Command) (desk desk' : D) (Holds : List ℕ → Type 0) : Type 0 where
     pub answered : List Sent
     pub these : commands_of answered ≡ commands
     pub asks : Asks does desk (exchanges_of answered) desk'

@@ -75,7 +75,7 @@ mod tokened;
 
 pub use desk::Desk;
 pub use line::text_length;
-pub use output::{Output, Stream, WriteFailed};
+pub use output::{Output, Stream, WriteError};
 pub use page::PAGE;
 pub use reply::Reply;
 pub use sent::Sent;

@@ -1,5 +1,5 @@
 //! Where a session writes.
-ghost use Rattle.std.specs.Prelude.{◌≡◌, ◌≤◌, ◌++◌, ℕ, List, Option, Bool, true, false, length, take, IfOk, OnOk, OnErr};
+ghost use Rattle.std.specs.Prelude.{◌≡◌, ◌≤◌, ℕ, List, Option, Bool, true, false, length, take, IfOk, OnOk, OnErr};
 ghost use Rattle.std.specs.Io.KnownBytes.{Appends, Keeps};
 ghost use Rattle.session.specs.Output.{AppendsFront};
 
@@ -9,7 +9,7 @@ use thiserror::Error;
 /// A write failed.
 #[derive(Clone, Copy, Debug, PartialEq, Eq, Error)]
 #[error("a write failed")]
-pub struct WriteFailed;
+pub struct WriteError;
 
 /// What a session writes to. Once a write has failed it takes nothing more.
 pub trait Output {
@@ -20,7 +20,7 @@ pub trait Output {
     ghost has_failed: { Self → Bool };
 
     /// Writes all the bytes, or fails, and then a prefix of them is written.
-    fn put(&mut self, bytes: &[u8]) -> Result<(), WriteFailed>
+    fn put(&mut self, bytes: &[u8]) -> Result<(), WriteError>
         ensures written { OnOk result (Appends (contents self.old) (contents self.new) bytes.now) }
         ensures front { OnErr result (AppendsFront (contents self.old) (contents self.new) bytes.now) }
         ensures works { OnOk result ((has_failed self.old ≡ false) × (has_failed self.new ≡ false)) }
@@ -28,7 +28,7 @@ pub trait Output {
         ensures closed { has_failed self.old ≡ true → Keeps (contents self.old) (contents self.new) };
 
     /// Sends on what was written and is held back, or fails.
-    fn flush(&mut self) -> Result<(), WriteFailed>
+    fn flush(&mut self) -> Result<(), WriteError>
         ensures kept { Keeps (contents self.old) (contents self.new) }
         ensures works { OnOk result ((has_failed self.old ≡ false) × (has_failed self.new ≡ false)) }
         ensures failed { OnErr result (has_failed self.new ≡ true) };
@@ -71,31 +71,31 @@ impl<W: Write> Output for Stream<W> {
 
     ghost has_failed = { λ s. failed_of s };
 
-    fn put(&mut self, bytes: &[u8]) -> Result<(), WriteFailed> {
+    fn put(&mut self, bytes: &[u8]) -> Result<(), WriteError> {
         if self.failed {
-            return Err(WriteFailed);
+            return Err(WriteError);
         }
         if write_whole(&mut self.writer, bytes).is_err() {
             self.failed = true;
-            return Err(WriteFailed);
+            return Err(WriteError);
         }
         Ok(())
     }
 
-    fn flush(&mut self) -> Result<(), WriteFailed> {
+    fn flush(&mut self) -> Result<(), WriteError> {
         if self.failed {
-            return Err(WriteFailed);
+            return Err(WriteError);
         }
         if self.writer.flush().is_err() {
             self.failed = true;
-            return Err(WriteFailed);
+            return Err(WriteError);
         }
         Ok(())
     }
 }
 
 // Writes all the bytes, or fails, and then a prefix of them is written.
-fn write_whole<W: Write>(writer: &mut W, bytes: &[u8]) -> Result<(), WriteFailed>
+fn write_whole<W: Write>(writer: &mut W, bytes: &[u8]) -> Result<(), WriteError>
     ensures written { OnOk result (Appends (W.contents writer.old) (W.contents writer.new) bytes.now) }
     ensures front { OnErr result (AppendsFront (W.contents writer.old) (W.contents writer.new) bytes.now) }
 {
@@ -107,20 +107,20 @@ fn write_whole<W: Write>(writer: &mut W, bytes: &[u8]) -> Result<(), WriteFailed
         let count = write_some(writer, rest)?;
         rest = &rest[count..];
     }
-    Err(WriteFailed)
+    Err(WriteError)
 }
 
 // Writes some of the bytes: none where a signal cut the write short. A write that takes no byte has failed.
-fn write_some<W: Write>(writer: &mut W, bytes: &[u8]) -> Result<usize, WriteFailed>
+fn write_some<W: Write>(writer: &mut W, bytes: &[u8]) -> Result<usize, WriteError>
     ensures within { IfOk result (λ count. count ≤ length bytes.now) }
     ensures written { IfOk result
         (λ count. Appends (W.contents writer.old) (W.contents writer.new) (take count bytes.now)) }
     ensures kept { OnErr result (Keeps (W.contents writer.old) (W.contents writer.new)) }
 {
     match writer.write(bytes) {
-        Ok(0) => Err(WriteFailed),
+        Ok(0) => Err(WriteError),
         Ok(count) => Ok(count),
         Err(error) if error.kind() == ErrorKind::Interrupted => Ok(0),
-        Err(_) => Err(WriteFailed),
+        Err(_) => Err(WriteError),
     }
 }

@@ -2,7 +2,7 @@
 ghost use Rattle.std.specs.Prelude.{◌≡◌, ◌<◌, ◌++◌, ℕ, List, [], length, false, IfOk};
 ghost use Rattle.session.specs.Page.{Spells, Ends};
 
-use crate::output::{Output, WriteFailed};
+use crate::output::{Output, WriteError};
 use bytes::BytesMut;
 use std::alloc::{AllocError, Global};
 use std::marker::Model;
@@ -74,12 +74,12 @@ impl Page {
     }
 
     /// Writes what waits. Refused where a write failed since the page began.
-    pub fn finish<O: Output>(&mut self, out: &mut O) -> Result<(), WriteFailed>
+    pub fn finish<O: Output>(&mut self, out: &mut O) -> Result<(), WriteError>
         ensures { Ends O.contents O.has_failed out.old self.old out.new result }
     {
         self.write(out);
         if self.failed {
-            return Err(WriteFailed);
+            return Err(WriteError);
         }
         Ok(())
     }

@@ -1,5 +1,5 @@
 //! A session: lines of messages to lines of replies.
-ghost use Rattle.std.specs.Prelude.{◌≡◌, ◌==◌, ◌++◌, ℕ, length, not, is_some, Option, Some, None, List, [], ◌∷◌, true, false, Result, Ok, flat_map, IfOk, IfErr, IfSome, IsErr, OnOk, OnErr};
+ghost use Rattle.std.specs.Prelude.{◌≡◌, ◌==◌, ℕ, length, not, is_some, Option, Some, None, List, [], true, false, Result, Ok, flat_map, IfOk, IfSome, IsErr, OnOk, OnErr};
 ghost use Rattle.std.specs.Io.KnownBytes.{Appends};
 ghost use Rattle.refusal.specs.declared.Refusal as refusal;
 ghost use Rattle.session.specs.declared.reply.Reply as reply;
@@ -8,10 +8,10 @@ ghost use Rattle.optext.specs.Answer.{IsAnswer};
 ghost use Rattle.session.specs.Line.{with_byte, TakesText};
 ghost use Rattle.session.specs.Request.{request_of, GreetsSource};
 ghost use Rattle.revision.specs.State as state;
-ghost use Rattle.session.specs.Reply.{greeting as spec_greeting, subscribed_line, unsubscribed_reply as spec_unsubscribed, line_of, refusal_line};
+ghost use Rattle.session.specs.Reply.{greeting as spec_greeting, subscribed_line, unsubscribed_reply as spec_unsubscribed, line_of};
 ghost use Rattle.session.specs.Reads.{read_line, shown_line};
 ghost use Rattle.session.specs.Shelf.{Fits, IsLater, IsGivenLook};
-ghost use Rattle.session.specs.Exchange.{Exchange, Answered, Shown, IsReadOf};
+ghost use Rattle.session.specs.Exchange.{Exchange, Shown, IsReadOf};
 ghost use Rattle.session.specs.Output.{AppendsFront};
 ghost use Rattle.session.specs.Page.{Spells};
 ghost use Rattle.session.specs.steps.DueText.{due_text};
@@ -19,13 +19,13 @@ ghost use Rattle.session.specs.Subscriptions.{may_follow_shown, subscribed, with
 ghost use Rattle.session.specs.News.{AreNews, AreNone, MayBeMissed, going_on};
 ghost use Rattle.session.specs.Calls.{Passes, TellsNews, StopsNews, call_of, with_subscriptions};
 ghost use Rattle.session.specs.Replies.{IsLine, IsReplied, Asks, Feeds, Stops, answer_line, text_told};
-ghost use Rattle.session.specs.Ahead.{commands_of, AreReplies, Settles, IsPut, TakesAhead, StopsAhead};
+ghost use Rattle.session.specs.Ahead.{commands_of, AreReplies, AnswersPending, IsPut, TakesAhead, StopsAhead};
 
 use crate::desk::Desk;
 use crate::due::Due;
 use crate::line::{Event, Line};
 use crate::news::News;
-use crate::output::{Output, WriteFailed};
+use crate::output::{Output, WriteError};
 use crate::page::Page;
 use crate::question::Question;
 use crate::reads::{Told, check_held, read};
@@ -38,7 +38,7 @@ use crate::shelf::Shelf;
 use crate::subscriptions::Subscriptions;
 use json::Scratch;
 use refusal::Refusal;
-use revision::{Command, Name};
+use revision::Name;
 use std::alloc::{AllocError, Global};
 use std::marker::Model;
 use thiserror::Error;
@@ -48,8 +48,8 @@ use thiserror::Error;
 #[error("the session has ended: a write failed")]
 pub struct SessionEnded;
 
-impl From<WriteFailed> for SessionEnded {
-    fn from(_: WriteFailed) -> SessionEnded {
+impl From<WriteError> for SessionEnded {
+    fn from(_: WriteError) -> SessionEnded {
         SessionEnded
     }
 }
@@ -88,11 +88,10 @@ impl Model for Session {
 const NO_MEMORY: &[u8] = b"{\"code\":22,\"error\":\"NoMemory\"}\n";
 
 impl Session {
-    /// A session at its beginning. Refused with `NoMemory`.
-    pub fn new(alloc: Global) -> Result<Session, Refusal>
+    /// A session at its beginning. Refused as out of memory alone.
+    pub fn new(alloc: Global) -> Result<Session, AllocError>
         ensures ok { IfOk result (λ session. session
             ≡ record { line = Some []; peer = record { source = None; subscriptions = [] }; ended = false }) }
-        ensures only { IfErr result (λ e. e ≡ Refusal.NoMemory) }
     {
         let scratch = Box::new(alloc, Scratch::new(alloc))?;
         let page = Page::new(alloc)?;
@@ -140,12 +139,12 @@ impl Session {
             return Err(SessionEnded);
         }
         let mut rest = piece;
-        let mut sent = Vec::new(alloc);
+        let mut pending = Vec::new(alloc);
         while let Some((byte, behind)) = self.take_text(rest).split_first() {
-            self.take(alloc, *byte, out, desk, shelf, &mut sent)?;
+            self.take(alloc, *byte, out, desk, shelf, &mut pending)?;
             rest = behind;
         }
-        self.settle(alloc, out, desk, &mut sent)?;
+        self.answer_pending(alloc, out, desk, &mut pending)?;
         Ok(())
     }
 
@@ -241,15 +240,15 @@ impl Session {
         out: &mut O,
         desk: &mut D,
         shelf: &mut Shelf,
-        sent: &mut Vec<Sent>,
+        pending: &mut Vec<Sent>,
     ) -> Result<(), SessionEnded>
         requires works { self.old.ended ≡ false }
         requires fits { Fits (D.reached desk.old) shelf.old }
         ensures fits { Fits (D.reached desk.new) shelf.new }
         ensures taken { OnOk result
-            (TakesAhead D.does self.old byte (commands_of sent.old.items) self.new (commands_of sent.new.items)
+            (TakesAhead D.does self.old byte (commands_of pending.old.items) self.new (commands_of pending.new.items)
             desk.old desk.new (O.contents out.old) (O.contents out.new)) }
-        ensures stopped { OnErr result (StopsAhead D.does self.old byte (commands_of sent.old.items) self.new
+        ensures stopped { OnErr result (StopsAhead D.does self.old byte (commands_of pending.old.items) self.new
             desk.old desk.new (O.contents out.old) (O.contents out.new)) }
         ensures cause { OnErr result (O.has_failed out.new ≡ true) }
         ensures ok { OnOk result (self.new.ended ≡ false) }
@@ -258,14 +257,14 @@ impl Session {
         match self.event_of(byte) {
             Event::More => {}
             Event::TooLong => {
-                self.settle(alloc, out, desk, sent)?;
+                self.answer_pending(alloc, out, desk, pending)?;
                 self.send(out, &refusal_reply(alloc, Refusal::LineTooLong))?;
             }
             Event::Complete => {
                 let request = self.request(alloc);
-                match put(request, sent) {
+                match put(request, pending) {
                     Some(request) => {
-                        self.settle(alloc, out, desk, sent)?;
+                        self.answer_pending(alloc, out, desk, pending)?;
                         let reply = self.respond(alloc, desk, shelf, request);
                         self.next_line();
                         self.send(out, &reply)?;
@@ -277,27 +276,27 @@ impl Session {
         Ok(())
     }
 
-    // Asks the desk for the commands that were sent ahead, and writes their replies.
-    fn settle<O: Output, D: Desk>(
+    // Asks the desk for the commands that are pending, and writes their replies.
+    fn answer_pending<O: Output, D: Desk>(
         &mut self,
         alloc: Global,
         out: &mut O,
         desk: &mut D,
-        sent: &mut Vec<Sent>,
+        pending: &mut Vec<Sent>,
     ) -> Result<(), SessionEnded>
         requires works { self.old.ended ≡ false }
         ensures later { IsLater (D.reached desk.old) (D.reached desk.new) }
-        ensures none_left { sent.new.items ≡ [] }
-        ensures settled { Settles D.does (commands_of sent.old.items) desk.old desk.new (λ text.
+        ensures none_left { pending.new.items ≡ [] }
+        ensures answered { AnswersPending D.does (commands_of pending.old.items) desk.old desk.new (λ text.
             OnOk result (Appends (O.contents out.old) (O.contents out.new) text)
             × OnErr result (AppendsFront (O.contents out.old) (O.contents out.new) text)) }
         ensures failed { OnErr result (O.has_failed out.new ≡ true) }
         ensures ok { OnOk result (self.new ≡ self.old) }
         ensures err { OnErr result (self.new ≡ record self.old { ended = true }) }
     {
-        desk.ask_all(alloc, sent);
-        let written = self.reply_all(alloc, out, sent.as_slice());
-        sent.clear();
+        desk.ask_all(alloc, pending);
+        let written = self.reply_all(alloc, out, pending.as_slice());
+        pending.clear();
         written
     }
 
@@ -355,7 +354,7 @@ impl Session {
     {
         match request {
             Ok(Request::Greet(source)) => self.greet(alloc, source),
-            // A command for which those sent ahead found no room.
+            // A command for which there was no room among those that are pending.
             Ok(Request::Ask(_command)) => refusal_reply(alloc, Refusal::NoMemory),
             Ok(Request::Read(name, question)) => answer(alloc, desk, shelf, &name, question),
             Ok(Request::Subscribe(name, rev)) => self.subscribe(alloc, desk, name, rev),
@@ -453,14 +452,17 @@ impl Session {
 }
 
 // Puts a command to those that are sent ahead. Any other request is given back, and so is a command where memory runs out.
-fn put(request: Result<Request, Refusal>, sent: &mut Vec<Sent>) -> Option<Result<Request, Refusal>>
-    ensures { IsPut request (commands_of sent.old.items) (commands_of sent.new.items) result }
+fn put(
+    request: Result<Request, Refusal>,
+    pending: &mut Vec<Sent>,
+) -> Option<Result<Request, Refusal>>
+    ensures { IsPut request (commands_of pending.old.items) (commands_of pending.new.items) result }
 {
     let Ok(Request::Ask(command)) = request else {
         return Some(request);
     };
     let answer = Err(Refusal::NoMemory);
-    match sent.push(Sent { command, answer }) {
+    match pending.push(Sent { command, answer }) {
         Ok(()) => None,
         Err(refused) => {
             let Sent { command, answer: _ } = refused.value;
@@ -564,7 +566,7 @@ fn write_reply<O: Output>(
     page: &mut Page,
     out: &mut O,
     reply: &Result<Due, AllocError>,
-) -> Result<(), WriteFailed>
+) -> Result<(), WriteError>
     ensures written { OnOk result (Appends (O.contents out.old) (O.contents out.new)
         (text_told (λ t. due_text t) reply.now)) }
     ensures front { OnErr result (AppendsFront (O.contents out.old) (O.contents out.new)
@@ -577,7 +579,7 @@ fn write_reply<O: Output>(
 }
 
 // Writes lines that are due.
-fn write_all<O: Output>(page: &mut Page, out: &mut O, lines: &[Due]) -> Result<(), WriteFailed>
+fn write_all<O: Output>(page: &mut Page, out: &mut O, lines: &[Due]) -> Result<(), WriteError>
     ensures written { OnOk result (Appends (O.contents out.old) (O.contents out.new) (flat_map due_text lines.now)) }
     ensures front { OnErr result
         (AppendsFront (O.contents out.old) (O.contents out.new) (flat_map due_text lines.now)) }
@@ -594,7 +596,7 @@ fn write_replies<O: Output>(
     page: &mut Page,
     out: &mut O,
     sent: &[Sent],
-) -> Result<(), WriteFailed>
+) -> Result<(), WriteError>
     ensures written { (text : List ℕ) × AreReplies sent.now text
         × OnOk result (Appends (O.contents out.old) (O.contents out.new) text)
         × OnErr result (AppendsFront (O.contents out.old) (O.contents out.new) text) }

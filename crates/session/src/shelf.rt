@@ -1,5 +1,5 @@
 //! Documents at older revisions, kept for the next one who asks for them.
-ghost use Rattle.std.specs.Prelude.{◌≡◌, ◌≤◌, [], length, IfOk, IfErr, IfSome};
+ghost use Rattle.std.specs.Prelude.{◌≡◌, ◌≤◌, [], length, IfOk, IfSome};
 ghost use Rattle.std.specs.Fn.{FnOnceReturnsAt};
 ghost use Rattle.std.specs.String.{string_bytes};
 ghost use Rattle.revision.specs.Past.{newest};
@@ -76,15 +76,14 @@ impl Model for Look {
 }
 
 impl Shelf {
-    /// An empty shelf. Refused with `NoMemory`.
-    pub fn new(alloc: Global) -> Result<Shelf, Refusal>
+    /// An empty shelf. Refused as out of memory alone.
+    pub fn new(alloc: Global) -> Result<Shelf, AllocError>
         ensures empty { IfOk result (λ shelf. shelf ≡ []) }
-        ensures only { IfErr result (λ e. e ≡ Refusal.NoMemory) }
     {
         let places = NonZeroUsize::new(PLACES).unwrap();
         match LruCache::new(alloc, places) {
             Ok(documents) => Ok(Shelf { documents }),
-            Err(_) => Err(Refusal::NoMemory),
+            Err(_) => Err(AllocError),
         }
     }
 

@@ -1,5 +1,5 @@
 //! A desk of a state alone, for tests: no program uses it.
-ghost use Rattle.std.specs.Prelude.{◌≡◌, ◌⊎◌, true, [], ◌∷◌, false, IfErr, IfOk, IsErr, OnErr, OnOk};
+ghost use Rattle.std.specs.Prelude.{◌≡◌, true, false, IfOk, IsErr, OnErr, OnOk};
 ghost use Rattle.revision.specs.State.{State, grows, grown};
 ghost use Rattle.session.specs.declared.reply.Reply.TheVariants as reply;
 ghost use Rattle.session.specs.Alone.{Alone, FedAlone, HearsAlone, of_session};
@@ -15,7 +15,7 @@ use crate::session::{Session, SessionEnded};
 use crate::shelf::Shelf;
 use refusal::Refusal;
 use revision::{Command, Plan, State, Taken, laws};
-use std::alloc::Global;
+use std::alloc::{AllocError, Global};
 use std::marker::Model;
 
 /// Answers each command by the rule of acceptance, and shows the state that comes of all of them. It keeps nothing on a
@@ -103,11 +103,10 @@ impl StateDesk {
     }
 
     // Adds what is taken of a command, which continues the state. Refused as out of memory alone.
-    fn add(&mut self, alloc: Global, taken: Taken) -> Result<Reply, Refusal>
+    fn add(&mut self, alloc: Global, taken: Taken) -> Result<Reply, AllocError>
         requires { grows self.old taken ≡ true }
         ensures told { IfOk result (λ told. told ≡ reply.Taken taken.revision) }
         ensures added { OnOk result (self.new ≡ grown self.old taken) }
-        ensures only { IfErr result (λ e. e ≡ Refusal.NoMemory) }
         ensures unchanged { OnErr result (self.new ≡ self.old) }
     {
         let rev = taken.revision();
@@ -125,9 +124,9 @@ impl Desk for StateDesk {
 
     fn ask(&mut self, alloc: Global, command: &Command) -> Result<Reply, Refusal> {
         laws::taken_grows();
-        let _number = command.number();
+        command.facts();
         match self.state.plan(alloc, command)? {
-            Plan::Taken(taken) => self.add(alloc, taken),
+            Plan::Taken(taken) => Ok(self.add(alloc, taken)?),
             Plan::Again { rev } => Ok(Reply::Again { rev }),
         }
     }

@@ -1,5 +1,5 @@
 //! The documents that a session follows.
-ghost use Rattle.std.specs.Prelude.{◌≡◌, ℕ, T, [], MatchResult, OnOk, OnErr, length};
+ghost use Rattle.std.specs.Prelude.{◌≡◌, T, [], MatchResult, OnOk, OnErr, length};
 ghost use Rattle.std.specs.FinMap.Entries.{is_sorted};
 ghost use Rattle.attributes.specs.Map.{by_bytes};
 ghost use Rattle.attributes.specs.Place.{IsHere, IsFree};

@@ -1,43 +1,14 @@
 -- Turns of a conversation, one after another.
-use Rattle.std.proofs.Common.{◌++◌, ℕ, List, [], ◌∷◌, Option, Some, None, Result, Ok, Err, OnErr, refl, sym, ap, subst, ◌∙◌, append_assoc, append-nil}
-use Rattle.std.specs.Io.KnownBytes.{Appends, Consumes, Keeps}
+use Rattle.std.proofs.Common.{◌++◌, ℕ, List, [], ◌∷◌, Option, refl, sym, subst, append_assoc, append-nil}
+use Rattle.std.specs.Io.KnownBytes.{Consumes, Keeps}
 use Rattle.session.specs.Session.{Session}
 use Rattle.session.specs.Exchange.{Exchange}
 use Rattle.session.specs.Replies.{Feeds}
 use Rattle.session.specs.Calls.{Call, Fed, OfPiece, TellsNews}
 use Rattle.session.proofs.CallerLemmas.{asks-joined, appends-both, calls-joined, calls-one}
 use Rattle.sockets.specs.Conversation.{AreAnsweredBy, no_turn, turn, Answers, Converses, StopsIn, StopsConversing}
-
--- what holds anyhow holds of a call that fails
-pub on_err : {T E : Type 0} {P : Type 0} (r : Result T E) → P → OnErr r P
-on_err (Ok x) h = tt
-on_err (Err e) h = h
-
-pub keeps_consumes : (a b : Option (List ℕ)) → Keeps a b → Consumes a b []
-keeps_consumes None b kept = tt
-keeps_consumes (Some x) None kept = absurd kept
-keeps_consumes (Some x) (Some y) kept = sym kept
-
-consumes_nothing : (a : Option (List ℕ)) → Consumes a a []
-consumes_nothing None = tt
-consumes_nothing (Some x) = refl
-
-consumes_both : (a b c : Option (List ℕ)) (front back : List ℕ) → Consumes a b front → Consumes b c back → Consumes a c (front ++ back)
-consumes_both None b c front back first second = tt
-consumes_both (Some x) None c front back first second = absurd first
-consumes_both (Some x) (Some y) None front back first second = absurd second
-consumes_both (Some x) (Some y) (Some z) front back first second = first ∙ ap (λ l. front ++ l) second ∙ sym (append_assoc front back z)
-
-appends_nothing : (a : Option (List ℕ)) → Appends a a []
-appends_nothing None = tt
-appends_nothing (Some x) = sym (append-nil x)
-
--- what is written is kept by a flush
-appends_kept : (a b c : Option (List ℕ)) (text : List ℕ) → Appends a b text → Keeps b c → Appends a c text
-appends_kept None b c text written kept = tt
-appends_kept (Some x) None c text written kept = absurd written
-appends_kept (Some x) (Some y) None text written kept = absurd kept
-appends_kept (Some x) (Some y) (Some z) text written kept = kept ∙ written
+use Rattle.std.proofs.KnownBytes.{Appends-nil, Consumes-nil, Appends-kept, Consumes-trans}
+pub use Rattle.session.proofs.CallerLemmas.{on_err}
 
 -- turns, and then others
 turns_joined : (front back : List ℕ) (a b : List Call) → AreAnsweredBy front a → AreAnsweredBy back b → AreAnsweredBy (front ++ back) (a ++ b)
@@ -49,10 +20,10 @@ turns_joined front back a b (turn piece bytes news calls for_news rest) second =
 module _ {D : Type 0} (does : D → Exchange → D → Type 0) where
   -- what comes of no byte
   pub fed_nothing : (s : Session) (d : D) (o : Option (List ℕ)) → Feeds does s [] s d d o o
-  fed_nothing s d o = record { asked = []; text = []; replies = (refl, refl, refl); asks = refl; written = appends_nothing o }
+  fed_nothing s d o = record { asked = []; text = []; replies = (refl, refl, refl); asks = refl; written = Appends-nil o }
 
   answers_nothing : (s : Session) (d : D) (o : Option (List ℕ)) → Answers does s [] s d d o o
-  answers_nothing s d o = record { calls = []; turns = no_turn; asked = []; text = []; comes = (refl, refl, refl); asks = refl; written = appends_nothing o }
+  answers_nothing s d o = record { calls = []; turns = no_turn; asked = []; text = []; comes = (refl, refl, refl); asks = refl; written = Appends-nil o }
 
   answers_joined : (front back : List ℕ) (old mid new : Session) (d e f : D) (o p q : Option (List ℕ))
       → Answers does old front mid d e o p → Answers does mid back new e f p q → Answers does old (front ++ back) new d f o q
@@ -78,7 +49,7 @@ module _ {D : Type 0} (does : D → Exchange → D → Type 0) where
         (calls-one old mid (Fed piece) fed.asked fed.text (OfPiece piece fed.asked mid fed.text fed.replies))
         (calls-one mid new call told.asked told.text told.comes);
     asks = asks-joined does fed.asked told.asked d e f fed.asks told.asks;
-    written = appends_kept o q r (fed.text ++ told.text) (appends-both o p q fed.text told.text fed.written told.written) kept;
+    written = Appends-kept o q r (fed.text ++ told.text) (appends-both o p q fed.text told.text fed.written told.written) kept;
   }
 
   -- nothing was read, or nothing yet
@@ -86,13 +57,13 @@ module _ {D : Type 0} (does : D → Exchange → D → Type 0) where
   converses_nothing s d i j o consumed = record { bytes = []; consumed = consumed; answers = answers_nothing s d o }
 
   pub converses_yet : (s : Session) (d : D) (i o : Option (List ℕ)) → Converses does s s d d i i o o
-  converses_yet s d i o = converses_nothing s d i i o (consumes_nothing i)
+  converses_yet s d i o = converses_nothing s d i i o (Consumes-nil i)
 
   pub converses_joined : (old mid new : Session) (d e f : D) (i j k o p q : Option (List ℕ))
       → Converses does old mid d e i j o p → Converses does mid new e f j k p q → Converses does old new d f i k o q
   converses_joined old mid new d e f i j k o p q first second = record {
     bytes = first.bytes ++ second.bytes;
-    consumed = consumes_both i j k first.bytes second.bytes first.consumed second.consumed;
+    consumed = Consumes-trans i j k first.bytes second.bytes first.consumed second.consumed;
     answers = answers_joined first.bytes second.bytes old mid new d e f o p q first.answers second.answers;
   }
 
@@ -116,7 +87,7 @@ module _ {D : Type 0} (does : D → Exchange → D → Type 0) where
     front = first.bytes ++ second.front;
     piece = second.piece;
     consumed = subst (λ (l : List ℕ). Consumes i k l) (sym (append_assoc first.bytes second.front second.piece))
-        (consumes_both i j k first.bytes (second.front ++ second.piece) first.consumed second.consumed);
+        (Consumes-trans i j k first.bytes (second.front ++ second.piece) first.consumed second.consumed);
     mid = second.mid;
     desk_mid = second.desk_mid;
     output_mid = second.output_mid;

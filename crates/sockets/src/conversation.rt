@@ -1,7 +1,6 @@
 //! A conversation: a session over any reader and writer.
 ghost use Rattle.std.specs.Prelude.{◌≡◌, ◌≤◌, [], None, Some, true, false, take, length, Option, IfSome, OnOk, OnErr};
-ghost use Rattle.std.specs.Io.KnownBytes.{Consumes, Keeps};
-ghost use Rattle.session.specs.Calls.{TellsNews};
+ghost use Rattle.std.specs.Io.KnownBytes.{Consumes};
 ghost use Rattle.session.specs.Replies.{Feeds, Stops};
 ghost use Rattle.session.specs.Shelf.{Fits};
 ghost use Rattle.sockets.specs.Conversation.{beginning, Answers, Converses, IsConversation, StopsConversing, StopsIn};

@@ -18,7 +18,7 @@ ghost use Rattle.recovery.specs.Open.{FitsSlot, IsOpen, IsWithOrWithout, device_
 
 use disk::{Disk, Fault};
 use journal::{Area, Record};
-use milestone::{Cells, Format, Job, Milestone, ReadCells, Uncomposed, compose_job};
+use milestone::{Cells, ComposeError, Format, Job, Milestone, ReadCells, compose_job};
 use recovery::{Receipt, Store};
 use refusal::Refusal;
 use revision::{Batch, Taken};
@@ -71,7 +71,7 @@ pub fn append_byte<D: Disk>(
 }
 
 /// How many units a document has at the revision of a job. Refused as out of memory alone, and then the job comes back.
-pub fn length_of(alloc: Global, job: Job) -> Result<u64, Uncomposed>
+pub fn length_of(alloc: Global, job: Job) -> Result<u64, ComposeError>
     ensures length { IfOk result (λ len. len ≡ length (applied (units_of_job job) job.deltas)) }
     ensures back { IfErr result (λ back. back.job ≡ job) }
 {

@@ -61,7 +61,7 @@ fn halves_of(rt: &(impl Abort + AllocGlobal), job: &Job) -> (Part, Part) {
 fn done(rt: &(impl Abort + AllocGlobal), part: Part) -> PartDone {
     match compose_part(rt.alloc(), part) {
         Ok(done) => done,
-        Err(back) => panic!(rt; "{}", back.refusal),
+        Err(_) => panic!(rt; "out of memory"),
     }
 }
 

@@ -7,7 +7,7 @@ use crate::stores::{
     open_store, part, small_device, with_bytes_at,
 };
 use disk::{Disk, FaultDisk, FaultPlan, Left};
-use recovery::{Stop, Store};
+use recovery::{RunError, Store};
 use refusal::Refusal;
 use std::process::Abort;
 
@@ -69,7 +69,7 @@ fn is_full_at_third<D: Disk>(rt: &(impl Abort + AllocGlobal), store: &mut Store<
     is_run(
         rt,
         run_steps(rt, store, &steps),
-        Err(Stop { at: 2, refusal }),
+        Err(RunError { at: 2, refusal }),
     );
 }
 
@@ -114,7 +114,12 @@ fn no_number_is_behind_the_last(rt: HostRuntime) {
     let mut store = open_store(&rt, device_of(&rt, &bytes));
     has_documents(&rt, store.state(), "d 2 zx\n");
     let refusal = Refusal::JournalFull;
-    is_run_of(&rt, &mut store, &second(&rt), Err(Stop { at: 0, refusal }));
+    is_run_of(
+        &rt,
+        &mut store,
+        &second(&rt),
+        Err(RunError { at: 0, refusal }),
+    );
     are_bytes(&rt, store.close().bytes(), &bytes);
 }
 
@@ -134,7 +139,12 @@ fn is_stopped(rt: &(impl Abort + AllocGlobal), call: u64, left: Left, wanted: &s
     let plan = FaultPlan::stop(calls_before(rt, &bytes).saturating_add(call), left);
     let mut store = open_store(rt, FaultDisk::new(device_of(rt, &bytes), plan));
     let refusal = Refusal::Fault;
-    is_run_of(rt, &mut store, &second(rt), Err(Stop { at: 0, refusal }));
+    is_run_of(
+        rt,
+        &mut store,
+        &second(rt),
+        Err(RunError { at: 0, refusal }),
+    );
     let after = store.close().after_crash(rt.alloc()).expect(rt, "memory");
     is_opened_as(rt, after.bytes(), wanted);
 }

@@ -10,7 +10,7 @@ use crate::stores::{
 };
 use disk::Disk;
 use journal::decode_batch;
-use recovery::{Shape, Stop, Store, StoreStep};
+use recovery::{RunError, Shape, Store, StoreStep};
 use refusal::Refusal;
 use std::process::Abort;
 
@@ -101,14 +101,14 @@ pub fn run_steps<D: Disk>(
     rt: &(impl Abort + AllocGlobal),
     store: &mut Store<D>,
     steps: &[StoreStep],
-) -> Result<(), Stop>
+) -> Result<(), RunError>
     requires { All (CanTake (state_of store.old)) steps.now }
 {
     store.run(rt.alloc(), steps)
 }
 
 /// A run stops or doesn't, as it is wanted.
-pub fn is_run(rt: &impl Abort, found: Result<(), Stop>, wanted: Result<(), Stop>) {
+pub fn is_run(rt: &impl Abort, found: Result<(), RunError>, wanted: Result<(), RunError>) {
     assert_eq!(rt; found, wanted);
 }
 
@@ -117,7 +117,7 @@ pub fn is_run_of<D: Disk>(
     rt: &(impl Abort + AllocGlobal),
     store: &mut Store<D>,
     bytes: &[u8],
-    wanted: Result<(), Stop>,
+    wanted: Result<(), RunError>,
 ) {
     let steps = [step(rt, store, bytes)];
     is_run(rt, run_steps(rt, store, &steps), wanted);
@@ -137,7 +137,7 @@ fn is_run_twice<D: Disk>(
     rt: &(impl Abort + AllocGlobal),
     store: &mut Store<D>,
     count: u8,
-    wanted: Result<(), Stop>,
+    wanted: Result<(), RunError>,
 ) {
     let again = step(rt, store, &repeated(rt, count));
     let steps = [step(rt, store, &repeated(rt, 1)), again];
@@ -148,7 +148,7 @@ fn is_run_twice<D: Disk>(
 fn is_stopped(rt: &(impl Abort + AllocGlobal), count: u8) {
     let mut store = open_store(rt, small_device(rt));
     let refusal = Refusal::Stranger;
-    is_run_twice(rt, &mut store, count, Err(Stop { at: 1, refusal }));
+    is_run_twice(rt, &mut store, count, Err(RunError { at: 1, refusal }));
     has_documents(rt, store.state(), "d 1 z\n");
     is_run_of(rt, &mut store, part(rt, &SLOT, 64, 45), Ok(()));
     differ_by(
@@ -189,5 +189,5 @@ fn a_batch_fits_a_slot_or_none(rt: HostRuntime) {
 fn an_edit_of_nothing_is_not_committed(rt: HostRuntime) {
     let mut store = open_store(&rt, small_device(&rt));
     let refusal = Refusal::Stranger;
-    is_run_of(&rt, &mut store, &EDIT, Err(Stop { at: 0, refusal }));
+    is_run_of(&rt, &mut store, &EDIT, Err(RunError { at: 0, refusal }));
 }

@@ -9,7 +9,7 @@ use crate::stores::{
 };
 use delta::{Builder, Delta, Op};
 use disk::{Disk, FaultDisk, FaultPlan, Left};
-use recovery::Stop;
+use recovery::RunError;
 use refusal::Refusal;
 use revision::{Command, Name};
 use std::process::Abort;
@@ -56,7 +56,7 @@ pub fn failed_commit(
 ) -> FaultDisk {
     let mut store = open_store(rt, FaultDisk::new(device_of(rt, bytes), plan));
     let refusal = Refusal::Fault;
-    is_run_of(rt, &mut store, batch, Err(Stop { at: 0, refusal }));
+    is_run_of(rt, &mut store, batch, Err(RunError { at: 0, refusal }));
     assert!(rt; store.has_failed());
     store.close()
 }

@@ -7,7 +7,7 @@ use crate::stores::{
     small_device,
 };
 use disk::{Disk, FaultDisk, FaultPlan, Left};
-use recovery::{Pick, Stop, Store, StoreStep};
+use recovery::{Pick, RunError, Store, StoreStep};
 use refusal::Refusal;
 use revision::{DocState, Name};
 use std::process::Abort;
@@ -54,7 +54,7 @@ fn removals(rt: &(impl Abort + AllocGlobal)) -> Vec<u8> {
 fn run<D: Disk + Drop>(
     rt: &(impl Abort + AllocGlobal),
     disk: D,
-    wanted: Result<(), Stop>,
+    wanted: Result<(), RunError>,
 ) -> Store<D> {
     let mut store = open_store(rt, disk);
     let steps = [
@@ -138,7 +138,7 @@ fn bytes_after_stop(
     let plan = FaultPlan::stop(call, left);
     let refusal = Refusal::Fault;
     let disk = FaultDisk::new(device_of(rt, device.bytes()), plan);
-    let store = run(rt, disk, Err(Stop { at, refusal }));
+    let store = run(rt, disk, Err(RunError { at, refusal }));
     assert!(rt; store.has_failed());
     let after = store.close().after_crash(rt.alloc()).expect(rt, "memory");
     is_whole(rt, after.bytes());
@@ -191,7 +191,7 @@ fn is_needed<D: Disk>(rt: &(impl Abort + AllocGlobal), store: &mut Store<D>) {
     is_run(
         rt,
         run_steps(rt, store, &steps),
-        Err(Stop { at: 5, refusal }),
+        Err(RunError { at: 5, refusal }),
     );
 }
 
@@ -209,7 +209,7 @@ fn stops_at_milestone<D: Disk>(
     rt: &(impl Abort + AllocGlobal),
     store: &mut Store<D>,
     at: (u32, u64),
-    wanted: Result<(), Stop>,
+    wanted: Result<(), RunError>,
 ) {
     let steps = [
         step(rt, store, part(rt, &SLOT, 14, 45)),
@@ -226,7 +226,7 @@ fn is_refused(rt: &(impl Abort + AllocGlobal), document: u32, revision: u64, ref
         rt,
         &mut store,
         (document, revision),
-        Err(Stop { at: 1, refusal }),
+        Err(RunError { at: 1, refusal }),
     );
     assert!(rt; !store.has_failed());
     has_documents(rt, store.state(), "d 1 z\n");
@@ -253,7 +253,7 @@ fn stops_between_cells<D: Disk>(rt: &(impl Abort + AllocGlobal), store: &mut Sto
     is_run(
         rt,
         run_steps(rt, store, &steps),
-        Err(Stop { at: 5, refusal }),
+        Err(RunError { at: 5, refusal }),
     );
 }
 

@@ -89,12 +89,6 @@ waits_below old new added most behind last all number within below = elim (cases
 abbrev pub AreUnset : List Bool → Type 0
 AreUnset marks = (number : ℕ) → get_or marks number false ≡ false
 
-pub unset_more : (marks : List Bool) → AreUnset marks → AreUnset (marks ++ false ∷ [])
-unset_more [] unset zero = refl
-unset_more [] unset (suc k) = refl
-unset_more (first ∷ others) unset zero = unset 0
-unset_more (first ∷ others) unset (suc k) = unset_more others (λ n. unset (suc n)) k
-
 -- none waits, and none is marked
 pub marked_none : (places : ℕ) (marks : List Bool) (numbers : List ℕ) → length marks ≤ places → AreUnset marks → numbers ≡ [] → AreMarked places marks numbers
 marked_none places marks numbers enough unset none = record {

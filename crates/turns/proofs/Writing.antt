@@ -1,9 +1,10 @@
 -- What the flusher's thread does, from call to call.
-use Rattle.std.proofs.Common.{◌≡◌, ◌≢◌, ◌↔◌, ◌⊎◌, ◌≤◌, ◌+◌, inl, inr, ℕ, Bool, true, false, List, [], ◌∷◌, ◌++◌, length, refl, sym, ◌∙◌, ap, subst, arith, append_assoc, append-nil, length-append}
+use Rattle.std.proofs.Common.{Some, ◌≡◌, ◌≢◌, ◌↔◌, ◌⊎◌, ◌≤◌, ◌+◌, inl, inr, ℕ, Bool, true, false, List, [], ◌∷◌, ◌++◌, length, refl, sym, ◌∙◌, ap, subst, arith, append_assoc, append-nil, length-append}
 use Rattle.std.specs.Prelude.{◌<◌, Result, Ok, Err, IfOk, IfErr, IsErrOf}
-use Rattle.std.proofs.lemmas.Bool.{false≢true, cases_lt}
+use Rattle.std.proofs.lemmas.Bool.{false≢true, cases_lt, false_from_ne_true}
 use mathlib.Core.List.{IsPrefix}
 use Rattle.disk.specs.declared.device.Disk.{Ghosts}
+use Rattle.refusal.specs.Refusal.{IsOneOf}
 use Rattle.refusal.specs.declared.Refusal.{Refusal}
 use Rattle.refusal.specs.declared.Refusal.TheVariants.{JournalFull, Stranger, StillNeeded, NoMemory, Fault}
 use Rattle.revision.specs.Command.{Taken}
@@ -14,16 +15,19 @@ use Rattle.recovery.specs.declared.store.Store.{Store}
 use Rattle.recovery.specs.Found.{commands_of, FoundAs}
 use Rattle.recovery.specs.Open.{IsWithOrWithout, state_of, has_failed, has_room}
 use Rattle.recovery.specs.Goes.{Goes}
+use Rattle.recovery.specs.Moment.{Receipt}
 use Rattle.recovery.proofs.CallerLemmas.{goes_none, goes_map, goes_on, found_now, found_as, found_open}
 use Rattle.flusher.specs.declared.flusher.Flusher.{Flusher}
 use Rattle.flusher.specs.Batches.{IsBeginning}
-use Rattle.flusher.specs.Flushers.{IsUsedUp, IsWritten}
-use Rattle.flusher.specs.Holding.{IsUncommitted, store_of, told_of, committed_of, waiting_of}
-use Rattle.flusher.proofs.CallerLemmas.{commands-append, fewer, longer, within_write}
-use Rattle.turns.specs.Writing.{WasAt, IsKeptUp, KeepsUp, IsUpkeep, IsFullFor, IsOneMore, IsTurnFailed, IsUntouched, given_to, told_count, Writes}
+use Rattle.flusher.specs.Holding.{store_of, told_of, committed_of, waiting_of}
+use Rattle.flusher.specs.Upkeep.{IsKeptUp, KeepsUp}
+use Rattle.flusher.specs.Writing.{HasPublished, IsUnpublished, IsWriteRefused}
+use Rattle.flusher.proofs.CallerLemmas.{commands-append, fewer, longer, within_write, no_error}
+use Rattle.turns.specs.Writing.{WasAt, IsUpkeep, IsFullFor, IsOneMore, IsTurnFailed, IsUntouched, given_to, told_count, Writes}
 use Rattle.turns.specs.Turning.{HasTurned}
 use Rattle.turns.specs.declared.turned.Turned.{Turned}
 use Rattle.turns.specs.declared.turned.Turned.TheVariants.{Settled, Nothing}
+pub use Rattle.flusher.proofs.CallerLemmas.{memory_not_fault, same_refusal}
 
 -- what the store of a flusher holds
 abbrev Kept : State → State → List (List Taken) → List (List Taken) → Type 0
@@ -78,9 +82,9 @@ module _ {D : Type 0} {disk : Ghosts D} where
     behind = goes_map (λ content found. longer (length (commands_of first)) start batches all more content whole found) was.behind;
   }
 
-module _ {D J : Type 0} {disk : Ghosts D} where
+module _ {D L : Type 0} {disk : Ghosts D} where
   -- some calls, and then others, where the earlier calls didn't fail
-  pub writes_on : (start : State) (old mid new : Flusher D J disk) → Writes start old mid → (has_failed (store_of old) ≡ false → has_failed (store_of mid) ≡ false) → Writes start mid new → Writes start old new
+  pub writes_on : (start : State) (old mid new : Flusher D L disk) → Writes start old mid → (has_failed (store_of old) ≡ false → has_failed (store_of mid) ≡ false) → Writes start mid new → Writes start old new
   writes_on start old mid new first works second =
       let more = second.more in
       let ends : told_count mid ≡ told_count old + length (commands_of first.told.0) =
@@ -143,7 +147,7 @@ module _ {D J : Type 0} {disk : Ghosts D} where
           }
 
   -- what is published and committed was so at the beginning
-  was_before : (start : State) (old new : Flusher D J disk) → Kept start (state_of (store_of old)) (told_of old) (committed_of old)
+  was_before : (start : State) (old new : Flusher D L disk) → Kept start (state_of (store_of old)) (told_of old) (committed_of old)
       → Goes (IsWithOrWithout (state_of (store_of old)) (commands_of (waiting_of old))) (store_of old) (store_of new)
       → told_of new ++ committed_of new ≡ told_of old ++ committed_of old → given_to new ≡ given_to old
       → WasAt start (told_count old) (told_of new ++ committed_of new) (given_to new) (store_of old) (store_of new)
@@ -160,7 +164,7 @@ module _ {D J : Type 0} {disk : Ghosts D} where
       }))
 
   -- it is so at the end
-  was_after : (start : State) (old new : Flusher D J disk) → Kept start (state_of (store_of old)) (told_of old) (committed_of old)
+  was_after : (start : State) (old new : Flusher D L disk) → Kept start (state_of (store_of old)) (told_of old) (committed_of old)
       → Kept start (state_of (store_of new)) (told_of new) (committed_of new)
       → Goes (IsWithOrWithout (state_of (store_of old)) (commands_of (waiting_of old))) (store_of old) (store_of new)
       → (has_failed (store_of old) ≡ false → has_failed (store_of new) ≡ false) → given_to new ≡ given_to old
@@ -176,7 +180,7 @@ module _ {D J : Type 0} {disk : Ghosts D} where
   }
 
   -- what was given is the same, and no more is published
-  pub writes_same : (start : State) (old new : Flusher D J disk) → Kept start (state_of (store_of old)) (told_of old) (committed_of old)
+  pub writes_same : (start : State) (old new : Flusher D L disk) → Kept start (state_of (store_of old)) (told_of old) (committed_of old)
       → Goes (IsWithOrWithout (state_of (store_of old)) (commands_of (waiting_of old))) (store_of old) (store_of new)
       → told_of new ≡ told_of old → given_to new ≡ given_to old
       → WasAt start (told_count old) (told_of new ++ committed_of new) (given_to new) (store_of old) (store_of new) → Writes start old new
@@ -196,7 +200,7 @@ module _ {D J : Type 0} {disk : Ghosts D} where
       }
 
   -- the store alone changes, and represents the same state
-  pub writes_still : (start : State) (old new : Flusher D J disk) → Kept start (state_of (store_of old)) (told_of old) (committed_of old)
+  pub writes_still : (start : State) (old new : Flusher D L disk) → Kept start (state_of (store_of old)) (told_of old) (committed_of old)
       → Goes (λ content. FoundAs content (state_of (store_of old))) (store_of old) (store_of new)
       → told_of new ≡ told_of old → committed_of new ≡ committed_of old → waiting_of new ≡ waiting_of old → Writes start old new
   writes_still start old new kept goes tells commits waits =
@@ -209,7 +213,7 @@ module _ {D J : Type 0} {disk : Ghosts D} where
       writes_same start old new kept written tells same (was_before start old new kept written holds same)
 
   -- what was held is written and published, as one batch
-  pub writes_published : (start : State) (old new : Flusher D J disk) (batch : List Taken) → committed_of old ++ waiting_of old ≡ batch ∷ [] → Kept start (state_of (store_of old)) (told_of old) (committed_of old)
+  pub writes_published : (start : State) (old new : Flusher D L disk) (batch : List Taken) → committed_of old ++ waiting_of old ≡ batch ∷ [] → Kept start (state_of (store_of old)) (told_of old) (committed_of old)
       → Kept start (state_of (store_of new)) (told_of new) (committed_of new)
       → Goes (IsWithOrWithout (state_of (store_of old)) (commands_of (waiting_of old))) (store_of old) (store_of new)
       → (has_failed (store_of old) ≡ false → has_failed (store_of new) ≡ false)
@@ -250,7 +254,7 @@ module _ {D J : Type 0} {disk : Ghosts D} where
       }
 
   -- a batch more is held
-  pub writes_held : (start : State) (old new : Flusher D J disk) (batch : List Taken) → Kept start (state_of (store_of old)) (told_of old) (committed_of old)
+  pub writes_held : (start : State) (old new : Flusher D L disk) (batch : List Taken) → Kept start (state_of (store_of old)) (told_of old) (committed_of old)
       → store_of new ≡ store_of old → told_of new ≡ told_of old → committed_of new ≡ committed_of old → waiting_of old ≡ [] → waiting_of new ≡ batch ∷ [] → Writes start old new
   writes_held start old new batch kept store tells commits nothing waits =
       let more : given_to new ≡ given_to old ++ batch ∷ [] =
@@ -288,32 +292,21 @@ module _ {D J : Type 0} {disk : Ghosts D} where
       }
 
   -- no call at all
-  pub writes_none : (start : State) (here : Flusher D J disk) → Kept start (state_of (store_of here)) (told_of here) (committed_of here) → Writes start here here
+  pub writes_none : (start : State) (here : Flusher D L disk) → Kept start (state_of (store_of here)) (told_of here) (committed_of here) → Writes start here here
   writes_none start here kept =
       writes_still start here here kept (goes_none (store_of here) (λ is_open. found_as _ _ (found_open (store_of here) is_open))) refl refl refl
-
--- an Ok is no refusal
-no_error : {A : Type 0} (answer : A) (refusal : Refusal) → IsErrOf (Ok answer) refusal → ⊥
-no_error answer refusal is = cc
-
-unfailed : (b : Bool) → (b ≡ true → ⊥) → b ≡ false
-unfailed true never = absurd (never refl)
-unfailed false never = refl
 
 -- the refusal of an answer, or this one where there is none
 abbrev refusal_in : {T : Type 0} → Refusal → Result T Refusal → Refusal
 refusal_in none (Ok answer) = none
 refusal_in none (Err refusal) = refusal
 
-pub same_refusal : {S T : Type 0} (one : Refusal) (two : Refusal) → IsErrOf {T = S} (Err one) two → IsErrOf {T = T} (Err one) two
-same_refusal one two is = ap (λ (e : Refusal). Err e) (ap (refusal_in one) is)
-
 -- whether a store that worked works, by an answer
 pub works_after : {A : Type 0} (answer : A) (old new : Bool) → (old ≡ false → (new ≡ true ↔ IsErrOf (Ok answer) Fault)) → old ≡ false → new ≡ false
-works_after answer old new fails works = unfailed new (λ failed. no_error answer Fault ((fails works).0 failed))
+works_after answer old new fails works = false_from_ne_true new (λ failed. no_error answer Fault ((fails works).0 failed))
 
 pub works_refused : {A : Type 0} (refusal : Refusal) (old new : Bool) → (old ≡ false → (new ≡ true ↔ IsErrOf {T = A} (Err refusal) Fault)) → refusal ≢ Fault → old ≡ false → new ≡ false
-works_refused refusal old new fails other works = unfailed new (λ failed. other (ap (refusal_in refusal) ((fails works).0 failed)))
+works_refused refusal old new fails other works = false_from_ne_true new (λ failed. other (ap (refusal_in refusal) ((fails works).0 failed)))
 
 pub fails_ok : {A : Type 0} (answer : A) (old new : Bool) → (old ≡ false → new ≡ false) → old ≡ false → new ≡ true ↔ IsErrOf (Ok answer) Fault
 fails_ok answer old new works worked = (λ failed. absurd (false≢true (sym (works worked) ∙ failed)), λ is. absurd (no_error answer Fault is))
@@ -331,20 +324,12 @@ fails_same {S} {T} one two old new is fails =
 pub fails_not : {T : Type 0} (refusal : Refusal) (old new : Bool) → (old ≡ false → new ≡ false) → refusal ≢ Fault → old ≡ false → new ≡ true ↔ IsErrOf {T = T} (Err refusal) Fault
 fails_not refusal old new works other worked = (λ failed. absurd (false≢true (sym (works worked) ∙ failed)), λ is. absurd (other (ap (refusal_in refusal) is)))
 
-pub memory_not_fault : (refusal : Refusal) → refusal ≡ NoMemory → refusal ≢ Fault
-memory_not_fault refusal is fault = cc
-
 pub stranger_not_fault : (refusal : Refusal) → refusal ≡ Stranger → refusal ≢ Fault
 stranger_not_fault refusal is fault = cc
 
 pub held_not_fault : (refusal : Refusal) → (refusal ≡ NoMemory) ⊎ (refusal ≡ Stranger) → refusal ≢ Fault
 held_not_fault refusal (inl memory) = memory_not_fault refusal memory
 held_not_fault refusal (inr strange) = stranger_not_fault refusal strange
-
--- a batch that is held is one
-pub some_held : (committed waiting : List (List Taken)) (batch : List Taken) → waiting ≡ batch ∷ [] → committed ++ waiting ≢ []
-some_held [] waiting batch is none = cc
-some_held (first ∷ others) waiting batch is none = cc
 
 module _ {D : Type 0} {disk : Ghosts D} where
   -- a store that is the same as one that was kept up
@@ -370,60 +355,56 @@ module _ {D : Type 0} {disk : Ghosts D} where
     last = full.last;
   }
 
-module _ {D J : Type 0} {disk : Ghosts D} where
+module _ {D L : Type 0} {disk : Ghosts D} where
   -- a flusher that is kept up, by no call, and by one call and then others
-  pub keeps_none : (flusher : Flusher D J disk) → KeepsUp flusher flusher
-  keeps_none flusher = record { kept_up = kept_up_none (store_of flusher); told = refl; committed = refl; waiting = refl }
+  pub keeps_none : (flusher : Flusher D L disk) → KeepsUp flusher flusher
+  keeps_none flusher = record { kept_up = kept_up_none (store_of flusher); batches = record { told = refl; committed = refl; waiting = refl } }
 
-  pub keeps_on : (old mid new : Flusher D J disk) → KeepsUp old mid → KeepsUp mid new → KeepsUp old new
+  pub keeps_on : (old mid new : Flusher D L disk) → KeepsUp old mid → KeepsUp mid new → KeepsUp old new
   keeps_on old mid new first second = record {
     kept_up = kept_up_on (store_of old) (store_of mid) (store_of new) first.kept_up second.kept_up;
-    told = second.told ∙ first.told;
-    committed = second.committed ∙ first.committed;
-    waiting = second.waiting ∙ first.waiting;
+    batches = record {
+      told = second.batches.told ∙ first.batches.told;
+      committed = second.batches.committed ∙ first.batches.committed;
+      waiting = second.batches.waiting ∙ first.batches.waiting;
+    };
   }
 
-  -- a call of a flusher that leaves its store's state
-  pub keeps_call : (old new : Flusher D J disk) → Goes (λ content. FoundAs content (state_of (store_of old))) (store_of old) (store_of new)
-      → state_of (store_of new) ≡ state_of (store_of old) → told_of new ≡ told_of old → committed_of new ≡ committed_of old → waiting_of new ≡ waiting_of old → KeepsUp old new
-  keeps_call old new goes state told committed waiting =
-      record { kept_up = record { goes = goes; state = state }; told = told; committed = committed; waiting = waiting }
-
   -- a step of the upkeep that makes no call, and one that can't fail
-  pub upkeep_none : {A : Type 0} (answer : A) (flusher : Flusher D J disk) → IsUpkeep (Ok answer) flusher flusher
+  pub upkeep_none : {A : Type 0} (answer : A) (flusher : Flusher D L disk) → IsUpkeep (Ok answer) flusher flusher
   upkeep_none answer flusher =
       record { keeps = keeps_none flusher; fails = fails_ok answer (has_failed (store_of flusher)) (has_failed (store_of flusher)) (λ works. works); only = tt }
 
-  pub upkeep_still : {A : Type 0} (answer : A) (old new : Flusher D J disk) → KeepsUp old new → has_failed (store_of new) ≡ has_failed (store_of old) → IsUpkeep (Ok answer) old new
+  pub upkeep_still : {A : Type 0} (answer : A) (old new : Flusher D L disk) → KeepsUp old new → has_failed (store_of new) ≡ has_failed (store_of old) → IsUpkeep (Ok answer) old new
   upkeep_still answer old new keeps same =
       record { keeps = keeps; fails = fails_ok answer (has_failed (store_of old)) (has_failed (store_of new)) (λ works. same ∙ works); only = tt }
 
   -- a store that worked works after one that isn't refused
-  upkeep_works : {A : Type 0} (answer : A) (old new : Flusher D J disk) → IsUpkeep (Ok answer) old new → has_failed (store_of old) ≡ false → has_failed (store_of new) ≡ false
+  upkeep_works : {A : Type 0} (answer : A) (old new : Flusher D L disk) → IsUpkeep (Ok answer) old new → has_failed (store_of old) ≡ false → has_failed (store_of new) ≡ false
   upkeep_works answer old new step = works_after answer (has_failed (store_of old)) (has_failed (store_of new)) step.fails
 
   -- one that is told by another answer
-  pub upkeep_as : {A B : Type 0} (answer : A) (other : B) (old new : Flusher D J disk) → IsUpkeep (Ok answer) old new → IsUpkeep (Ok other) old new
+  pub upkeep_as : {A B : Type 0} (answer : A) (other : B) (old new : Flusher D L disk) → IsUpkeep (Ok answer) old new → IsUpkeep (Ok other) old new
   upkeep_as answer other old new step =
       record { keeps = step.keeps; fails = fails_ok other (has_failed (store_of old)) (has_failed (store_of new)) (upkeep_works answer old new step); only = tt }
 
-  pub upkeep_refused : {A B : Type 0} (refusal : Refusal) (old new : Flusher D J disk) → IsUpkeep {A = A} (Err refusal) old new → IsUpkeep {A = B} (Err refusal) old new
+  pub upkeep_refused : {A B : Type 0} (refusal : Refusal) (old new : Flusher D L disk) → IsUpkeep {A = A} (Err refusal) old new → IsUpkeep {A = B} (Err refusal) old new
   upkeep_refused {A} {B} refusal old new step =
       record { keeps = step.keeps; fails = fails_err {S = A} {T = B} refusal (has_failed (store_of old)) (has_failed (store_of new)) step.fails; only = step.only }
 
   -- one after others
-  pub upkeep_on : {A B : Type 0} (answer : A) (result : Result B Refusal) (old mid new : Flusher D J disk) → IsUpkeep (Ok answer) old mid → IsUpkeep result mid new
+  pub upkeep_on : {A B : Type 0} (answer : A) (result : Result B Refusal) (old mid new : Flusher D L disk) → IsUpkeep (Ok answer) old mid → IsUpkeep result mid new
       → IsUpkeep result old new
   upkeep_on answer result old mid new first second =
       record { keeps = keeps_on old mid new first.keeps second.keeps; fails = λ works. second.fails (upkeep_works answer old mid first works); only = second.only }
 
   -- a call that was refused, which the step tells as `Fault`, or which it doesn't tell
-  pub upkeep_fault : {A B : Type 0} (refusal : Refusal) (old new : Flusher D J disk) → KeepsUp old new
+  pub upkeep_fault : {A B : Type 0} (refusal : Refusal) (old new : Flusher D L disk) → KeepsUp old new
       → (has_failed (store_of old) ≡ false → (has_failed (store_of new) ≡ true ↔ IsErrOf {T = A} (Err refusal) Fault)) → refusal ≡ Fault → IsUpkeep {A = B} (Err refusal) old new
   upkeep_fault {A} {B} refusal old new keeps fails is =
       record { keeps = keeps; fails = fails_err {S = A} {T = B} refusal (has_failed (store_of old)) (has_failed (store_of new)) fails; only = is }
 
-  pub upkeep_but : {A B : Type 0} (refusal : Refusal) (answer : B) (old new : Flusher D J disk) → KeepsUp old new
+  pub upkeep_but : {A B : Type 0} (refusal : Refusal) (answer : B) (old new : Flusher D L disk) → KeepsUp old new
       → (has_failed (store_of old) ≡ false → (has_failed (store_of new) ≡ true ↔ IsErrOf {T = A} (Err refusal) Fault)) → refusal ≢ Fault → IsUpkeep (Ok answer) old new
   upkeep_but {A} refusal answer old new keeps fails other = record {
     keeps = keeps;
@@ -432,7 +413,7 @@ module _ {D J : Type 0} {disk : Ghosts D} where
   }
 
   -- a call that wasn't refused
-  pub upkeep_done : {A B : Type 0} (answer : A) (other : B) (old new : Flusher D J disk) → KeepsUp old new
+  pub upkeep_done : {A B : Type 0} (answer : A) (other : B) (old new : Flusher D L disk) → KeepsUp old new
       → (has_failed (store_of old) ≡ false → (has_failed (store_of new) ≡ true ↔ IsErrOf (Ok answer) Fault)) → IsUpkeep (Ok other) old new
   upkeep_done answer other old new keeps fails = record {
     keeps = keeps;
@@ -441,94 +422,81 @@ module _ {D J : Type 0} {disk : Ghosts D} where
   }
 
   -- a store that was kept up, and nothing else
-  pub writes_kept_up : (start : State) (old new : Flusher D J disk) → Kept start (state_of (store_of old)) (told_of old) (committed_of old) → IsKeptUp (store_of old) (store_of new)
-      → told_of new ≡ told_of old → committed_of new ≡ committed_of old → waiting_of new ≡ waiting_of old → Writes start old new
-  writes_kept_up start old new kept kept_up tells commits waits = writes_still start old new kept kept_up.goes tells commits waits
+  pub writes_kept_up : (start : State) (old new : Flusher D L disk) → Kept start (state_of (store_of old)) (told_of old) (committed_of old) → KeepsUp old new → Writes start old new
+  writes_kept_up start old new kept keeps = writes_still start old new kept keeps.kept_up.goes keeps.batches.told keeps.batches.committed keeps.batches.waiting
 
   -- a write that was refused
-  pub writes_refused : (start : State) (old new : Flusher D J disk) → Kept start (state_of (store_of old)) (told_of old) (committed_of old)
+  pub writes_refused : {A : Type 0} (start : State) (old new : Flusher D L disk) (refusal : Refusal) → Kept start (state_of (store_of old)) (told_of old) (committed_of old)
       → Goes (IsWithOrWithout (state_of (store_of old)) (commands_of (waiting_of old))) (store_of old) (store_of new)
-      → told_of new ≡ told_of old → committed_of new ++ waiting_of new ≡ committed_of old ++ waiting_of old
-      → Kept start (state_of (store_of new)) (told_of new) (committed_of new)
-      → (has_failed (store_of old) ≡ false → has_failed (store_of new) ≡ false) ⊎ IsUncommitted old new → Writes start old new
-  writes_refused start old new kept goes tells held after why =
-      writes_same start old new kept goes tells same (by_reason why)
+      → Kept start (state_of (store_of new)) (told_of new) (committed_of new) → IsUnpublished refusal old new → IsWriteRefused refusal old new
+      → (has_failed (store_of old) ≡ false → (has_failed (store_of new) ≡ true ↔ IsErrOf {T = A} (Err refusal) Fault)) → Writes start old new
+  writes_refused {A} start old new refusal kept goes after left why fails =
+      writes_same start old new kept goes left.told same (by_reason why.only)
     where
       same : given_to new ≡ given_to old
-      same = ap (λ (t : List (List Taken)). t ++ (committed_of new ++ waiting_of new)) tells ∙ ap (λ (l : List (List Taken)). told_of old ++ l) held
+      same = ap (λ (t : List (List Taken)). t ++ (committed_of new ++ waiting_of new)) left.told ∙ ap (λ (l : List (List Taken)). told_of old ++ l) left.held
 
-      by_reason : (has_failed (store_of old) ≡ false → has_failed (store_of new) ≡ false) ⊎ IsUncommitted old new
-          → WasAt start (told_count old) (told_of new ++ committed_of new) (given_to new) (store_of old) (store_of new)
-      by_reason (inl works) = was_after start old new kept after goes works same
-      by_reason (inr uncommitted) =
+      held_still : refusal ≢ NoMemory → WasAt start (told_count old) (told_of new ++ committed_of new) (given_to new) (store_of old) (store_of new)
+      held_still other =
           was_before start old new kept goes
-          (ap (λ (t : List (List Taken)). t ++ committed_of new) tells ∙ ap (λ (l : List (List Taken)). told_of old ++ l) uncommitted.committed) same
+          (ap (λ (t : List (List Taken)). t ++ committed_of new) left.told ∙ ap (λ (l : List (List Taken)). told_of old ++ l) (left.still other).batches.committed) same
 
-  -- a write that was refused left the store working, or its batch isn't committed
-  pub why_refused : {A : Type 0} (old new : Flusher D J disk) (refusal : Refusal) → (refusal ≢ NoMemory → IsUncommitted old new)
-      → (has_failed (store_of old) ≡ false → (has_failed (store_of new) ≡ true ↔ IsErrOf {T = A} (Err refusal) Fault))
-      → ((refusal ≡ JournalFull) ⊎ (refusal ≡ StillNeeded)) ⊎ ((refusal ≡ NoMemory) ⊎ (refusal ≡ Fault))
-      → (has_failed (store_of old) ≡ false → has_failed (store_of new) ≡ false) ⊎ IsUncommitted old new
-  why_refused old new refusal uncommitted fails (inl (inl full)) = inr (uncommitted (λ memory. absurd (cc (full, memory))))
-  why_refused old new refusal uncommitted fails (inl (inr needed)) = inr (uncommitted (λ memory. absurd (cc (needed, memory))))
-  why_refused old new refusal uncommitted fails (inr (inl memory)) =
-      inl (works_refused refusal (has_failed (store_of old)) (has_failed (store_of new)) fails (memory_not_fault refusal memory))
-  why_refused old new refusal uncommitted fails (inr (inr fault)) = inr (uncommitted (λ memory. absurd (cc (fault, memory))))
+      -- its batch isn't committed, or the store works
+      by_reason : IsOneOf refusal (JournalFull ∷ StillNeeded ∷ NoMemory ∷ Fault ∷ [])
+          → WasAt start (told_count old) (told_of new ++ committed_of new) (given_to new) (store_of old) (store_of new)
+      by_reason (inl full) = held_still (λ memory. absurd (cc (full, memory)))
+      by_reason (inr (inl needed)) = held_still (λ memory. absurd (cc (needed, memory)))
+      by_reason (inr (inr (inl memory))) =
+          was_after start old new kept after goes
+          (works_refused {A = A} refusal (has_failed (store_of old)) (has_failed (store_of new)) fails (memory_not_fault refusal memory)) same
+      by_reason (inr (inr (inr fault))) = held_still (λ memory. absurd (cc (fault, memory)))
 
   -- a write that published what was held, as one batch
-  pub writes_written : (start : State) (old new : Flusher D J disk) (receipt : List Taken) (token : List (List Taken)) → Kept start (state_of (store_of old)) (told_of old) (committed_of old)
+  pub writes_written : (start : State) (old new : Flusher D L disk) (both : Receipt D × List (List Taken)) → Kept start (state_of (store_of old)) (told_of old) (committed_of old)
       → Kept start (state_of (store_of new)) (told_of new) (committed_of new)
       → Goes (IsWithOrWithout (state_of (store_of old)) (commands_of (waiting_of old))) (store_of old) (store_of new)
-      → (has_failed (store_of old) ≡ false → has_failed (store_of new) ≡ false)
-      → IsWritten (told_of old) (committed_of old ++ waiting_of old) (told_of new) receipt token → committed_of new ≡ [] → waiting_of new ≡ [] → Writes start old new
-  writes_written start old new receipt token kept after goes works written committed waiting = writes_published start old new receipt written.batch kept after goes works written.published committed waiting
+      → (has_failed (store_of old) ≡ false → has_failed (store_of new) ≡ false) → HasPublished (Some both) old new → Writes start old new
+  writes_written start old new both kept after goes works done =
+      writes_published start old new both.0.batch done.some.batch kept after goes works done.some.published done.committed done.waiting
 
-  pub one_written : (old new : Flusher D J disk) (receipt : List Taken) (token : List (List Taken))
-      → IsWritten (told_of old) (committed_of old ++ waiting_of old) (told_of new) receipt token → IsOneMore old new
-  one_written old new receipt token written =
-      record { batch = receipt; told = written.published ∙ ap (λ (l : List (List Taken)). told_of old ++ l) written.batch }
+  pub one_written : (old new : Flusher D L disk) (both : Receipt D × List (List Taken)) → HasPublished (Some both) old new → IsOneMore old new
+  one_written old new both done =
+      record { batch = both.0.batch; told = done.some.published ∙ ap (λ (l : List (List Taken)). told_of old ++ l) done.some.batch }
 
   -- why a turn fails whose write is refused
-  pub turn_failed : (old new : Flusher D J disk) (refusal : Refusal)
-      → (refusal ≡ JournalFull → (batch : List Taken) × (waiting_of old ≡ batch ∷ []) × (has_room (store_of old) batch ≡ false) × (has_room (store_of new) batch ≡ false))
-      → (refusal ≡ StillNeeded → (batch : List Taken) × (waiting_of old ≡ batch ∷ []) × (has_room (store_of old) batch ≡ false))
-      → ((refusal ≡ JournalFull) ⊎ (refusal ≡ StillNeeded) → IsUsedUp (store_of old))
-      → (refusal ≢ NoMemory → IsUncommitted old new)
-      → ((refusal ≡ JournalFull) ⊎ (refusal ≡ StillNeeded)) ⊎ ((refusal ≡ NoMemory) ⊎ (refusal ≡ Fault))
+  pub turn_failed : (old new : Flusher D L disk) (refusal : Refusal) → IsUnpublished refusal old new → IsWriteRefused refusal old new
       → refusal ≢ NoMemory → refusal ≢ Fault → IsTurnFailed old refusal new
-  turn_failed old new refusal full needed used uncommitted only no_memory no_fault = by_case only
+  turn_failed old new refusal left why no_memory no_fault = by_case why.only
     where
       full_for : (batch : List Taken) → has_room (store_of old) batch ≡ false → (refusal ≡ JournalFull) ⊎ (refusal ≡ StillNeeded) → IsFullFor batch (store_of old)
-      full_for batch none told = record { between = store_of old; kept_up = kept_up_none (store_of old); works = λ works. works; no_room = none; last = used told }
+      full_for batch none told = record { between = store_of old; kept_up = kept_up_none (store_of old); works = λ works. works; no_room = none; last = why.used_up told }
 
-      by_case : ((refusal ≡ JournalFull) ⊎ (refusal ≡ StillNeeded)) ⊎ ((refusal ≡ NoMemory) ⊎ (refusal ≡ Fault)) → IsTurnFailed old refusal new
-      by_case (inl (inl is_full)) =
-          let p = full is_full in
-          let same = uncommitted no_memory in
-          inl (inl is_full, (p.0, same.waiting ∙ p.1, full_for p.0 p.2 (inl is_full)))
-      by_case (inl (inr is_needed)) =
-          let p = needed is_needed in
-          let same = uncommitted no_memory in
-          inl (inr is_needed, (p.0, same.waiting ∙ p.1, full_for p.0 p.2 (inr is_needed)))
-      by_case (inr (inl memory)) = absurd (no_memory memory)
-      by_case (inr (inr fault)) = absurd (no_fault fault)
+      by_case : IsOneOf refusal (JournalFull ∷ StillNeeded ∷ NoMemory ∷ Fault ∷ []) → IsTurnFailed old refusal new
+      by_case (inl is_full) =
+          let p = (why.full is_full).0 in
+          inl (inl is_full, (p.0, (left.still no_memory).batches.waiting ∙ p.1, full_for p.0 p.2 (inl is_full)))
+      by_case (inr (inl is_needed)) =
+          let p = (why.needed is_needed).0 in
+          inl (inr is_needed, (p.0, (left.still no_memory).batches.waiting ∙ p.1, full_for p.0 p.2 (inr is_needed)))
+      by_case (inr (inr (inl memory))) = absurd (no_memory memory)
+      by_case (inr (inr (inr fault))) = absurd (no_fault fault)
 
   -- why a turn fails that took no run off, or one that doesn't follow what is published
-  pub turn_apart : (old new : Flusher D J disk) (refusal : Refusal) → IsUntouched old new → (refusal ≡ NoMemory) ⊎ (refusal ≡ Stranger) → refusal ≢ NoMemory
+  pub turn_apart : (old new : Flusher D L disk) (refusal : Refusal) → IsUntouched old new → (refusal ≡ NoMemory) ⊎ (refusal ≡ Stranger) → refusal ≢ NoMemory
       → IsTurnFailed old refusal new
   turn_apart old new refusal untouched (inl memory) no_memory = absurd (no_memory memory)
   turn_apart old new refusal untouched (inr strange) no_memory = inr (strange, inl untouched)
 
   -- what was published and isn't settled
-  pub turn_unsettled : (old new : Flusher D J disk) (refusal : Refusal) → refusal ≡ Stranger → IsOneMore old new → IsTurnFailed old refusal new
+  pub turn_unsettled : (old new : Flusher D L disk) (refusal : Refusal) → refusal ≡ Stranger → IsOneMore old new → IsTurnFailed old refusal new
   turn_unsettled old new refusal is one = inr (is, inr one)
 
   -- one batch more than before it was kept up and held
-  pub one_before : (old mid new : Flusher D J disk) → told_of mid ≡ told_of old → IsOneMore mid new → IsOneMore old new
+  pub one_before : (old mid new : Flusher D L disk) → told_of mid ≡ told_of old → IsOneMore mid new → IsOneMore old new
   one_before old mid new same one = record { batch = one.batch; told = one.told ∙ ap (λ (t : List (List Taken)). t ++ one.batch ∷ []) same }
 
   -- nothing was written after it was kept up
-  untouched_before : (old mid new : Flusher D J disk) → IsKeptUp (store_of old) (store_of mid) → told_of mid ≡ told_of old → IsUntouched mid new → IsUntouched old new
+  untouched_before : (old mid new : Flusher D L disk) → IsKeptUp (store_of old) (store_of mid) → told_of mid ≡ told_of old → IsUntouched mid new → IsUntouched old new
   untouched_before old mid new first same untouched = record {
     told = untouched.told ∙ same;
     committed = untouched.committed;
@@ -537,23 +505,23 @@ module _ {D J : Type 0} {disk : Ghosts D} where
   }
 
   -- why a turn failed that kept its store up before the write
-  pub failed_before : (old mid new : Flusher D J disk) (refusal : Refusal) → IsKeptUp (store_of old) (store_of mid)
+  pub failed_before : (old mid new : Flusher D L disk) (refusal : Refusal) → IsKeptUp (store_of old) (store_of mid)
       → (has_failed (store_of old) ≡ false → has_failed (store_of mid) ≡ false) → told_of mid ≡ told_of old → IsTurnFailed mid refusal new → IsTurnFailed old refusal new
   failed_before old mid new refusal first works same (inl (is, (batch, held, full))) = inl (is, (batch, held, full_before batch (store_of old) (store_of mid) first works full))
   failed_before old mid new refusal first works same (inr (is, inl untouched)) = inr (is, inl (untouched_before old mid new first same untouched))
   failed_before old mid new refusal first works same (inr (is, inr one)) = inr (is, inr (one_before old mid new same one))
 
-  turned_before : (answer : Turned D J) (old mid new : Flusher D J disk) → told_of mid ≡ told_of old → HasTurned mid answer new → HasTurned old answer new
+  turned_before : (answer : Turned D L) (old mid new : Flusher D L disk) → told_of mid ≡ told_of old → HasTurned mid answer new → HasTurned old answer new
   turned_before (Settled token) old mid new same one = (one_before old mid new same one.0, one.1)
   turned_before (Nothing token) old mid new same none = (none.0 ∙ same, none.1)
 
   -- what a write answered, told of the flusher before it was kept up
-  pub turned_after : {E : Type 0} (result : Result (Turned D J) E) (old mid new : Flusher D J disk) → told_of mid ≡ told_of old
+  pub turned_after : {E : Type 0} (result : Result (Turned D L) E) (old mid new : Flusher D L disk) → told_of mid ≡ told_of old
       → IfOk result (λ answer. HasTurned mid answer new) → IfOk result (λ answer. HasTurned old answer new)
   turned_after (Ok answer) old mid new same turned = turned_before answer old mid new same turned
   turned_after (Err refusal) old mid new same turned = tt
 
-  pub causes_after : {A : Type 0} (result : Result A Refusal) (old mid new : Flusher D J disk) → IsKeptUp (store_of old) (store_of mid)
+  pub causes_after : {A : Type 0} (result : Result A Refusal) (old mid new : Flusher D L disk) → IsKeptUp (store_of old) (store_of mid)
       → (has_failed (store_of old) ≡ false → has_failed (store_of mid) ≡ false) → told_of mid ≡ told_of old
       → IfErr result (λ e. e ≢ NoMemory → e ≢ Fault → IsTurnFailed mid e new) → IfErr result (λ e. e ≢ NoMemory → e ≢ Fault → IsTurnFailed old e new)
   causes_after (Ok answer) old mid new first works same causes = tt

@@ -2,7 +2,7 @@
 use Rattle.std.specs.Prelude.{◌≡◌, ◌≢◌, ◌⊎◌, ◌≤◌, ℕ, Option, None, List, [], ◌∷◌, length, take, drop, Result, Ok, Err, Contains, slice_get}
 use Rattle.disk.specs.declared.device.Disk.{Ghosts}
 use Rattle.milestone.specs.Job.{Job}
-use Rattle.milestone.specs.declared.composing.Uncomposed.{Uncomposed}
+use Rattle.milestone.specs.declared.composing.ComposeError.{ComposeError}
 use Rattle.recovery.specs.declared.store.Store.{Store}
 use Rattle.recovery.specs.Cells.{highest_known}
 use Rattle.recovery.specs.Due.{job_due_for}
@@ -11,7 +11,7 @@ use Rattle.recovery.specs.Open.{IsUnchanged, state_of, known_cells, kept_jobs}
 use Rattle.recovery.specs.PutJobs.{ArePut}
 
 -- the document whose job was done, or came back undone
-abbrev pub document_of : Result Job Uncomposed → ℕ
+abbrev pub document_of : Result Job ComposeError → ℕ
 document_of (Ok composed) = composed.document
 document_of (Err back) = back.job.document
 

@@ -9,20 +9,16 @@ use Rattle.revision.specs.Command.{Taken}
 use Rattle.published.specs.Batches.{IsShorter}
 use Rattle.revision.specs.State.{State, fold}
 use Rattle.recovery.specs.declared.store.Store.{Store}
-use Rattle.recovery.specs.Found.{commands_of, FoundAs}
+use Rattle.recovery.specs.Found.{commands_of}
 use Rattle.recovery.specs.Open.{IsOpen, device_of, state_of, has_failed, has_room}
 use Rattle.recovery.specs.Goes.{Goes}
 use Rattle.flusher.specs.declared.flusher.Flusher.{Flusher}
 use Rattle.flusher.specs.Batches.{IsBeginning}
 use Rattle.flusher.specs.Flushers.{IsUsedUp}
 use Rattle.flusher.specs.Holding.{store_of, told_of, committed_of, waiting_of}
+use Rattle.flusher.specs.Upkeep.{IsKeptUp, KeepsUp}
 
 module _ {D : Type 0} {disk : Ghosts D} where
-  -- Milestones were put and segments retired, and nothing else: the state is unchanged, and a crash at any moment leaves it.
-  pub record IsKeptUp (old new : Store D disk) : Type 0 where
-    pub goes : Goes (λ content. FoundAs content (state_of old)) old new
-    pub state : state_of new ≡ state_of old
-
   -- A batch finds no room in the journal, whose last segment is opened, once it was kept up.
   pub record IsFullFor (batch : List Taken) (old : Store D disk) : Type 0 where
     pub between : Store D disk
@@ -40,20 +36,20 @@ module _ {D : Type 0} {disk : Ghosts D} where
     pub before : Goes (IsBeginning least start all) old between
     pub behind : Goes (IsBeginning (length (commands_of first)) start all) between new
 
-module _ {D J : Type 0} {disk : Ghosts D} where
+module _ {D L : Type 0} {disk : Ghosts D} where
   -- all batches that the flusher was given so far, in order: what is published, what is committed, and what is held
-  abbrev pub given_to : Flusher D J disk → List (List Taken)
+  abbrev pub given_to : Flusher D L disk → List (List Taken)
   given_to flusher = told_of flusher ++ (committed_of flusher ++ waiting_of flusher)
 
   -- how many commands are published
-  abbrev pub told_count : Flusher D J disk → ℕ
+  abbrev pub told_count : Flusher D L disk → ℕ
   told_count flusher = length (commands_of (told_of flusher))
 
   -- Nothing that was published is taken back, and no batch that was given is dropped. A crash at any moment between leaves a prefix
   -- of the batches that were given by the end, and no fewer commands than were published at the beginning; a crash at any moment from
   -- a batch's publishing on no fewer than were published with it; and a crash at the end no fewer than are published then. And there was a
   -- moment from which on it leaves no fewer than are published and committed at the end.
-  pub record Writes (start : State) (old new : Flusher D J disk) : Type 0 where
+  pub record Writes (start : State) (old new : Flusher D L disk) : Type 0 where
     pub told : (l : List (List Taken)) × (told_of new ≡ told_of old ++ l)
     pub more : (l : List (List Taken)) × (given_to new ≡ given_to old ++ l)
     pub goes : Goes (IsBeginning (told_count old) start (given_to new)) (store_of old) (store_of new)
@@ -63,31 +59,24 @@ module _ {D J : Type 0} {disk : Ghosts D} where
     pub lasts : has_failed (store_of old) ≡ false → IsOpen (store_of old)
         → (content : List ℕ) → MayLeaveNow disk (device_of (store_of new)) content → IsBeginning (told_count new) start (given_to new) content
 
-  -- A flusher's store was kept up, and nothing else: what is published, committed and held stays.
-  pub record KeepsUp (old new : Flusher D J disk) : Type 0 where
-    pub kept_up : IsKeptUp (store_of old) (store_of new)
-    pub told : told_of new ≡ told_of old
-    pub committed : committed_of new ≡ committed_of old
-    pub waiting : waiting_of new ≡ waiting_of old
-
   -- What a step of the upkeep comes to, whatever it answers: the store was kept up. It fails exactly where `Fault` is told, and nothing else
   -- refuses the step.
-  pub record IsUpkeep {A : Type 0} (result : Result A Refusal) (old new : Flusher D J disk) : Type 0 where
+  pub record IsUpkeep {A : Type 0} (result : Result A Refusal) (old new : Flusher D L disk) : Type 0 where
     pub keeps : KeepsUp old new
     pub fails : has_failed (store_of old) ≡ false → (has_failed (store_of new) ≡ true ↔ IsErrOf result Fault)
     pub only : IfErr result (λ e. e ≡ Fault)
 
   -- a step that nothing refuses
-  abbrev pub IsUnrefused : Flusher D J disk → Flusher D J disk → Type 0
+  abbrev pub IsUnrefused : Flusher D L disk → Flusher D L disk → Type 0
   IsUnrefused old new = IsUpkeep {A = Unit {0}} (Ok tt) old new
 
   -- Exactly one batch was published.
-  pub record IsOneMore (old new : Flusher D J disk) : Type 0 where
+  pub record IsOneMore (old new : Flusher D L disk) : Type 0 where
     pub batch : List Taken
     pub told : told_of new ≡ told_of old ++ batch ∷ []
 
   -- No batch is under way, and nothing of one was written.
-  pub record IsUntouched (old new : Flusher D J disk) : Type 0 where
+  pub record IsUntouched (old new : Flusher D L disk) : Type 0 where
     pub told : told_of new ≡ told_of old
     pub committed : committed_of new ≡ []
     pub waiting : waiting_of new ≡ []
@@ -95,13 +84,13 @@ module _ {D J : Type 0} {disk : Ghosts D} where
 
   -- Why a turn fails the board, where the device didn't: its batch finds no room; or, as `Stranger`, it wrote nothing, or published one batch.
   -- Of the board that is refused so, and why, nothing is said.
-  abbrev pub IsTurnFailed : Flusher D J disk → Refusal → Flusher D J disk → Type 0
+  abbrev pub IsTurnFailed : Flusher D L disk → Refusal → Flusher D L disk → Type 0
   IsTurnFailed old refusal new =
       (((refusal ≡ JournalFull) ⊎ (refusal ≡ StillNeeded)) × ((batch : List Taken) × (waiting_of new ≡ batch ∷ []) × IsFullFor batch (store_of old)))
       ⊎ ((refusal ≡ Stranger) × (IsUntouched old new ⊎ IsOneMore old new))
 
   -- Some turns were made, and then one that failed the board for this reason.
-  pub record IsEndedBy (start : State) (old : Flusher D J disk) (refusal : Refusal) (new : Flusher D J disk) : Type 0 where
-    pub last : Flusher D J disk
+  pub record IsEndedBy (start : State) (old : Flusher D L disk) (refusal : Refusal) (new : Flusher D L disk) : Type 0 where
+    pub last : Flusher D L disk
     pub before : Writes start old last
     pub failed : IsTurnFailed last refusal new

@@ -13,7 +13,7 @@ use composers::{Composers, Done};
 use disk::Disk;
 use flusher::Flusher;
 use milestone::{Composed, Job};
-use published::Site;
+use published::Life;
 use refusal::Refusal;
 use revision::{State, Taken};
 use std::alloc::Global;
@@ -83,11 +83,11 @@ impl Exchange {
     }
 
     /// Puts what the composers have done, and hands out the jobs that are due. Refused with `Fault` alone.
-    pub(crate) fn compose_on<D: Disk, J: Site, R: Wait>(
+    pub(crate) fn compose_on<D: Disk, L: Life, R: Wait>(
         &mut self,
         rt: &R,
         alloc: Global,
-        flusher: &mut Flusher<D, J>,
+        flusher: &mut Flusher<D, L>,
     ) -> Result<(), Refusal>
         ensures { IsUpkeep result flusher.old flusher.new }
     {
@@ -99,11 +99,11 @@ impl Exchange {
     }
 
     // Takes in what the composers have done, and puts it. Refused with `Fault` alone.
-    fn put_done<D: Disk, J: Site, R: Wait>(
+    fn put_done<D: Disk, L: Life, R: Wait>(
         &mut self,
         rt: &R,
         alloc: Global,
-        flusher: &mut Flusher<D, J>,
+        flusher: &mut Flusher<D, L>,
     ) -> Result<(), Refusal>
         ensures { IsUpkeep result flusher.old flusher.new }
     {
@@ -121,7 +121,7 @@ impl Exchange {
     }
 
     // Takes in what the composers have done, as far as there is a place for it among what is to be put.
-    fn take_back<D: Disk, J: Site, R: Wait>(&mut self, rt: &R, flusher: &mut Flusher<D, J>)
+    fn take_back<D: Disk, L: Life, R: Wait>(&mut self, rt: &R, flusher: &mut Flusher<D, L>)
         ensures { IsUnrefused flusher.old flusher.new }
     {
         for _ in 0..MOST_PUT {
@@ -137,7 +137,7 @@ impl Exchange {
 
     // Takes in what was done: what comes of a job is to be put, and a job that came back undone is given up. The document is looked at again.
     #[tactic(auto, using(crate::proofs::Writing::upkeep_none, crate::proofs::Writing::upkeep_as))]
-    fn take_in<D: Disk, J: Site>(&mut self, flusher: &mut Flusher<D, J>, done: Done)
+    fn take_in<D: Disk, L: Life>(&mut self, flusher: &mut Flusher<D, L>, done: Done)
         requires place { vec_len self.old.unput < 64 }
 
         ensures upkeep { IsUnrefused flusher.old flusher.new }
@@ -159,7 +159,7 @@ impl Exchange {
     }
 
     // Gives a job up that came back undone, so that another one may be due. The document is looked at again.
-    fn give_up<D: Disk, J: Site>(&mut self, flusher: &mut Flusher<D, J>, job: &Job)
+    fn give_up<D: Disk, L: Life>(&mut self, flusher: &mut Flusher<D, L>, job: &Job)
         ensures upkeep { IsUnrefused flusher.old flusher.new }
         ensures given_up { Contains (kept_jobs (store_of flusher.old)) job.now
             → kept_jobs (store_of flusher.new) ≡ without_job job.now.document (kept_jobs (store_of flusher.old)) }
@@ -173,11 +173,11 @@ impl Exchange {
     // Puts a prefix of the milestones that are to be put as one step, and tells whether there are more and there was memory. It passes those whose
     // job isn't the one that is kept of its document any more. What found no memory is still to be put. The documents are looked at again. Refused with
     // `Fault` alone.
-    #[tactic(auto, using(crate::proofs::Writing::keeps_call, crate::proofs::Writing::upkeep_fault, crate::proofs::Writing::upkeep_but))]
-    fn put_first<D: Disk, J: Site>(
+    #[tactic(auto, using(crate::proofs::Writing::upkeep_fault, crate::proofs::Writing::upkeep_but))]
+    fn put_first<D: Disk, L: Life>(
         &mut self,
         alloc: Global,
-        flusher: &mut Flusher<D, J>,
+        flusher: &mut Flusher<D, L>,
     ) -> Result<bool, Refusal>
         ensures upkeep { IsUpkeep result flusher.old flusher.new }
         ensures kept { OnOk result (ArePutFirst self.old.unput.items self.new.unput.items (store_of flusher.old)
@@ -202,11 +202,11 @@ impl Exchange {
     }
 
     // Hands out the jobs that are due of the documents that are to be looked at, as far as there are places and memory.
-    fn hand_out<D: Disk, J: Site, R: Wait>(
+    fn hand_out<D: Disk, L: Life, R: Wait>(
         &mut self,
         rt: &R,
         alloc: Global,
-        flusher: &mut Flusher<D, J>,
+        flusher: &mut Flusher<D, L>,
     )
         ensures { IsUnrefused flusher.old flusher.new }
     {
@@ -222,11 +222,11 @@ impl Exchange {
 
     // Looks at the next document, and hands out its job where one is due. It tells whether there was a place, and memory: where there was no
     // memory for the job, the document is looked at again.
-    fn hand_next<D: Disk, J: Site, R: Wait>(
+    fn hand_next<D: Disk, L: Life, R: Wait>(
         &mut self,
         rt: &R,
         alloc: Global,
-        flusher: &mut Flusher<D, J>,
+        flusher: &mut Flusher<D, L>,
     ) -> bool
         ensures upkeep { IsUnrefused flusher.old flusher.new }
         ensures looked_at { IsFirstLookedAt self.old.every (store_of flusher.old) self.old.queue.numbers
@@ -244,10 +244,10 @@ impl Exchange {
     }
 
     // The job of a document, where one is due. Where it is refused, the document is looked at again.
-    fn job_of<D: Disk, J: Site>(
+    fn job_of<D: Disk, L: Life>(
         &mut self,
         alloc: Global,
-        flusher: &mut Flusher<D, J>,
+        flusher: &mut Flusher<D, L>,
         document: u32,
     ) -> Result<Option<Job>, Refusal>
         ensures upkeep { IsUnrefused flusher.old flusher.new }
@@ -291,9 +291,9 @@ impl Exchange {
 }
 
 // The job of a document, where one is due.
-fn due_job<D: Disk, J: Site>(
+fn due_job<D: Disk, L: Life>(
     alloc: Global,
-    flusher: &mut Flusher<D, J>,
+    flusher: &mut Flusher<D, L>,
     document: u32,
     every: u32,
 ) -> Result<Option<Job>, Refusal>

@@ -27,23 +27,23 @@
 //! use disk::Disk;
 //! use flusher::{Flusher, OpenGate};
 //! use hub::{Failed, Hub, Idle, Writer};
-//! use published::Site;
+//! use published::Life;
 //! use std::alloc::Global;
 //! use std::sync::Wait;
 //! use turns::flush_all;
 //!
 //! /// Writes all that is ordered until the hub is ended, and puts no milestones. Nothing that was published is taken back. At Ok the store
 //! /// holds exactly what is published, and the hub's token says that it was ended; at Err the hub was told of the failure.
-//! pub fn flush_to_the_end<D: Disk, J: Site, R: Wait>(
+//! pub fn flush_to_the_end<D: Disk, L: Life, R: Wait>(
 //!     rt: &R,
 //!     alloc: Global,
-//!     flusher: &mut Flusher<D, J>,
-//!     hub: &Hub<D, J>,
-//!     writer: &mut Writer<J>,
-//! ) -> Result<Idle<J>, Failed<J>>
+//!     flusher: &mut Flusher<D, L>,
+//!     hub: &Hub<D, L>,
+//!     writer: &mut Writer<L>,
+//! ) -> Result<Idle<L>, Failed<L>>
 //!     ensures stays { (more : List (List Taken)) × (told_of flusher.new ≡ told_of flusher.old ++ more) }
 //!     ensures holds { OnOk result (state_of (store_of flusher.new)
-//!         ≡ fold J.start (commands_of (told_of flusher.new))) }
+//!         ≡ fold L.start (commands_of (told_of flusher.new))) }
 //! {
 //!     let ended = flush_all(rt, alloc, flusher, hub, writer, 0, None, &mut OpenGate);
 //!     flusher.kept();
@@ -54,13 +54,13 @@
 
 mod exchange;
 mod queue;
-mod stop;
 mod turn;
+mod turn_error;
 mod turned;
 mod upkeep;
 
 pub use composers::{Composers, HalfGate, OpenHalves, Worker, channels, compose_workers};
-pub use stop::Stop;
 pub use turn::{flush_all, flush_turn};
+pub use turn_error::TurnError;
 pub use turned::Turned;
 pub use upkeep::Upkeep;

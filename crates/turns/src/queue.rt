@@ -1,9 +1,8 @@
 //! The documents whose jobs are looked at next.
-ghost use Rattle.std.specs.Prelude.{◌≡◌, ◌⊎◌, ◌<◌, ◌++◌, ◌∷◌, [], length, Contains, MatchOption, IfOk, IfSome, IsOkUnless};
+ghost use Rattle.std.specs.Prelude.{◌≡◌, ◌⊎◌, ◌<◌, ◌++◌, ◌∷◌, [], length, Contains, MatchOption, IfOk, IfSome};
 ghost use Rattle.turns.specs.Waiting.{StaysIn};
 
-use refusal::Refusal;
-use std::alloc::Global;
+use std::alloc::{AllocError, Global};
 use std::collections::VecDeque;
 use std::marker::Model;
 
@@ -29,10 +28,9 @@ impl Model for Queue {
 
 impl Queue {
     /// None, with room for the numbers below this one. Refused as out of memory alone.
-    pub(crate) fn new(alloc: Global, docs: u32) -> Result<Queue, Refusal>
+    pub(crate) fn new(alloc: Global, docs: u32) -> Result<Queue, AllocError>
         ensures none { IfOk result (λ queue. queue.numbers ≡ []) }
         ensures room { IfOk result (λ queue. queue.room ≡ docs) }
-        ensures only { IsOkUnless result Refusal.NoMemory }
     {
         let numbers = VecDeque::with_capacity(alloc, docs as usize)?;
         let mut is_in = Vec::with_capacity(alloc, docs as usize)?;

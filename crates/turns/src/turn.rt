@@ -8,14 +8,14 @@ ghost use Rattle.flusher.specs.Holding.{store_of, told_of, committed_of, waiting
 ghost use Rattle.turns.specs.Writing.{Writes, IsTurnFailed, IsEndedBy};
 ghost use Rattle.turns.specs.Turning.{HasTurned};
 
-use crate::stop::{Stop, stopped};
+use crate::turn_error::{TurnError, stopped};
 use crate::turned::Turned;
 use crate::upkeep::Upkeep;
 use composers::Composers;
 use disk::Disk;
 use flusher::{Flusher, Gate};
 use hub::{Failed, Hub, Idle, Nothing, Run, Writer};
-use published::{Site, Told};
+use published::{Life, Told};
 use refusal::Refusal;
 use std::alloc::Global;
 use std::sync::Wait;
@@ -30,17 +30,17 @@ use std::thread;
 /// publishing. A milestone for which it runs out stops no turn: the next one tries again. Each other refusal fails the board, and has the
 /// hub's token of that: the device failed, the journal is full and can't be freed, or what the board took off doesn't follow what is published,
 /// which is seen before anything of it is written, or isn't what the board has to settle next.
-pub fn flush_turn<D: Disk, J: Site, R: Wait, G: Gate>(
+pub fn flush_turn<D: Disk, L: Life, R: Wait, G: Gate>(
     rt: &R,
     alloc: Global,
-    flusher: &mut Flusher<D, J>,
-    hub: &Hub<D, J>,
-    writer: &mut Writer<J>,
+    flusher: &mut Flusher<D, L>,
+    hub: &Hub<D, L>,
+    writer: &mut Writer<L>,
     upkeep: &mut Upkeep,
     gate: &mut G,
-) -> Result<Turned<D, J>, Stop<J>>
+) -> Result<Turned<D, L>, TurnError<L>>
     // What a crash leaves, and what is published and held after it.
-    ensures writes { Writes J.start flusher.old flusher.new }
+    ensures writes { Writes L.start flusher.old flusher.new }
     ensures turned { IfOk result (λ answer. HasTurned flusher.old answer flusher.new) }
     ensures nothing { OnOk result ((committed_of flusher.new ≡ []) × (waiting_of flusher.new ≡ [])) }
     ensures unpublished { IsErrOf result Refusal.NoMemory → told_of flusher.new ≡ told_of flusher.old }
@@ -51,23 +51,23 @@ pub fn flush_turn<D: Disk, J: Site, R: Wait, G: Gate>(
     ensures causes { IfErr result (λ e. e ≢ Refusal.NoMemory → e ≢ Refusal.Fault
         → IsTurnFailed flusher.old e flusher.new) }
 {
-    match turn_made(rt, alloc, flusher, hub, writer, upkeep, gate) {
+    match try_turn(rt, alloc, flusher, hub, writer, upkeep, gate) {
         Ok(turned) => Ok(turned),
         Err(refusal) => Err(stopped(rt, hub, writer, refusal)),
     }
 }
 
 // A turn, which leaves it to its caller to stop.
-fn turn_made<D: Disk, J: Site, R: Wait, G: Gate>(
+fn try_turn<D: Disk, L: Life, R: Wait, G: Gate>(
     rt: &R,
     alloc: Global,
-    flusher: &mut Flusher<D, J>,
-    hub: &Hub<D, J>,
-    writer: &mut Writer<J>,
+    flusher: &mut Flusher<D, L>,
+    hub: &Hub<D, L>,
+    writer: &mut Writer<L>,
     upkeep: &mut Upkeep,
     gate: &mut G,
-) -> Result<Turned<D, J>, Refusal>
-    ensures writes { Writes J.start flusher.old flusher.new }
+) -> Result<Turned<D, L>, Refusal>
+    ensures writes { Writes L.start flusher.old flusher.new }
     ensures turned { IfOk result (λ answer. HasTurned flusher.old answer flusher.new) }
     ensures nothing { OnOk result ((committed_of flusher.new ≡ []) × (waiting_of flusher.new ≡ [])) }
     ensures unpublished { IsErrOf result Refusal.NoMemory → told_of flusher.new ≡ told_of flusher.old }
@@ -80,7 +80,7 @@ fn turn_made<D: Disk, J: Site, R: Wait, G: Gate>(
     if let Err(refusal) = upkeep.keep_up(rt, alloc, flusher) {
         return Err(refusal);
     }
-    let answer = match hold_next(rt, alloc, flusher, hub, writer) {
+    let answer = match fetch_batch(rt, alloc, flusher, hub, writer) {
         Ok(answer) => answer,
         Err(refusal) => return Err(refusal),
     };
@@ -93,14 +93,14 @@ fn turn_made<D: Disk, J: Site, R: Wait, G: Gate>(
 // Takes the next batch and holds it, where none is held. It answers with the token that there was none to take, unless one is held then.
 // Refused with `NoMemory`, and with `Stranger` where what the board took off doesn't follow what is published; nothing is held then.
 #[tactic(auto, using(crate::proofs::Fitting::fits_slot))]
-fn hold_next<D: Disk, J: Site, R: Wait>(
+fn fetch_batch<D: Disk, L: Life, R: Wait>(
     rt: &R,
     alloc: Global,
-    flusher: &mut Flusher<D, J>,
-    hub: &Hub<D, J>,
-    writer: &mut Writer<J>,
-) -> Result<Option<Nothing<J>>, Refusal>
-    ensures writes { Writes J.start flusher.old flusher.new }
+    flusher: &mut Flusher<D, L>,
+    hub: &Hub<D, L>,
+    writer: &mut Writer<L>,
+) -> Result<Option<Nothing<L>>, Refusal>
+    ensures writes { Writes L.start flusher.old flusher.new }
     ensures held { IfOk result (λ answer. IfNone answer (committed_of flusher.new ++ waiting_of flusher.new ≢ [])) }
     ensures nothing { IfOk result (λ answer. IfSome answer (λ token. (committed_of flusher.new ≡ [])
         × (waiting_of flusher.new ≡ []))) }
@@ -115,7 +115,7 @@ fn hold_next<D: Disk, J: Site, R: Wait>(
     if flusher.holds() {
         return Ok(None);
     }
-    let taken = match take_some(rt, alloc, flusher.cap(), flusher.told(), hub, writer) {
+    let taken = match take_following(rt, alloc, flusher.cap(), flusher.told(), hub, writer) {
         Ok(taken) => taken,
         Err(refusal) => return Err(refusal),
     };
@@ -130,14 +130,14 @@ fn hold_next<D: Disk, J: Site, R: Wait>(
 
 // The next run whose batch has at most so many bytes, or the token that there is none. It has to follow what a token names: refused with
 // `Stranger` where it doesn't, and with `NoMemory`.
-fn take_some<D: Disk, J: Site, R: Wait>(
+fn take_following<D: Disk, L: Life, R: Wait>(
     rt: &R,
     alloc: Global,
     cap: u32,
-    told: &Told<D, J>,
-    hub: &Hub<D, J>,
-    writer: &mut Writer<J>,
-) -> Result<Result<Run<D, J>, Nothing<J>>, Refusal>
+    told: &Told<D, L>,
+    hub: &Hub<D, L>,
+    writer: &mut Writer<L>,
+) -> Result<Result<Run<D, L>, Nothing<L>>, Refusal>
     ensures fits { IfOk result (λ taken. IfOk taken (λ run. (1 ≤ length run.commands)
         × (batch_width run.commands ≤ cap))) }
     ensures cap { IfOk result (λ taken. IfOk taken (λ run. run.cap ≡ cap)) }
@@ -145,10 +145,7 @@ fn take_some<D: Disk, J: Site, R: Wait>(
     ensures none { IfOk result (λ taken. IfErr taken (λ nothing. nothing ≡ cap)) }
     ensures only { IfErr result (λ e. (e ≡ Refusal.NoMemory) ⊎ (e ≡ Refusal.Stranger)) }
 {
-    let run = match hub.take(rt, alloc, writer, cap) {
-        Ok(run) => run,
-        Err(refusal) => return Err(refusal),
-    };
+    let run = hub.take(rt, alloc, writer, cap)?;
     if run.len() == 0 {
         return Ok(Err(run.nothing()));
     }
@@ -160,17 +157,17 @@ fn take_some<D: Disk, J: Site, R: Wait>(
 }
 
 // Writes the batch that is held, settles it, and notes it for the next turn's milestones.
-fn write_held<D: Disk, J: Site, R: Wait, G: Gate>(
+fn write_held<D: Disk, L: Life, R: Wait, G: Gate>(
     rt: &R,
     alloc: Global,
-    flusher: &mut Flusher<D, J>,
-    hub: &Hub<D, J>,
-    writer: &mut Writer<J>,
+    flusher: &mut Flusher<D, L>,
+    hub: &Hub<D, L>,
+    writer: &mut Writer<L>,
     upkeep: &mut Upkeep,
     gate: &mut G,
-) -> Result<Turned<D, J>, Refusal>
+) -> Result<Turned<D, L>, Refusal>
     requires held { committed_of flusher.old ++ waiting_of flusher.old ≢ [] }
-    ensures writes { Writes J.start flusher.old flusher.new }
+    ensures writes { Writes L.start flusher.old flusher.new }
     ensures turned { IfOk result (λ answer. HasTurned flusher.old answer flusher.new) }
     ensures nothing { OnOk result ((committed_of flusher.new ≡ []) × (waiting_of flusher.new ≡ [])) }
     ensures unpublished { IsErrOf result Refusal.NoMemory → told_of flusher.new ≡ told_of flusher.old }
@@ -209,26 +206,26 @@ fn write_held<D: Disk, J: Site, R: Wait, G: Gate>(
 ///
 /// A crash at any moment of it leaves a prefix of the batches that were given, with no fewer commands than were published when it
 /// began; one after its return no fewer than are published then. Of each turn `flush_turn` says the same.
-pub fn flush_all<D: Disk, J: Site, R: Wait, G: Gate>(
+pub fn flush_all<D: Disk, L: Life, R: Wait, G: Gate>(
     rt: &R,
     alloc: Global,
-    flusher: &mut Flusher<D, J>,
-    hub: &Hub<D, J>,
-    writer: &mut Writer<J>,
+    flusher: &mut Flusher<D, L>,
+    hub: &Hub<D, L>,
+    writer: &mut Writer<L>,
     every: u32,
     composers: Option<Composers>,
     gate: &mut G,
-) -> Result<Idle<J>, Failed<J>>
-    ensures writes { Writes J.start flusher.old flusher.new }
+) -> Result<Idle<L>, Failed<L>>
+    ensures writes { Writes L.start flusher.old flusher.new }
     ensures nothing { OnOk result ((committed_of flusher.new ≡ []) × (waiting_of flusher.new ≡ [])) }
     ensures fails { has_failed (store_of flusher.old) ≡ false
         → (has_failed (store_of flusher.new) ≡ true ↔ IsErrOf result Refusal.Fault) }
-    ensures causes { IfErr result (λ e. e ≢ Refusal.Fault → IsEndedBy J.start flusher.old e flusher.new) }
+    ensures causes { IfErr result (λ e. e ≢ Refusal.Fault → IsEndedBy L.start flusher.old e flusher.new) }
 {
     flusher.kept();
     let mut upkeep = Upkeep::new(alloc, every, composers, flusher.state());
     for _ in rt.forever() {
-        if let Err(failed) = turn_on(rt, alloc, flusher, hub, writer, &mut upkeep, gate) {
+        if let Err(failed) = turn_or_yield(rt, alloc, flusher, hub, writer, &mut upkeep, gate) {
             return Err(failed);
         }
         if !flusher.holds() {
@@ -241,16 +238,16 @@ pub fn flush_all<D: Disk, J: Site, R: Wait, G: Gate>(
 }
 
 // Makes a turn. Where memory ran out it lets other threads run. Refused where the turn fails the board.
-fn turn_on<D: Disk, J: Site, R: Wait, G: Gate>(
+fn turn_or_yield<D: Disk, L: Life, R: Wait, G: Gate>(
     rt: &R,
     alloc: Global,
-    flusher: &mut Flusher<D, J>,
-    hub: &Hub<D, J>,
-    writer: &mut Writer<J>,
+    flusher: &mut Flusher<D, L>,
+    hub: &Hub<D, L>,
+    writer: &mut Writer<L>,
     upkeep: &mut Upkeep,
     gate: &mut G,
-) -> Result<(), Failed<J>>
-    ensures writes { Writes J.start flusher.old flusher.new }
+) -> Result<(), Failed<L>>
+    ensures writes { Writes L.start flusher.old flusher.new }
     ensures fails { has_failed (store_of flusher.old) ≡ false
         → (has_failed (store_of flusher.new) ≡ true ↔ IsErrOf result Refusal.Fault) }
     ensures causes { IfErr result (λ e. e ≢ Refusal.Fault → IsTurnFailed flusher.old e flusher.new) }

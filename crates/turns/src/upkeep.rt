@@ -5,7 +5,7 @@ use crate::exchange::{Exchange, exchange_with};
 use composers::Composers;
 use disk::Disk;
 use flusher::Flusher;
-use published::Site;
+use published::Life;
 use recovery::Receipt;
 use refusal::Refusal;
 use revision::State;
@@ -39,11 +39,11 @@ impl Upkeep {
 
     // Puts what the composers have done, hands out the jobs that are due, and retires the oldest segment while it may. A channel without a
     // message or without a place leaves the rest to a later turn, and so does the end of memory. Refused with `Fault` alone.
-    pub(crate) fn keep_up<D: Disk, J: Site, R: Wait>(
+    pub(crate) fn keep_up<D: Disk, L: Life, R: Wait>(
         &mut self,
         rt: &R,
         alloc: Global,
-        flusher: &mut Flusher<D, J>,
+        flusher: &mut Flusher<D, L>,
     ) -> Result<(), Refusal>
         ensures { IsUpkeep result flusher.old flusher.new }
     {
@@ -54,11 +54,11 @@ impl Upkeep {
     }
 
     // Puts what the composers have done, and hands out the jobs that are due. Refused with `Fault` alone.
-    fn compose_on<D: Disk, J: Site, R: Wait>(
+    fn compose_on<D: Disk, L: Life, R: Wait>(
         &mut self,
         rt: &R,
         alloc: Global,
-        flusher: &mut Flusher<D, J>,
+        flusher: &mut Flusher<D, L>,
     ) -> Result<(), Refusal>
         ensures { IsUpkeep result flusher.old flusher.new }
     {
@@ -70,7 +70,7 @@ impl Upkeep {
 }
 
 // Retires the oldest segment while nothing needs it. Refused with `Fault` alone.
-fn retire_all<D: Disk, J: Site>(flusher: &mut Flusher<D, J>) -> Result<(), Refusal>
+fn retire_all<D: Disk, L: Life>(flusher: &mut Flusher<D, L>) -> Result<(), Refusal>
     ensures { IsUpkeep result flusher.old flusher.new }
 {
     for _ in 0..MOST_SLOTS {
@@ -86,8 +86,8 @@ fn retire_all<D: Disk, J: Site>(flusher: &mut Flusher<D, J>) -> Result<(), Refus
 }
 
 // Retires the oldest segment where nothing needs it, and tells whether it did. Refused with `Fault` alone.
-#[tactic(auto, using(crate::proofs::Writing::keeps_call, crate::proofs::Writing::upkeep_fault, crate::proofs::Writing::upkeep_but))]
-fn retire_one<D: Disk, J: Site>(flusher: &mut Flusher<D, J>) -> Result<bool, Refusal>
+#[tactic(auto, using(crate::proofs::Writing::upkeep_fault, crate::proofs::Writing::upkeep_but))]
+fn retire_one<D: Disk, L: Life>(flusher: &mut Flusher<D, L>) -> Result<bool, Refusal>
     ensures { IsUpkeep result flusher.old flusher.new }
 {
     match flusher.retire() {

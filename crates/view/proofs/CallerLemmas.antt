@@ -12,16 +12,16 @@ use Rattle.atomic_table.proofs.shared.Shared.TheSendSync as table
 use Rattle.atomic_table.proofs.send_lease.SendLease.TheSendSync as lease
 use Rattle.delta.specs.contracts.delta.Delta as delta
 use Rattle.document.specs.contracts.document.Document as document
-use Rattle.revision.specs.contracts.name.Name as name
-use Rattle.revision.specs.contracts.sources.Sources as sources
-use Rattle.revision.specs.contracts.source_table.SourceTable as kept
+use Rattle.revision.specs.contracts.rule.name.Name as name
+use Rattle.revision.specs.contracts.past.sources.Sources as sources
+use Rattle.revision.specs.contracts.past.source_table.SourceTable as kept
 use Rattle.revision.specs.contracts.past.Past as past
-use Rattle.revision.specs.contracts.doc_state.DocState as one
-use Rattle.revision.specs.contracts.state.State as state
-use Rattle.revision.specs.contracts.taken.Taken as taken
-use Rattle.revision.specs.contracts.batch.Batch as batch
-use Rattle.published.specs.declared.site.Site as site
-use Rattle.published.proofs.Crossing.{delta_send, document_send, name_send, state_send, taken_send}
+use Rattle.revision.specs.contracts.past.doc_state.DocState as one
+use Rattle.revision.specs.contracts.past.state.State as state
+use Rattle.revision.specs.contracts.rule.taken.Taken as taken
+use Rattle.revision.specs.contracts.rule.batch.Batch as batch
+use Rattle.published.specs.declared.life.Life as life
+use Rattle.published.proofs.Crossing.{state_send, taken_send}
 use Rattle.view.specs.contracts.shown.Shown as shown
 use Rattle.view.specs.contracts.viewer.Viewer as viewer
 
@@ -56,13 +56,13 @@ taken_sync = search (name_sync, delta_sync, sendable, crosses, maps.crosses) dep
 pub commands_send : IsSend batch.the_row
 commands_send = search (taken_send, taken_sync, sendable, crosses, maps.crosses) depth 60 fits 20000
 
-pub shown_sync : (T : RattleType) (s : site.Ghosts T.Denot) (l : ledger.Ghosts T.Denot) → IsSync T → IsSync (shown.the_row T s l)
+pub shown_sync : (T : RattleType) (s : life.Ghosts T.Denot) (l : ledger.Ghosts T.Denot) → IsSync T → IsSync (shown.the_row T s l)
 shown_sync T s l b = search (state_sync, seen.the_sync, sendable, crosses) depth 60 fits 20000
 
-pub shown_send : (T : RattleType) (s : site.Ghosts T.Denot) (l : ledger.Ghosts T.Denot) → IsSend T → IsSend (shown.the_row T s l)
+pub shown_send : (T : RattleType) (s : life.Ghosts T.Denot) (l : ledger.Ghosts T.Denot) → IsSend T → IsSend (shown.the_row T s l)
 shown_send T s l a = search (state_send, seen.the_send, sendable, crosses) depth 60 fits 20000
 
-pub viewer_send : (D T : RattleType) (s : site.Ghosts T.Denot) (l : ledger.Ghosts T.Denot) → IsSend T → IsSync T → IsSend (viewer.the_row D T s l)
+pub viewer_send : (D T : RattleType) (s : life.Ghosts T.Denot) (l : ledger.Ghosts T.Denot) → IsSend T → IsSync T → IsSend (viewer.the_row D T s l)
 viewer_send D T s l a b =
     let x = shown_sync T s l b in let y = shown_send T s l a in
     search (seen.the_send, part.the_send, place.the_send, table.the_send, table.the_sync, lease.the_send, lease.the_sync, frees, sendable, crosses) depth 40 fits 20000

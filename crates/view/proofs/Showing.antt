@@ -1,8 +1,7 @@
 -- A batch more is shown.
-use Rattle.std.proofs.Common.{◌≡◌, Result, Ok, Err, List, [], ◌∷◌, ◌++◌, fold, refl, ap, ap₂, sym, subst, ◌∙◌, ◌&&◌, Bool, true, append_assoc}
+use Rattle.std.proofs.Common.{◌≡◌, Result, Ok, Err, List, [], ◌∷◌, ◌++◌, fold, refl, ap, ap₂, sym, subst, ◌∙◌, ◌&&◌, Bool, true}
 use Rattle.std.specs.Prelude.{MatchBool, MatchResult, is_ok}
 use Rattle.std.proofs.lemmas.Bool.{and_parts}
-use Rattle.std.proofs.lemmas.List.{append-nil}
 use Rattle.published.specs.Books.{Books}
 use Rattle.delta.specs.Element.{Element}
 use Rattle.revision.specs.Command.{Taken}
@@ -14,16 +13,12 @@ use Rattle.view.specs.Shown.{Seen, basis_of, after, IsShown}
 use Rattle.view.specs.Stages.{news_of, AreShown}
 use Rattle.published.specs.Batches.{Mark}
 use Rattle.view.specs.declared.shown.Basis.{Basis}
+pub use Rattle.recovery.proofs.CallerLemmas.{commands_of-push as commands_more}
 
 -- commands in turn make what the later ones make of what the first have made
 fold_join : (s : state.State) (xs ys : List Taken) → state.fold s (xs ++ ys) ≡ state.fold (state.fold s xs) ys
 fold_join s [] ys = refl
 fold_join s (x ∷ xs) ys = fold_join (state.grown s x) xs ys
-
--- the commands of batches with one more
-pub commands_more : (told : List (List Taken)) (batch : List Taken) → commands_of (told ++ batch ∷ []) ≡ commands_of told ++ batch
-commands_more [] batch = append-nil batch
-commands_more (first ∷ told) batch = ap (λ l. first ++ l) (commands_more told batch) ∙ sym (append_assoc first (commands_of told) batch)
 
 -- commands in turn continue a state where the first do, and the later ones what those make
 grow_join : (s : state.State) (xs ys : List Taken) → state.all_grow s xs ≡ true → state.all_grow (state.fold s xs) ys ≡ true → state.all_grow s (xs ++ ys) ≡ true

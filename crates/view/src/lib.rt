@@ -16,14 +16,14 @@
 //! ```text
 //! ghost use mathlib.Core.List.{IsPrefix};
 //!
-//! use published::{Site, Told};
+//! use published::{Life, Told};
 //! use refusal::Refusal;
 //! use view::Viewer;
 //!
 //! /// How many documents there are, as far as a token goes at least.
-//! pub fn count_documents<D, J: Site>(
-//!     viewer: &mut Viewer<D, J>,
-//!     told: &Told<D, J>,
+//! pub fn count_documents<D, L: Life>(
+//!     viewer: &mut Viewer<D, L>,
+//!     told: &Told<D, L>,
 //! ) -> Result<usize, Refusal>
 //!     ensures kept { IsPrefix viewer.old viewer.new }
 //!     ensures told { IsPrefix told.now viewer.new }

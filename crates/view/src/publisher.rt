@@ -1,24 +1,26 @@
 //! The writer of the view.
-ghost use Rattle.std.specs.Prelude.{◌≡◌, ◌∷◌, ◌++◌, [], drop, length, nat_lt, IfOk, IfErr, IfSome, IfNone, OnErr, IsOkUnless, MatchBool};
+ghost use Rattle.std.specs.Prelude.{◌≡◌, ◌∷◌, ◌++◌, [], drop, length, nat_lt, IfOk, IfSome, IfNone, OnErr, MatchBool};
 ghost use mathlib.Core.List.{IsPrefix};
 ghost use Rattle.recovery.specs.Found.{commands_of};
+ghost use Rattle.recovery.specs.Moment.{IsMomentOf, moment_of};
 ghost use Rattle.revision.specs.Made.{AreMade};
 ghost use Rattle.revision.specs.State.{fold};
 ghost use Rattle.world.specs.World.{takens};
+ghost use Rattle.published.specs.Moments.{AreMoments};
 ghost use Rattle.view.specs.Published.{Published};
 ghost use Rattle.view.specs.Stages.{AreShown, IsNext, news_of as to_show};
 
 use crate::shown::{Basis, InLog, News, Sees, Shown};
 use crate::viewer::Viewer;
 use core::mem::replace_with;
+use disk::Disk;
 use document::Document;
 use left_right::Absorb;
 use left_right::writer::Writer;
-use published::{Log, Opened, Order, Ordered, Site, Told};
+use published::{Life, Log, Moments, Opened, Order, Ordered, Told};
 use recovery::Receipt;
-use refusal::Refusal;
 use revision::State;
-use std::alloc::Global;
+use std::alloc::{AllocError, Global};
 use std::marker::{Model, PhantomData};
 use std::sync::Wait;
 
@@ -28,32 +30,32 @@ const VIEWERS: usize = 64;
 /// How far the publishing of a batch has come. In each step but the last memory may run out, and the next call continues there: so the batch
 /// is put into the log once.
 #[derive(Drop)]
-pub enum Stage<D, J: Site> {
+pub enum Stage<D, L: Life> {
     /// There is none.
     Idle,
     /// It was given, with the order that has it next, and with the documents that its first commands leave.
-    Held(Receipt<D>, Ordered<J>, Vec<Document>),
+    Held(Receipt<D>, Ordered<L>, Vec<Document>),
     /// It is in the log.
-    Logged(Receipt<D>, Told<D, J>),
+    Logged(Receipt<D>, Told<D, L>),
     /// The writer of the view has it, and doesn't show it yet.
-    Queued(Receipt<D>, Told<D, J>),
+    Queued(Receipt<D>, Told<D, L>),
 }
 
 /// What publishes committed batches to viewers: it alone puts them into the run's log. Contracts see it as the batches that are
-/// published, and the one that was given to be published next. It isn't `Drop`: end it by `end`.
-pub struct Publisher<D, J: Site>
+/// published, the one that was given to be published next, and the moments of their commits. It isn't `Drop`: end it by `end`.
+pub struct Publisher<D: Disk, L: Life>
 where
-    Shown<J>: Absorb<News<J>, State = Basis>,
+    Shown<L>: Absorb<News<L>, State = Basis>,
 {
-    writer: Writer<Shown<J>, News<J>, (), InLog<J>>,
-    log: Log<D, J>,
-    told: Told<D, J>,
-    stage: Stage<D, J>,
+    writer: Writer<Shown<L>, News<L>, (), InLog<L>>,
+    log: Log<D, L>,
+    told: Told<D, L>,
+    stage: Stage<D, L>,
 }
 
-impl<D, J: Site> Model for Publisher<D, J>
+impl<D: Disk, L: Life> Model for Publisher<D, L>
 where
-    Shown<J>: Absorb<News<J>, State = Basis>,
+    Shown<L>: Absorb<News<L>, State = Basis>,
 {
     ghost use Rattle.std.specs.Prelude.{◌≡◌, drop};
     ghost use Rattle.view.specs.Published.{Published};
@@ -62,29 +64,32 @@ where
 
     ghost use Rattle.view.specs.Stages as spec;
 
-    ghost view = { λ p. record { told = p.told; unpublished = spec.held_in p.stage } };
+    ghost view = { λ p. record {
+      told = p.told;
+      unpublished = spec.held_in p.stage;
+      moments = spec.moments_in ⟦<D as Disk>⟧ p.log.moments p.stage;
+    } };
 
-    ghost invariant = { λ p. spec.AreShown J.book J.start p.told p.writer.desk.shown.value
-        × (drop p.writer.behind p.writer.log.items ≡ spec.waiting J.book J.start p.stage) × spec.IsLogged p.log p.told p.stage
-        × spec.IsGiven J.start p.told p.stage };
+    ghost invariant = { λ p. spec.AreShown L.book L.start p.told p.writer.desk.shown.value
+        × (drop p.writer.behind p.writer.log.items ≡ spec.waiting L.book L.start p.stage) × spec.IsLogged p.log.batches p.told p.stage
+        × spec.IsGiven L.start p.told p.stage × spec.IsTimed ⟦<D as Disk>⟧ L.start p.told p.stage };
 }
 
-impl<D, J: Site> Publisher<D, J> {
+impl<D: Disk, L: Life> Publisher<D, L> {
     /// A publisher of nothing yet, which shows the state that the run's store was opened with, and the token of that start. Refused as
     /// out of memory alone.
     pub fn new(
         alloc: Global,
         opened: Opened,
         state: &State,
-    ) -> Result<(Publisher<D, J>, Told<D, J>, Order<J>), Refusal>
-        requires book { opened ≡ J.book }
-        requires start { state.now ≡ J.start }
-        ensures publisher { IfOk result (λ made. made.0 ≡ record { told = []; unpublished = [] }) }
+    ) -> Result<(Publisher<D, L>, Told<D, L>, Order<L>), AllocError>
+        requires book { opened ≡ L.book }
+        requires start { state.now ≡ L.start }
+        ensures publisher { IfOk result (λ made. made.0 ≡ record { told = []; unpublished = []; moments = [] }) }
         ensures told { IfOk result (λ made. made.1 ≡ []) }
         ensures order { IfOk result (λ made. made.2 ≡ []) }
-        ensures only { IsOkUnless result Refusal.NoMemory }
     {
-        let (log, told, order) = opened.named::<D, J>(state);
+        let (log, told, order) = opened.named::<D, L>(state);
         let first = Shown {
             alloc,
             state: state.copy(alloc)?,
@@ -111,13 +116,21 @@ impl<D, J: Site> Publisher<D, J> {
         ))
     }
 
-    /// Takes a batch that was committed, to be published next: the next part of the order, with a token of that. The documents that its
-    /// first commands leave may be given: those that are shown take them over, and aren't made again. It takes no memory.
-    pub fn accept(&mut self, receipt: Receipt<D>, ordered: Ordered<J>, made: Vec<Document>)
+    /// Takes a batch that was committed, to be published next: the next part of the order, with a token of that. When its commit ended, the
+    /// store held what it makes of what is published. The documents that its first commands leave may be given: those that are shown take
+    /// them over, and aren't made again. It takes no memory.
+    #[tactic(auto, using(crate::proofs::Ordering::moments_idle))]
+    pub fn accept(&mut self, receipt: Receipt<D>, ordered: Ordered<L>, made: Vec<Document>)
         requires none { self.old.unpublished ≡ [] }
-        requires next { IsNext (commands_of self.old.told) receipt (takens ordered) }
-        requires made { AreMade (fold J.start (commands_of self.old.told)) receipt made.items }
-        ensures { self.new ≡ record self.old { unpublished = receipt ∷ [] } }
+        requires next { IsNext (commands_of self.old.told) receipt.batch (takens ordered) }
+        requires made { AreMade (fold L.start (commands_of self.old.told)) receipt.batch made.items }
+        requires moment { IsMomentOf (fold L.start (commands_of (self.old.told ++ receipt.batch ∷ [])))
+            (moment_of ⟦<D as Disk>⟧ receipt.at) }
+        ensures { self.new ≡ record {
+          told = self.old.told;
+          unpublished = receipt.batch ∷ [];
+          moments = self.old.moments ++ moment_of ⟦<D as Disk>⟧ receipt.at ∷ [];
+        } }
     {
         self.stage = Stage::Held(receipt, ordered, made);
     }
@@ -135,14 +148,14 @@ impl<D, J: Site> Publisher<D, J> {
     }
 
     /// The token of what is published.
-    pub fn told(&self) -> &Told<D, J>
+    pub fn told(&self) -> &Told<D, L>
         ensures { result.now ≡ self.now.told }
     {
         &self.told
     }
 
     /// The order, with what is published first, and then what was given to be published. It takes no memory.
-    pub fn ordered(&self) -> Ordered<J>
+    pub fn ordered(&self) -> Ordered<L>
         ensures { IsPrefix (commands_of (self.now.told ++ self.now.unpublished)) (takens result) }
     {
         match &self.stage {
@@ -154,15 +167,31 @@ impl<D, J: Site> Publisher<D, J> {
     }
 
     /// Each token names a prefix of what is published, or of that with the batch that was given. It takes no memory.
-    pub fn covers(&mut self, told: &Told<D, J>)
+    pub fn covers(&mut self, told: &Told<D, L>)
         ensures begins { IsPrefix told.now (self.old.told ++ self.old.unpublished) }
         ensures same { self.new ≡ self.old }
     {
         self.log.covers(told);
     }
 
+    /// The moments of each token are a prefix of those of what is published and of the batch that was given. It takes no memory.
+    pub fn covers_moments(&mut self, moments: &Moments<L>)
+        ensures begins { IsPrefix moments.now self.old.moments }
+        ensures same { self.new ≡ self.old }
+    {
+        self.log.covers_moments(moments);
+    }
+
+    /// What each publisher keeps, for the prover: there is one moment for each batch that is published, and for the one that was given, at
+    /// which a store held exactly what the batches up to this one make of the start, and its device was synced. It does nothing.
+    pub fn facts(&self)
+        ensures { AreMoments L.start (self.now.told ++ self.now.unpublished) self.now.moments }
+    {
+        self.log.facts();
+    }
+
     /// A viewer, which is told of what is published so far. `None` where 64 of them are there, or come and go while one is looked for.
-    pub fn viewer(&self) -> Option<Viewer<D, J>>
+    pub fn viewer(&self) -> Option<Viewer<D, L>>
         ensures { IfSome result (λ viewer. viewer ≡ self.now.told) }
     {
         match self.writer.factory().reader() {
@@ -173,23 +202,22 @@ impl<D, J: Site> Publisher<D, J> {
 
     /// Publishes the batch that was given, and gives its receipt with the token that ends with it; `None` where none was given.
     ///
-    /// Refused with `NoMemory` alone. Then nothing is published, the batch stays given, and the next call continues with it; it is put into
+    /// Refused as out of memory alone. Then nothing is published, the batch stays given, and the next call continues with it; it is put into
     /// the log once.
     pub fn publish<R: Wait>(
         &mut self,
         rt: &R,
         alloc: Global,
-    ) -> Result<Option<(Receipt<D>, Told<D, J>)>, Refusal>
-        ensures batch { IfOk result (λ published. IfSome published (λ p. self.old.unpublished ≡ p.0 ∷ [])) }
-        ensures told { IfOk result (λ published. IfSome published (λ p. p.1 ≡ self.old.told ++ p.0 ∷ [])) }
+    ) -> Result<Option<(Receipt<D>, Told<D, L>)>, AllocError>
+        ensures batch { IfOk result (λ published. IfSome published (λ p. self.old.unpublished ≡ p.0.batch ∷ [])) }
+        ensures told { IfOk result (λ published. IfSome published (λ p. p.1 ≡ self.old.told ++ p.0.batch ∷ [])) }
         ensures shown { IfOk result (λ published. IfSome published
-            (λ p. self.new ≡ record { told = p.1; unpublished = [] })) }
+            (λ p. self.new ≡ record { told = p.1; unpublished = []; moments = self.old.moments })) }
         ensures none { IfOk result (λ published. IfNone published
             ((self.old.unpublished ≡ []) × (self.new ≡ self.old))) }
         ensures unchanged { OnErr result (self.new ≡ self.old) }
-        ensures only { IsOkUnless result Refusal.NoMemory }
     {
-        replace_with(self, (rt, alloc), published::<D, J, R>)
+        replace_with(self, (rt, alloc), published::<D, L, R>)
     }
 
     /// Ends the view: readers can't enter it any more. It waits for those that are reading.
@@ -205,21 +233,20 @@ impl<D, J: Site> Publisher<D, J> {
 }
 
 // continues from where the publishing of the batch has come to
-fn published<D, J: Site, R: Wait>(
-    publisher: Publisher<D, J>,
+fn published<D: Disk, L: Life, R: Wait>(
+    publisher: Publisher<D, L>,
     with: (&R, Global),
 ) -> (
-    Publisher<D, J>,
-    Result<Option<(Receipt<D>, Told<D, J>)>, Refusal>,
+    Publisher<D, L>,
+    Result<Option<(Receipt<D>, Told<D, L>)>, AllocError>,
 )
-    ensures batch { IfOk result.1 (λ published. IfSome published (λ p. publisher.unpublished ≡ p.0 ∷ [])) }
-    ensures told { IfOk result.1 (λ published. IfSome published (λ p. p.1 ≡ publisher.told ++ p.0 ∷ [])) }
+    ensures batch { IfOk result.1 (λ published. IfSome published (λ p. publisher.unpublished ≡ p.0.batch ∷ [])) }
+    ensures told { IfOk result.1 (λ published. IfSome published (λ p. p.1 ≡ publisher.told ++ p.0.batch ∷ [])) }
     ensures shown { IfOk result.1 (λ published. IfSome published
-        (λ p. result.0 ≡ record { told = p.1; unpublished = [] })) }
+        (λ p. result.0 ≡ record { told = p.1; unpublished = []; moments = publisher.moments })) }
     ensures none { IfOk result.1 (λ published. IfNone published
         ((publisher.unpublished ≡ []) × (result.0 ≡ publisher))) }
     ensures unchanged { OnErr result.1 (result.0 ≡ publisher) }
-    ensures only { IsOkUnless result.1 Refusal.NoMemory }
 {
     let (rt, alloc) = with;
     let Publisher {
@@ -250,28 +277,27 @@ fn published<D, J: Site, R: Wait>(
 }
 
 // gives the batch to the writer, and shows it; without memory for it, the documents are dropped
-fn queued<D, J: Site, R: Wait>(
+fn queued<D: Disk, L: Life, R: Wait>(
     rt: &R,
-    mut writer: Writer<Shown<J>, News<J>, (), InLog<J>>,
-    log: Log<D, J>,
-    told: Told<D, J>,
+    mut writer: Writer<Shown<L>, News<L>, (), InLog<L>>,
+    log: Log<D, L>,
+    told: Told<D, L>,
     receipt: Receipt<D>,
-    next: Told<D, J>,
+    next: Told<D, L>,
     made: Vec<Document>,
 ) -> (
-    Publisher<D, J>,
-    Result<Option<(Receipt<D>, Told<D, J>)>, Refusal>,
+    Publisher<D, L>,
+    Result<Option<(Receipt<D>, Told<D, L>)>, AllocError>,
 )
-    requires shown { AreShown J.book J.start told writer.desk.shown.value }
+    requires shown { AreShown L.book L.start told writer.desk.shown.value }
     requires waiting { drop writer.behind writer.log.items ≡ [] }
-    requires next { next ≡ told ++ receipt ∷ [] }
-    requires made { AreMade (fold J.start (commands_of told)) receipt made.items }
-    requires log { log ≡ next }
+    requires next { next ≡ told ++ receipt.batch ∷ [] }
+    requires made { AreMade (fold L.start (commands_of told)) receipt.batch made.items }
+    requires log { log.batches ≡ next }
     ensures done { IfOk result.1 (λ published. IfSome published (λ p. (p.0 ≡ receipt) × (p.1 ≡ next)
-        × (result.0 ≡ record { told = next; unpublished = [] }))) }
+        × (result.0 ≡ record { told = next; unpublished = []; moments = log.moments }))) }
     ensures some { IfOk result.1 (λ published. IfNone published ⊥) }
-    ensures unchanged { OnErr result.1 (result.0 ≡ record { told = told; unpublished = receipt ∷ [] }) }
-    ensures only { IsOkUnless result.1 Refusal.NoMemory }
+    ensures unchanged { OnErr result.1 (result.0 ≡ record { told = told; unpublished = receipt.batch ∷ []; moments = log.moments }) }
 {
     if !appended(&mut writer, &receipt, &told, &next, made) {
         let logged = Publisher {
@@ -280,25 +306,25 @@ fn queued<D, J: Site, R: Wait>(
             told,
             stage: Stage::Logged(receipt, next),
         };
-        return (logged, Err(Refusal::NoMemory));
+        return (logged, Err(AllocError));
     }
     shown(rt, writer, log, told, receipt, next)
 }
 
 // gives the batch to the writer with the documents, and says whether there was memory for it
-fn appended<D, J: Site>(
-    writer: &mut Writer<Shown<J>, News<J>, (), InLog<J>>,
+fn appended<D, L: Life>(
+    writer: &mut Writer<Shown<L>, News<L>, (), InLog<L>>,
     receipt: &Receipt<D>,
-    told: &Told<D, J>,
-    next: &Told<D, J>,
+    told: &Told<D, L>,
+    next: &Told<D, L>,
     made: Vec<Document>,
 ) -> bool
     requires waiting { drop writer.old.behind writer.old.log.items ≡ [] }
-    requires next { next.now ≡ told.now ++ receipt.now ∷ [] }
-    requires made { AreMade (fold J.start (commands_of told.now)) receipt.now made.items }
+    requires next { next.now ≡ told.now ++ receipt.now.batch ∷ [] }
+    requires made { AreMade (fold L.start (commands_of told.now)) receipt.now.batch made.items }
     ensures desk { writer.new.desk ≡ writer.old.desk }
     ensures waiting { MatchBool result (drop writer.new.behind writer.new.log.items
-        ≡ to_show J.book J.start receipt.now next.now ∷ []) (drop writer.new.behind writer.new.log.items ≡ []) }
+        ≡ to_show L.book L.start receipt.now.batch next.now ∷ []) (drop writer.new.behind writer.new.log.items ≡ []) }
 {
     match news_of(receipt, told, next, made) {
         Ok(news) => writer.append(news).is_ok(),
@@ -307,28 +333,27 @@ fn appended<D, J: Site>(
 }
 
 // shows the batch that the writer has
-fn shown<D, J: Site, R: Wait>(
+fn shown<D: Disk, L: Life, R: Wait>(
     rt: &R,
-    writer: Writer<Shown<J>, News<J>, (), InLog<J>>,
-    log: Log<D, J>,
-    told: Told<D, J>,
+    writer: Writer<Shown<L>, News<L>, (), InLog<L>>,
+    log: Log<D, L>,
+    told: Told<D, L>,
     receipt: Receipt<D>,
-    next: Told<D, J>,
+    next: Told<D, L>,
 ) -> (
-    Publisher<D, J>,
-    Result<Option<(Receipt<D>, Told<D, J>)>, Refusal>,
+    Publisher<D, L>,
+    Result<Option<(Receipt<D>, Told<D, L>)>, AllocError>,
 )
-    requires shown { AreShown J.book J.start told writer.desk.shown.value }
-    requires waiting { drop writer.behind writer.log.items ≡ to_show J.book J.start receipt next ∷ [] }
-    requires next { next ≡ told ++ receipt ∷ [] }
-    requires log { log ≡ next }
+    requires shown { AreShown L.book L.start told writer.desk.shown.value }
+    requires waiting { drop writer.behind writer.log.items ≡ to_show L.book L.start receipt.batch next ∷ [] }
+    requires next { next ≡ told ++ receipt.batch ∷ [] }
+    requires log { log.batches ≡ next }
     ensures done { IfOk result.1 (λ published. IfSome published (λ p. (p.0 ≡ receipt) × (p.1 ≡ next)
-        × (result.0 ≡ record { told = next; unpublished = [] }))) }
+        × (result.0 ≡ record { told = next; unpublished = []; moments = log.moments }))) }
     ensures some { IfOk result.1 (λ published. IfNone published ⊥) }
-    ensures unchanged { OnErr result.1 (result.0 ≡ record { told = told; unpublished = receipt ∷ [] }) }
-    ensures only { IsOkUnless result.1 Refusal.NoMemory }
+    ensures unchanged { OnErr result.1 (result.0 ≡ record { told = told; unpublished = receipt.batch ∷ []; moments = log.moments }) }
 {
-    let (writer, published) = writer.publish_as::<Sees<J>, R>(rt);
+    let (writer, published) = writer.publish_as::<Sees<L>, R>(rt);
     match published {
         Ok(()) => {
             let token = next.copy();
@@ -347,22 +372,21 @@ fn shown<D, J: Site, R: Wait>(
                 told,
                 stage: Stage::Queued(receipt, next),
             };
-            (queued, Err(Refusal::NoMemory))
+            (queued, Err(AllocError))
         }
     }
 }
 
 // the batch of the receipt, shared, with the documents, as it is to be shown with what is then published
-fn news_of<D, J: Site>(
+fn news_of<D, L: Life>(
     receipt: &Receipt<D>,
-    told: &Told<D, J>,
-    next: &Told<D, J>,
+    told: &Told<D, L>,
+    next: &Told<D, L>,
     made: Vec<Document>,
-) -> Result<News<J>, Refusal>
-    requires next { next.now ≡ told.now ++ receipt.now ∷ [] }
-    requires made { AreMade (fold J.start (commands_of told.now)) receipt.now made.items }
-    ensures news { IfOk result (λ news. news ≡ to_show J.book J.start receipt.now next.now) }
-    ensures only { IsOkUnless result Refusal.NoMemory }
+) -> Result<News<L>, AllocError>
+    requires next { next.now ≡ told.now ++ receipt.now.batch ∷ [] }
+    requires made { AreMade (fold L.start (commands_of told.now)) receipt.now.batch made.items }
+    ensures news { IfOk result (λ news. news ≡ to_show L.book L.start receipt.now.batch next.now) }
 {
     Ok(News {
         batch: receipt.batch().share()?,

@@ -4,49 +4,49 @@ ghost use Rattle.std.specs.Prelude.{◌≡◌};
 use crossbeam_utils::rule::{Outcome, Protocol};
 use document::Document;
 use left_right::Absorb;
-use published::{Mark, Site, Told};
+use published::{Life, Mark, Told};
 use revision::{Batch, State};
 use std::alloc::{AllocError, Global};
 use std::marker::{Model, PhantomData};
 
 /// A state, with the published batches that made it. Readers are shown one of two copies.
 #[derive(Drop)]
-pub struct Shown<J: Site> {
+pub struct Shown<L: Life> {
     pub(crate) alloc: Global,
     pub(crate) state: State,
     pub(crate) mark: Mark,
-    pub(crate) of: PhantomData<J>,
+    pub(crate) of: PhantomData<L>,
 }
 
-impl<J: Site> Model for Shown<J> {
+impl<L: Life> Model for Shown<L> {
     ghost use Rattle.view.specs.Shown as spec;
 
     ghost Value = { spec.Seen };
 
     ghost view = { λ s. record { state = s.state; mark = s.mark } };
 
-    ghost invariant = { λ s. spec.IsShown J.book J.start (record { state = s.state; mark = s.mark }) };
+    ghost invariant = { λ s. spec.IsShown L.book L.start (record { state = s.state; mark = s.mark }) };
 }
 
 /// A batch that is to be shown, with what was published before it and what is published with it. Beside its first commands stand the
 /// documents that they leave.
 #[derive(Drop)]
-pub struct News<J: Site> {
+pub struct News<L: Life> {
     pub(crate) batch: Batch,
     pub(crate) made: Vec<Document>,
     pub(crate) before: Mark,
     pub(crate) mark: Mark,
-    pub(crate) of: PhantomData<J>,
+    pub(crate) of: PhantomData<L>,
 }
 
-impl<J: Site> Model for News<J> {
+impl<L: Life> Model for News<L> {
     ghost use Rattle.view.specs.News as spec;
 
     ghost Value = { spec.News };
 
     ghost view = { λ n. record { batch = n.batch; mark = n.mark } };
 
-    ghost invariant = { λ n. spec.GoesOn J.book J.start n.batch n.made.items n.before n.mark };
+    ghost invariant = { λ n. spec.GoesOn L.book L.start n.batch n.made.items n.before n.mark };
 }
 
 /// What the two copies have in common, and whether each batch continued the state. No value of it is made.
@@ -56,7 +56,7 @@ pub struct Basis {
     pub grew: bool,
 }
 
-impl<J: Site> Absorb<News<J>> for Shown<J> {
+impl<L: Life> Absorb<News<L>> for Shown<L> {
     ghost use Rattle.view.specs.Shown.{basis_of, after};
 
     type State = Basis;
@@ -67,9 +67,9 @@ impl<J: Site> Absorb<News<J>> for Shown<J> {
 
     /// Takes over the documents that stand beside the batch, and makes the others. It fails out of memory; and where this copy doesn't show
     /// what was published before the batch, which never happens, but no clause says so.
-    fn absorb_first(&mut self, operation: &News<J>, _other: &Shown<J>) -> Result<(), AllocError> {
-        let here = Told::<(), J>::of_mark(self.mark.copy());
-        let before = Told::<(), J>::of_mark(operation.before.copy());
+    fn absorb_first(&mut self, operation: &News<L>, _other: &Shown<L>) -> Result<(), AllocError> {
+        let here = Told::<(), L>::of_mark(self.mark.copy());
+        let before = Told::<(), L>::of_mark(operation.before.copy());
         if !here.is_same(&before) {
             return Err(AllocError);
         }
@@ -87,25 +87,25 @@ impl<J: Site> Absorb<News<J>> for Shown<J> {
 }
 
 /// The rule of the view of a run: what is shown is what the published batches make of the start.
-pub struct InLog<J> {
-    of: PhantomData<J>,
+pub struct InLog<L> {
+    of: PhantomData<L>,
 }
 
-impl<J: Site> Protocol<Shown<J>, ()> for InLog<J> {
+impl<L: Life> Protocol<Shown<L>, ()> for InLog<L> {
     ghost use Rattle.view.specs.Shown.{IsShown};
 
-    ghost holds = { λ x views. IsShown J.book J.start x };
+    ghost holds = { λ x views. IsShown L.book L.start x };
 
     ghost first = { tt };
 }
 
 /// What a step on the view tells: what is shown then is what the published batches make of the start.
-pub struct Sees<J> {
-    of: PhantomData<J>,
+pub struct Sees<L> {
+    of: PhantomData<L>,
 }
 
-impl<J: Site> Outcome<Shown<J>, ()> for Sees<J> {
+impl<L: Life> Outcome<Shown<L>, ()> for Sees<L> {
     ghost use Rattle.view.specs.Shown.{IsShown};
 
-    ghost then = { λ v x y w. IsShown J.book J.start y };
+    ghost then = { λ v x y w. IsShown L.book L.start y };
 }

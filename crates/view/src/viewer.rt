@@ -10,7 +10,7 @@ use crate::shown::{InLog, Sees, Shown};
 use delta::Delta;
 use document::Document;
 use left_right::reader::Reader;
-use published::{Site, Told};
+use published::{Life, Told};
 use refusal::Refusal;
 use revision::{Name, State};
 use std::alloc::Global;
@@ -18,12 +18,12 @@ use std::marker::Model;
 
 /// A reader of the view, which never waits. Contracts see it as the published batches that it has seen or was told of.
 #[derive(Drop)]
-pub struct Viewer<D, J: Site> {
-    reader: Option<Reader<Shown<J>, (), InLog<J>>>,
-    told: Told<D, J>,
+pub struct Viewer<D, L: Life> {
+    reader: Option<Reader<Shown<L>, (), InLog<L>>>,
+    told: Told<D, L>,
 }
 
-impl<D, J: Site> Model for Viewer<D, J> {
+impl<D, L: Life> Model for Viewer<D, L> {
     ghost use Rattle.std.specs.Prelude.{List};
     ghost use Rattle.revision.specs.Command.{Taken};
 
@@ -32,8 +32,8 @@ impl<D, J: Site> Model for Viewer<D, J> {
     ghost view = { λ v. v.told };
 }
 
-impl<D, J: Site> Viewer<D, J> {
-    pub(crate) fn new(reader: Reader<Shown<J>, (), InLog<J>>, told: Told<D, J>) -> Viewer<D, J>
+impl<D, L: Life> Viewer<D, L> {
+    pub(crate) fn new(reader: Reader<Shown<L>, (), InLog<L>>, told: Told<D, L>) -> Viewer<D, L>
         ensures { result ≡ told }
     {
         Viewer {
@@ -43,14 +43,14 @@ impl<D, J: Site> Viewer<D, J> {
     }
 
     /// The token of what it has seen or was told of. It takes no memory.
-    pub fn told(&self) -> Told<D, J>
+    pub fn told(&self) -> Told<D, L>
         ensures { result ≡ self.now }
     {
         self.told.copy()
     }
 
     /// Takes in what was published by a token: from now on no less is read. It takes no memory.
-    pub fn learn(&mut self, told: &Told<D, J>)
+    pub fn learn(&mut self, told: &Told<D, L>)
         ensures one { (self.new ≡ self.old) ⊎ (self.new ≡ told.now) }
         ensures kept { IsPrefix self.old self.new }
         ensures learned { IsPrefix told.now self.new }
@@ -65,8 +65,8 @@ impl<D, J: Site> Viewer<D, J> {
     pub fn read<A, F: FnOnce(&State) -> A + Drop>(&mut self, f: F) -> Result<A, Refusal>
         requires { F.IsAlwaysCallable f }
         ensures kept { IsPrefix self.old self.new }
-        ensures grows { OnOk result (state.all_grow J.start (commands_of self.new) ≡ true) }
-        ensures answer { IfOk result (λ a. (s : state.State) × (s ≡ state.fold J.start (commands_of self.new))
+        ensures grows { OnOk result (state.all_grow L.start (commands_of self.new) ≡ true) }
+        ensures answer { IfOk result (λ a. (s : state.State) × (s ≡ state.fold L.start (commands_of self.new))
             × FnOnceReturnsAt F.FnOnce f s a) }
         ensures only { IfErr result (λ e. e ≡ Refusal.StoreFailed) }
         ensures unchanged { OnErr result (self.new ≡ self.old) }
@@ -81,11 +81,11 @@ impl<D, J: Site> Viewer<D, J> {
     pub fn peek<A, F: FnOnce(&State) -> A + Drop>(
         &mut self,
         f: F,
-    ) -> Result<(A, Told<D, J>), Refusal>
+    ) -> Result<(A, Told<D, L>), Refusal>
         requires { F.IsAlwaysCallable f }
         ensures begins { IfOk result (λ r. IsPrefix self.old r.1) }
-        ensures grows { IfOk result (λ r. state.all_grow J.start (commands_of r.1) ≡ true) }
-        ensures answer { IfOk result (λ r. (s : state.State) × (s ≡ state.fold J.start (commands_of r.1))
+        ensures grows { IfOk result (λ r. state.all_grow L.start (commands_of r.1) ≡ true) }
+        ensures answer { IfOk result (λ r. (s : state.State) × (s ≡ state.fold L.start (commands_of r.1))
             × FnOnceReturnsAt F.FnOnce f s r.0) }
         ensures only { IfErr result (λ e. e ≡ Refusal.StoreFailed) }
         ensures unchanged { self.new ≡ self.old }
@@ -94,7 +94,7 @@ impl<D, J: Site> Viewer<D, J> {
             Some(reader) => reader,
             None => return Err(Refusal::StoreFailed),
         };
-        let reading = match reader.enter_as::<Sees<J>>() {
+        let reading = match reader.enter_as::<Sees<L>>() {
             Ok(reading) => reading,
             Err(reader) => {
                 self.reader = Some(reader);
@@ -116,9 +116,9 @@ impl<D, J: Site> Viewer<D, J> {
     /// the floor, or out of memory; or with `StoreFailed`, as `read` is.
     pub fn at(&mut self, alloc: Global, name: &Name, revision: u64) -> Result<Document, Refusal>
         ensures kept { IsPrefix self.old self.new }
-        ensures answer { (result ≡ document_at (state.fold J.start (commands_of self.new)) name.now revision)
+        ensures answer { (result ≡ document_at (state.fold L.start (commands_of self.new)) name.now revision)
             ⊎ ((result ≡ Err Refusal.NoMemory)
-            × IsOk (document_at (state.fold J.start (commands_of self.new)) name.now revision))
+            × IsOk (document_at (state.fold L.start (commands_of self.new)) name.now revision))
             ⊎ ((result ≡ Err Refusal.StoreFailed) × (self.new ≡ self.old)) }
     {
         let read = self.read(
@@ -142,9 +142,9 @@ impl<D, J: Site> Viewer<D, J> {
     ) -> Result<Vec<Delta>, Refusal>
         ensures kept { IsPrefix self.old self.new }
         ensures answer { (read_as (λ deltas. deltas.items) result
-            ≡ taken_since (state.fold J.start (commands_of self.new)) name.now revision)
+            ≡ taken_since (state.fold L.start (commands_of self.new)) name.now revision)
             ⊎ ((result ≡ Err Refusal.NoMemory)
-            × IsOk (taken_since (state.fold J.start (commands_of self.new)) name.now revision))
+            × IsOk (taken_since (state.fold L.start (commands_of self.new)) name.now revision))
             ⊎ ((result ≡ Err Refusal.StoreFailed) × (self.new ≡ self.old)) }
     {
         let read = self.read(

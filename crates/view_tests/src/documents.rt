@@ -1,5 +1,7 @@
 //! Documents that are given with a batch are shown as those that are made of it.
 ghost use Rattle.std.specs.Prelude.{◌≡◌, []};
+ghost use Rattle.revision.specs.State.{fold};
+ghost use Rattle.recovery.specs.Found.{commands_of};
 ghost use Rattle.recovery.specs.Open.{state_of};
 
 use crate::SHAPE;
@@ -7,7 +9,7 @@ use crate::writing::{Writing, begun};
 use delta::{Delta, OpRef};
 use disk::MemDisk;
 use fixtures::new_store;
-use published::{Opened, Site};
+use published::{Life, Opened};
 use recovery::Store;
 use revision::Name;
 use std::marker::Brand;
@@ -28,9 +30,9 @@ fn inserts(delta: &Delta, wanted: &str) -> bool {
 }
 
 // this text stands in the document at a revision
-fn has_text<J: Site>(
+fn has_text<L: Life>(
     rt: &(impl Abort + AllocGlobal),
-    viewer: &mut Viewer<MemDisk, J>,
+    viewer: &mut Viewer<MemDisk, L>,
     row: &(u64, &str),
 ) {
     let alloc = rt.alloc();
@@ -44,15 +46,17 @@ fn has_text<J: Site>(
 }
 
 // A batch of two commands, whose documents are given or not, is published.
-fn publishes_two<J: Site, R: Abort + AllocGlobal + Wait>(
+fn publishes_two<L: Life, R: Abort + AllocGlobal + Wait>(
     rt: &R,
-    writing: &mut Writing<J>,
-    publisher: &mut Publisher<MemDisk, J>,
+    writing: &mut Writing<L>,
+    publisher: &mut Publisher<MemDisk, L>,
     first: (u64, u32, u32),
     with_documents: bool,
 )
-    requires { publisher.old.unpublished ≡ [] }
-    ensures { publisher.new.unpublished ≡ [] }
+    requires none { publisher.old.unpublished ≡ [] }
+    requires kept { writing.old ≡ fold L.start (commands_of publisher.old.told) }
+    ensures none { publisher.new.unpublished ≡ [] }
+    ensures kept { writing.new ≡ fold L.start (commands_of publisher.new.told) }
 {
     let (number, count, next) = first;
     writing.order(rt, number, count);
@@ -66,19 +70,19 @@ fn publishes_two<J: Site, R: Abort + AllocGlobal + Wait>(
 }
 
 // One batch with the documents, and one without.
-fn two_of_two<J: Site, R: Abort + AllocGlobal + Wait>(
+fn two_of_two<L: Life, R: Abort + AllocGlobal + Wait>(
     rt: &R,
     store: Store<MemDisk>,
     opened: Opened,
     blank: Blank,
 )
-    requires book { opened ≡ J.book }
-    requires name { blank.name ≡ J.name }
-    requires parts { blank.parts ≡ J.parts }
+    requires book { opened ≡ L.book }
+    requires name { blank.name ≡ L.name }
+    requires parts { blank.parts ≡ L.parts }
     requires seats { blank.parts ≡ 2 }
-    requires start { state_of store ≡ J.start }
+    requires start { state_of store ≡ L.start }
 {
-    let (mut publisher, mut writing, _start) = begun::<J, R>(rt, store, opened, blank);
+    let (mut publisher, mut writing, _start) = begun::<L, R>(rt, store, opened, blank);
     let mut viewer = publisher.viewer().expect(rt, "a place");
     publishes_two(rt, &mut writing, &mut publisher, (1, 3, 2), true);
     publishes_two(rt, &mut writing, &mut publisher, (3, 1, 4), false);

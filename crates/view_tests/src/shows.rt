@@ -1,12 +1,14 @@
 //! A viewer shows what was published, and nothing else; what it was told of, it shows.
-ghost use Rattle.std.specs.Prelude.{◌≡◌, []};
+ghost use Rattle.std.specs.Prelude.{◌≡◌, ◌++◌, []};
+ghost use Rattle.revision.specs.State.{fold};
+ghost use Rattle.recovery.specs.Found.{commands_of};
 ghost use Rattle.recovery.specs.Open.{state_of};
 
 use crate::SHAPE;
 use crate::writing::{Writing, begun};
 use disk::MemDisk;
 use fixtures::{new_store, newest};
-use published::{Opened, Site, Told};
+use published::{Life, Opened, Told};
 use recovery::Store;
 use refusal::Refusal;
 use revision::Name;
@@ -17,22 +19,23 @@ use std::sync::Wait;
 use std::sync::ledger::Blank;
 use view::{Publisher, Viewer};
 
-fn shows<J: Site, R: Abort>(rt: &R, viewer: &mut Viewer<MemDisk, J>, revision: u64) {
+fn shows<L: Life, R: Abort>(rt: &R, viewer: &mut Viewer<MemDisk, L>, revision: u64) {
     assert!(rt; viewer.read(newest) == Ok(revision), "revision {revision}");
 }
 
 // the view has ended
-fn is_over<J: Site, R: Abort>(rt: &R, viewer: &mut Viewer<MemDisk, J>) {
+fn is_over<L: Life, R: Abort>(rt: &R, viewer: &mut Viewer<MemDisk, L>) {
     assert!(rt; viewer.read(newest) == Err(Refusal::StoreFailed));
 }
 
 // publishes what was given, and gives the token that ends with it
-fn published<J: Site, R: Abort + AllocGlobal + Wait>(
+fn published<L: Life, R: Abort + AllocGlobal + Wait>(
     rt: &R,
-    publisher: &mut Publisher<MemDisk, J>,
+    publisher: &mut Publisher<MemDisk, L>,
     length: u64,
-) -> Told<MemDisk, J>
-    ensures { publisher.new.unpublished ≡ [] }
+) -> Told<MemDisk, L>
+    ensures none { publisher.new.unpublished ≡ [] }
+    ensures told { publisher.new.told ≡ publisher.old.told ++ publisher.old.unpublished }
 {
     match publisher.publish(rt, rt.alloc()) {
         Ok(Some((receipt, told))) => {
@@ -62,18 +65,18 @@ const READS: [(Ask, Result<u64, Refusal>); 7] = [
     (Ask::Since("z", 3), Err(Refusal::Future)),
 ];
 
-fn units<J: Site>(
+fn units<L: Life>(
     alloc: Global,
-    viewer: &mut Viewer<MemDisk, J>,
+    viewer: &mut Viewer<MemDisk, L>,
     name: &Name,
     revision: u64,
 ) -> Result<u64, Refusal> {
     Ok(viewer.at(alloc, name, revision)?.len16())
 }
 
-fn deltas<J: Site>(
+fn deltas<L: Life>(
     alloc: Global,
-    viewer: &mut Viewer<MemDisk, J>,
+    viewer: &mut Viewer<MemDisk, L>,
     name: &Name,
     revision: u64,
 ) -> Result<u64, Refusal> {
@@ -81,9 +84,9 @@ fn deltas<J: Site>(
 }
 
 // What is asked is answered so.
-fn reads<J: Site>(
+fn reads<L: Life>(
     rt: &(impl Abort + AllocGlobal),
-    viewer: &mut Viewer<MemDisk, J>,
+    viewer: &mut Viewer<MemDisk, L>,
     row: &(Ask, Result<u64, Refusal>),
 ) {
     let alloc = rt.alloc();
@@ -97,14 +100,16 @@ fn reads<J: Site>(
 }
 
 // The first batch is shown once it is published.
-fn first_batch<J: Site, R: Abort + AllocGlobal + Wait>(
+fn first_batch<L: Life, R: Abort + AllocGlobal + Wait>(
     rt: &R,
-    writing: &mut Writing<J>,
-    publisher: &mut Publisher<MemDisk, J>,
-    viewer: &mut Viewer<MemDisk, J>,
-) -> Told<MemDisk, J>
-    requires { publisher.old.unpublished ≡ [] }
-    ensures { publisher.new.unpublished ≡ [] }
+    writing: &mut Writing<L>,
+    publisher: &mut Publisher<MemDisk, L>,
+    viewer: &mut Viewer<MemDisk, L>,
+) -> Told<MemDisk, L>
+    requires none { publisher.old.unpublished ≡ [] }
+    requires kept { writing.old ≡ fold L.start (commands_of publisher.old.told) }
+    ensures none { publisher.new.unpublished ≡ [] }
+    ensures kept { writing.new ≡ fold L.start (commands_of publisher.new.told) }
 {
     writing.give(rt, publisher, 1, 3);
     assert!(rt; publisher.holds());
@@ -115,13 +120,14 @@ fn first_batch<J: Site, R: Abort + AllocGlobal + Wait>(
 }
 
 // The second batch is given, and then a viewer comes.
-fn late_viewer<J: Site, R: Abort + AllocGlobal>(
+fn late_viewer<L: Life, R: Abort + AllocGlobal>(
     rt: &R,
-    writing: &mut Writing<J>,
-    publisher: &mut Publisher<MemDisk, J>,
-    viewer: &mut Viewer<MemDisk, J>,
-) -> Viewer<MemDisk, J>
-    requires { publisher.old.unpublished ≡ [] }
+    writing: &mut Writing<L>,
+    publisher: &mut Publisher<MemDisk, L>,
+    viewer: &mut Viewer<MemDisk, L>,
+) -> Viewer<MemDisk, L>
+    requires none { publisher.old.unpublished ≡ [] }
+    requires kept { writing.old ≡ fold L.start (commands_of publisher.old.told) }
 {
     writing.give(rt, publisher, 2, 2);
     shows(rt, viewer, 1);
@@ -129,11 +135,11 @@ fn late_viewer<J: Site, R: Abort + AllocGlobal>(
 }
 
 // One that is told of both batches shows both.
-fn catches_up<J: Site, R: Abort + AllocGlobal>(
+fn catches_up<L: Life, R: Abort + AllocGlobal>(
     rt: &R,
-    late: &mut Viewer<MemDisk, J>,
-    first: &Told<MemDisk, J>,
-    second: &Told<MemDisk, J>,
+    late: &mut Viewer<MemDisk, L>,
+    first: &Told<MemDisk, L>,
+    second: &Told<MemDisk, L>,
 ) {
     late.learn(second);
     shows(rt, late, 2);
@@ -146,11 +152,12 @@ fn catches_up<J: Site, R: Abort + AllocGlobal>(
 }
 
 // Where nothing was given, nothing is published.
-fn nothing_is_published<J: Site, R: Abort + AllocGlobal + Wait>(
+fn nothing_is_published<L: Life, R: Abort + AllocGlobal + Wait>(
     rt: &R,
-    publisher: &mut Publisher<MemDisk, J>,
+    publisher: &mut Publisher<MemDisk, L>,
 )
-    ensures { publisher.new.unpublished ≡ [] }
+    ensures none { publisher.new.unpublished ≡ [] }
+    ensures same { publisher.new ≡ publisher.old }
 {
     match publisher.publish(rt, rt.alloc()) {
         Ok(None) => {}
@@ -159,23 +166,23 @@ fn nothing_is_published<J: Site, R: Abort + AllocGlobal + Wait>(
 }
 
 // Of two tokens the longer is kept.
-fn are_prefixes<J: Site, R: Abort>(
+fn are_prefixes<L: Life, R: Abort>(
     rt: &R,
-    start: &Told<MemDisk, J>,
-    one: &Told<MemDisk, J>,
-    two: &Told<MemDisk, J>,
+    start: &Told<MemDisk, L>,
+    one: &Told<MemDisk, L>,
+    two: &Told<MemDisk, L>,
 ) {
     assert!(rt; start.begins(two) && one.begins(two) && two.begins(two) && !two.begins(one));
     assert!(rt; two.longer(one).len() == 2 && one.longer(two).len() == 2);
 }
 
 // The second batch is published, and the late viewer is told of both.
-fn second_batch<J: Site, R: Abort + AllocGlobal + Wait>(
+fn second_batch<L: Life, R: Abort + AllocGlobal + Wait>(
     rt: &R,
-    publisher: &mut Publisher<MemDisk, J>,
-    late: &mut Viewer<MemDisk, J>,
-    start: &Told<MemDisk, J>,
-    first: &Told<MemDisk, J>,
+    publisher: &mut Publisher<MemDisk, L>,
+    late: &mut Viewer<MemDisk, L>,
+    start: &Told<MemDisk, L>,
+    first: &Told<MemDisk, L>,
 ) {
     let second = published(rt, publisher, 2);
     assert!(rt; !publisher.holds());
@@ -184,14 +191,15 @@ fn second_batch<J: Site, R: Abort + AllocGlobal + Wait>(
 }
 
 // Both are shown.
-fn both_batches<J: Site, R: Abort + AllocGlobal + Wait>(
+fn both_batches<L: Life, R: Abort + AllocGlobal + Wait>(
     rt: &R,
-    publisher: &mut Publisher<MemDisk, J>,
-    viewer: &mut Viewer<MemDisk, J>,
-    writing: &mut Writing<J>,
-    start: &Told<MemDisk, J>,
+    publisher: &mut Publisher<MemDisk, L>,
+    viewer: &mut Viewer<MemDisk, L>,
+    writing: &mut Writing<L>,
+    start: &Told<MemDisk, L>,
 )
-    requires { publisher.old.unpublished ≡ [] }
+    requires none { publisher.old.unpublished ≡ [] }
+    requires kept { writing.old ≡ fold L.start (commands_of publisher.old.told) }
 {
     let first = first_batch(rt, writing, publisher, viewer);
     let mut late = late_viewer(rt, writing, publisher, viewer);
@@ -199,19 +207,19 @@ fn both_batches<J: Site, R: Abort + AllocGlobal + Wait>(
 }
 
 // Two batches, with a viewer from the start, one that comes later, and one that is told.
-fn two_batches<J: Site, R: Abort + AllocGlobal + Wait>(
+fn two_batches<L: Life, R: Abort + AllocGlobal + Wait>(
     rt: &R,
     store: Store<MemDisk>,
     opened: Opened,
     blank: Blank,
 )
-    requires book { opened ≡ J.book }
-    requires name { blank.name ≡ J.name }
-    requires parts { blank.parts ≡ J.parts }
+    requires book { opened ≡ L.book }
+    requires name { blank.name ≡ L.name }
+    requires parts { blank.parts ≡ L.parts }
     requires seats { blank.parts ≡ 2 }
-    requires start { state_of store ≡ J.start }
+    requires start { state_of store ≡ L.start }
 {
-    let (mut publisher, mut writing, start) = begun::<J, R>(rt, store, opened, blank);
+    let (mut publisher, mut writing, start) = begun::<L, R>(rt, store, opened, blank);
     assert_eq!(rt; start.len(), 0);
     let mut viewer = publisher.viewer().expect(rt, "a place");
     shows(rt, &mut viewer, 0);

@@ -1,12 +1,14 @@
 //! Publishing beside a thread that reads.
-ghost use Rattle.std.specs.Prelude.{◌≡◌, []};
+ghost use Rattle.std.specs.Prelude.{◌≡◌, ◌++◌, []};
+ghost use Rattle.revision.specs.State.{fold};
+ghost use Rattle.recovery.specs.Found.{commands_of};
 ghost use Rattle.recovery.specs.Open.{state_of};
 
 use crate::SHAPE;
 use crate::writing::{Writing, begun};
 use disk::MemDisk;
 use fixtures::{new_store, newest};
-use published::{Opened, Site};
+use published::{Life, Opened};
 use recovery::Store;
 use std::marker::Brand;
 use std::process::Abort;
@@ -19,14 +21,16 @@ use view::{Publisher, Viewer};
 const COUNT: u64 = 40;
 
 // publishes a batch of one command
-fn publish_one<J: Site, R: Abort + AllocGlobal + Wait>(
+fn publish_one<L: Life, R: Abort + AllocGlobal + Wait>(
     rt: &R,
-    writing: &mut Writing<J>,
-    publisher: &mut Publisher<MemDisk, J>,
+    writing: &mut Writing<L>,
+    publisher: &mut Publisher<MemDisk, L>,
     number: u64,
 )
-    requires { publisher.old.unpublished ≡ [] }
-    ensures { publisher.new.unpublished ≡ [] }
+    requires none { publisher.old.unpublished ≡ [] }
+    requires kept { writing.old ≡ fold L.start (commands_of publisher.old.told) }
+    ensures none { publisher.new.unpublished ≡ [] }
+    ensures kept { writing.new ≡ fold L.start (commands_of publisher.new.told) }
 {
     writing.give(rt, publisher, number, 1);
     match publisher.publish(rt, rt.alloc()) {
@@ -37,12 +41,13 @@ fn publish_one<J: Site, R: Abort + AllocGlobal + Wait>(
 }
 
 // publishes so many batches
-fn publish_all<J: Site, R: Abort + AllocGlobal + Wait>(
+fn publish_all<L: Life, R: Abort + AllocGlobal + Wait>(
     rt: &R,
-    writing: &mut Writing<J>,
-    publisher: &mut Publisher<MemDisk, J>,
+    writing: &mut Writing<L>,
+    publisher: &mut Publisher<MemDisk, L>,
 )
-    requires { publisher.old.unpublished ≡ [] }
+    requires none { publisher.old.unpublished ≡ [] }
+    requires kept { writing.old ≡ fold L.start (commands_of publisher.old.told) }
 {
     for number in 1..COUNT + 1 {
         publish_one(rt, writing, publisher, number);
@@ -50,7 +55,7 @@ fn publish_all<J: Site, R: Abort + AllocGlobal + Wait>(
 }
 
 // Reads until the last revision is shown, and gives the last one that it saw. No revision is below the one before.
-fn read_on<J: Site, R: Abort>(rt: &R, viewer: &mut Viewer<MemDisk, J>) -> u64 {
+fn read_on<L: Life, R: Abort>(rt: &R, viewer: &mut Viewer<MemDisk, L>) -> u64 {
     let mut last = 0;
     for _ in 0..100_000_000u64 {
         let revision = viewer.read(newest).expect(rt, "the view goes on");
@@ -64,19 +69,19 @@ fn read_on<J: Site, R: Abort>(rt: &R, viewer: &mut Viewer<MemDisk, J>) -> u64 {
     last
 }
 
-fn beside<J: Site + Send + Sync, R: Threads + Wait + Abort + AllocGlobal + Sync>(
+fn beside<L: Life + Send + Sync, R: Threads + Wait + Abort + AllocGlobal + Sync>(
     rt: &R,
     store: Store<MemDisk>,
     opened: Opened,
     blank: Blank,
 )
-    requires book { opened ≡ J.book }
-    requires name { blank.name ≡ J.name }
-    requires parts { blank.parts ≡ J.parts }
+    requires book { opened ≡ L.book }
+    requires name { blank.name ≡ L.name }
+    requires parts { blank.parts ≡ L.parts }
     requires seats { blank.parts ≡ 2 }
-    requires start { state_of store ≡ J.start }
+    requires start { state_of store ≡ L.start }
 {
-    let (mut publisher, mut writing, _start) = begun::<J, R>(rt, store, opened, blank);
+    let (mut publisher, mut writing, _start) = begun::<L, R>(rt, store, opened, blank);
     let mut viewer = publisher.viewer().expect(rt, "a place");
     let mut other = publisher.viewer().expect(rt, "a place");
     // the reader goes to another thread, and not what publishes

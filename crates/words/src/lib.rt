@@ -32,5 +32,5 @@ mod store;
 
 pub use deltas::{DeltaCommand, Making};
 pub use invocation::{Invocation, VERSION, given};
-pub use lines::{Lines, LinesFault};
+pub use lines::{Lines, LinesError};
 pub use store::{DEFAULT_EVERY, Listening, ShapeOptions};

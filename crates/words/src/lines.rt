@@ -12,16 +12,16 @@ const MAX_LINES: u64 = 2 * (MAX_WORD as u64 + 1);
 
 /// Why lines can't be the words of a command.
 #[derive(Debug, Drop)]
-pub enum LinesFault {
+pub enum LinesError {
     /// They can't be used, which the text for the user says; or out of memory.
     Usage(Error),
     /// Standard input failed.
     Stream,
 }
 
-impl From<AllocError> for LinesFault {
-    fn from(error: AllocError) -> LinesFault {
-        LinesFault::Usage(Error::from(error))
+impl From<AllocError> for LinesError {
+    fn from(error: AllocError) -> LinesError {
+        LinesError::Usage(Error::from(error))
     }
 }
 
@@ -31,7 +31,7 @@ pub struct Lines(String);
 
 impl Lines {
     /// Reads both lines, up to the end of the input; the second may have no line end.
-    pub fn read<I: Read>(alloc: Global, input: &mut I) -> Result<Lines, LinesFault> {
+    pub fn read<I: Read>(alloc: Global, input: &mut I) -> Result<Lines, LinesError> {
         let bytes = bytes_of(alloc, input)?;
         match String::from_utf8(bytes) {
             Ok(text) => checked(alloc, text),
@@ -46,16 +46,16 @@ impl Lines {
 }
 
 // All bytes of the input, or one more than two lines can have.
-fn bytes_of<I: Read>(alloc: Global, input: &mut I) -> Result<Vec<u8>, LinesFault> {
+fn bytes_of<I: Read>(alloc: Global, input: &mut I) -> Result<Vec<u8>, LinesError> {
     let mut bytes = Vec::new(alloc);
     match input.take(MAX_LINES + 1).read_to_end(&mut bytes) {
         Ok(_) => Ok(bytes),
-        Err(_) => Err(LinesFault::Stream),
+        Err(_) => Err(LinesError::Stream),
     }
 }
 
 // A text of two lines that aren't too long.
-fn checked(alloc: Global, text: String) -> Result<Lines, LinesFault> {
+fn checked(alloc: Global, text: String) -> Result<Lines, LinesError> {
     match parted(text.as_str()) {
         Some((first, second)) if first.len() <= MAX_WORD && second.len() <= MAX_WORD => {
             Ok(Lines(text))
@@ -75,9 +75,9 @@ fn parted(text: &str) -> Option<(&str, &str)> {
     Some((first, second))
 }
 
-fn refused(alloc: Global, why: &str) -> LinesFault {
+fn refused(alloc: Global, why: &str) -> LinesError {
     match not_lines(alloc, why) {
-        Ok(error) => LinesFault::Usage(error),
-        Err(error) => LinesFault::from(error),
+        Ok(error) => LinesError::Usage(error),
+        Err(error) => LinesError::from(error),
     }
 }

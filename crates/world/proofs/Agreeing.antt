@@ -16,6 +16,7 @@ use Rattle.world.specs.Law.{OverAll, StateAgrees}
 use Rattle.world.proofs.Pasts.{newest-from_floor, content-from_floor, sources-from_floor}
 use Rattle.world.proofs.Cutting.{IsCut, cut-itself, cut-floor, longer_by, cut-step, cuts-agree}
 use Rattle.world.proofs.Holding.{IsConsistent, with_answer, begun-holds, run-holds}
+pub use Rattle.revision.proofs.CallerLemmas.{limits-fold}
 
 record CutDocument (all document : DocumentRecord) : Type 0 where
   pub name : document.name ≡ all.name
@@ -130,10 +131,6 @@ places-agree (Some all) (Some a) (Some b) first second = documents-agree all a b
 fold_longer-append : (all : List DocumentRecord) (first others : List Taken) → fold_longer all (first ++ others) ≡ fold_longer (fold_longer all first) others
 fold_longer-append all [] others = refl
 fold_longer-append all (taken ∷ more) others = fold_longer-append (grown_longer all taken) more others
-
-pub limits-fold : (state : State) (commands : List Taken) → (fold state commands).limits ≡ state.limits
-limits-fold state [] = refl
-limits-fold state (first ∷ others) = limits-fold (grown state first) others
 
 -- the state of a world is cut from what the order makes of the start, where nothing is let go of
 abbrev IsCutWorld : World → Type 0

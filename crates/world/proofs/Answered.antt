@@ -1,5 +1,5 @@
 -- What an answer tells of a source's numbers.
-use Rattle.std.proofs.Common.{◌≡◌, ℕ, suc, ◌+◌, ◌-◌, ◌≤◌, Bool, true, false, cond, ◌&&◌, List, [], ◌∷◌, length, map, Option, Some, None, refl, sym, ap, ◌∙◌, subst, arith}
+use Rattle.std.proofs.Common.{◌≡◌, ℕ, suc, ◌+◌, ◌-◌, ◌≤◌, Bool, true, false, cond, List, [], ◌∷◌, length, map, Option, Some, None, refl, sym, ap, ◌∙◌, subst, arith}
 use Rattle.std.specs.Prelude.{◌==◌, not, nat_lt, nat_le, bytes_eq, slice_get}
 use Rattle.std.proofs.lemmas.Bool.Decides.{nat_tests}
 use Rattle.std.proofs.lemmas.List.{length-map}
@@ -17,15 +17,11 @@ use Rattle.revision.specs.Late.{late}
 use Rattle.revision.specs.Past.{undo_of, deltas_of, deltas_above}
 use Rattle.revision.specs.Window.{Window, nothing_taken, revision_in, last_revision}
 use Rattle.revision.specs.Sources.{Sources, window_of}
-use Rattle.revision.specs.Acceptance.{Answer, Takes, Repeats, Refuses, take_within, take_on, creation, next_revision, change, edit, undo, revive, delete, by_retry, if_live, create_existing, by_number, answer_to, answer}
+use Rattle.revision.specs.Acceptance.{Answer, Takes, Repeats, Refuses, take_within, take_on, creation, next_revision, change, edit, undo, revive, delete, by_retry, if_live, by_number, answer_to, answer}
 use Rattle.world.specs.World.{entry_of}
 use Rattle.world.specs.Shown.{Shown, shown, all_shown}
 use Rattle.world.proofs.Numbers.{window_in, IsNew, IsNextAt, Placed}
-
--- where a test answers otherwise, what is taken is not stopped by it
-passed : (b : Bool) (other next : Answer) (taken : Taken) → (other ≡ Takes taken → ⊥) → cond b other next ≡ Takes taken → (b ≡ false) × (next ≡ Takes taken)
-passed true other next taken differs h = absurd (differs h)
-passed false other next taken differs h = (refl, h)
+use Rattle.revision.proofs.CallerLemmas.{passed, number_next}
 
 -- a test that refuses repeats nothing
 asked_again : (b : Bool) (refusal next : Answer) (revision : ℕ) → (refusal ≡ Repeats revision → ⊥) → cond b refusal next ≡ Repeats revision → (b ≡ false) × (next ≡ Repeats revision)
@@ -104,25 +100,8 @@ found-at name revision k number (first ∷ others) found h next = by_test (λ e.
         let one : number - k ≡ suc (number - (k + 1)) = omega (arith, more.0) in
         (omega (arith, more.0), subst (λ n. IsNextAt name revision n (shown first ∷ map shown others)) (sym one) (is, more.1))
 
--- what is no retry is what comes next
-not_again : (found : Option ℕ) (next : Answer) (taken : Taken) → by_retry found next ≡ Takes taken → next ≡ Takes taken
-not_again None next taken h = h
-not_again (Some revision) next taken h = absurd (cc)
-
--- the number is the source's next one
-number_next : (window : Window) (number : ℕ) (next : Answer) (taken : Taken) → by_number window number next ≡ Takes taken
-    → (number ≡ window.number + 1) × (next ≡ Takes taken)
-number_next window number next taken h =
-    let new = not_again (revision_in number window) _ taken h in
-    let old = passed (nat_le number window.number) (Refuses OldNumber) _ taken (λ e. cc) new in
-    let gap = passed (nat_lt (window.number + 1) number) (Refuses Gap) _ taken (λ e. cc) old.1 in
-    (next_of window.number number old.0 gap.0, gap.1)
-  where
-    next_of : (n number : ℕ) → nat_le number n ≡ false → nat_lt (n + 1) number ≡ false → number ≡ n + 1
-    next_of n number old gap = grind (arith, nat_tests)
-
 -- where nothing that comes next is a retry, the revision is that which the number made
-by_found : (found : Option ℕ) (next : Answer) (revision : ℕ) → (next ≡ Repeats revision → ⊥) → by_retry found next ≡ Repeats revision → found ≡ Some revision
+pub by_found : (found : Option ℕ) (next : Answer) (revision : ℕ) → (next ≡ Repeats revision → ⊥) → by_retry found next ≡ Repeats revision → found ≡ Some revision
 by_found None next revision anew h = absurd (anew h)
 by_found (Some made) next revision anew h = cc
 
@@ -138,7 +117,7 @@ number_made window number revision next anew h = by_found (revision_in number wi
         anew gap.1
 
 -- and a number that made a revision is a retry
-number_again : (window : Window) (number revision : ℕ) (next : Answer) → revision_in number window ≡ Some revision → by_number window number next ≡ Repeats revision
+pub number_again : (window : Window) (number revision : ℕ) (next : Answer) → revision_in number window ≡ Some revision → by_number window number next ≡ Repeats revision
 number_again window number revision next is =
     ap (λ made. by_retry made (cond (nat_le number window.number) (Refuses OldNumber) (cond (nat_lt (window.number + 1) number) (Refuses Gap) next))) is
 

@@ -1,9 +1,9 @@
 -- What is followed of a world takes a step with each event, as the program does with what it is told of that event.
-use Rattle.std.proofs.Common.{◌≡◌, ℕ, suc, ◌+◌, ◌-◌, ◌≤◌, Bool, true, false, cond, List, [], ◌∷◌, ◌++◌, length, take, drop, map, get_or, Option, Some, None, refl, sym, ap, ◌∙◌, arith}
-use Rattle.std.specs.Prelude.{◌==◌, ◌&&◌, nat_lt, nat_le, bytes_eq, All, max, slice_get, slice_index_or, option_map}
-use Rattle.std.proofs.lemmas.Bool.{and_parts, cond_both, leb-true, eq-eqb, ne_eqb, and_from}
+use Rattle.std.proofs.Common.{◌≡◌, ℕ, ◌+◌, ◌-◌, ◌≤◌, Bool, true, false, cond, List, [], ◌∷◌, ◌++◌, length, take, drop, map, Option, Some, None, refl, sym, ap, ◌∙◌, arith}
+use Rattle.std.specs.Prelude.{◌==◌, ◌&&◌, nat_lt, nat_le, bytes_eq, All, max, slice_get, option_map}
+use Rattle.std.proofs.lemmas.Bool.{and_parts, cond_both, leb-true, and_from}
 use Rattle.std.proofs.lemmas.Bool.Decides.{nat_tests}
-use Rattle.std.proofs.lemmas.List.{append-nil, get_or_default, length-append, length-drop, length-take-le, length-map, map-append, take-map}
+use Rattle.std.proofs.lemmas.List.{append-nil, length-append, length-drop, length-take-le, length-map, map-append, take-map}
 use Rattle.std.proofs.lemmas.List.Elements.{All-nil, All-head, All-tail, All-push, All-take}
 use Rattle.std.proofs.lemmas.Option.{slice_get-map}
 use Rattle.revision.specs.Command.{Taken, Command}
@@ -20,24 +20,13 @@ use Rattle.world.specs.World.{Entry, entry_of, takens, World, begun, is_of, last
 use Rattle.world.specs.Step.{is_numbered, is_among_last, with_command, is_written, written, acknowledged, may_leave, stopped, opened, can_open, may_pick, whole, running_step, crashed_step, step, run}
 use Rattle.world.specs.Shown.{Shown, all_shown}
 use Rattle.world.specs.Followed as model
-use Rattle.world.specs.Followed.{Followed, begun_followed, followed_step}
+use Rattle.world.specs.Followed.{Followed, followed_step}
 use Rattle.world.specs.Following.{IsOwn, taken_as, is_done, told, all_told, followed_steps, place_of, waiting_of, followed_of, Follows}
 use Rattle.world.proofs.Numbers.{window_in, Placed, bytes_same}
-use Rattle.world.proofs.Histories.{AllPlaced, after, own_revisions, window-after}
+use Rattle.world.proofs.Histories.{after, own_revisions, window-after}
 use Rattle.world.proofs.Answered.{takes_placed, repeats_made, made_repeats}
 use Rattle.world.proofs.Holding.{IsConsistent, with_answer, begun-holds, left-between, step-holds}
-
-then_is : {A : Type 0} (b : Bool) (x y z : A) → b ≡ true → z ≡ x → z ≡ cond b x y
-then_is true x y z e same = same
-then_is false x y z e same = absurd (cc)
-
-else_is : {A : Type 0} (b : Bool) (x y z : A) → b ≡ false → z ≡ y → z ≡ cond b x y
-else_is true x y z e same = absurd (cc)
-else_is false x y z e same = same
-
-cond_same : {A : Type 0} (b : Bool) (x : A) → cond b x x ≡ x
-cond_same true x = refl
-cond_same false x = refl
+use Rattle.attributes.proofs.CallerLemmas.{cond_same}
 
 -- what is told of one event: one happening, or none
 abbrev IsShort : List Happening → Type 0

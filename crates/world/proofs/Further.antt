@@ -109,7 +109,7 @@ run-go_on world [] holds = go_on-same world
 run-go_on world (first ∷ others) holds =
     go_on-further world (step world first) (run (step world first) others) (step-go_on world holds first) (run-go_on (step world first) others (step-holds world holds first))
 
-run-append : (world : World) (first others : List Event) → run world (first ++ others) ≡ run (run world first) others
+pub run-append : (world : World) (first others : List Event) → run world (first ++ others) ≡ run (run world first) others
 run-append world [] others = refl
 run-append world (event ∷ more) others = run-append (step world event) more others
 

@@ -103,12 +103,6 @@ module _ (name source : List ℕ) where
     | inr h ↦ let same : (window_in name source (grown_shown entry.taken documents)).number ≡ (window_in name source documents).number = ap (λ (w : Window). w.number) h.1 in omega arith
   ]
 
-  -- the last number never falls
-  pub never_falls : (documents : List Shown) (entries : List Entry) → AllPlaced documents entries
-      → (window_in name source documents).number ≤ (window_in name source (after documents entries)).number
-  never_falls documents [] placed = omega arith
-  never_falls documents (first ∷ others) placed = omega (arith, step_rises documents first placed.0, never_falls (grown_shown first.taken documents) others placed.1)
-
   -- a number that the window had has one revision as long as it has it
   pub same_revision : (documents : List Shown) (entries : List Entry) → AllPlaced documents entries → (number before now : ℕ)
       → revision_in number (window_in name source documents) ≡ Some before → revision_in number (window_in name source (after documents entries)) ≡ Some now → before ≡ now
@@ -217,10 +211,6 @@ module _ (name source : List ℕ) where
         | inl h ↦ let next : first.taken.number ≡ (window_in name source documents).number + 1 = h.2 in let same : first.taken.number ≡ first.command.number = placed.0.number in omega arith
         | inr h ↦ absurd (both_ways (is_of name source first.command) h.0 is)
       ]
-
--- a command is another's, by source and document
-abbrev pub is_same_sender : Command → Command → Bool
-is_same_sender a b = is_of a.name a.source b
 
 pub sender_same : (a b : Command) → a.name ≡ b.name → a.source ≡ b.source → is_of a.name a.source b ≡ true
 sender_same a b name source = and_from (bytes_eq b.name a.name) (bytes_eq b.source a.source) (bytes_same b.name a.name (sym name)) (bytes_same b.source a.source (sym source))

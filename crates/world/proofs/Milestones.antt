@@ -1,5 +1,5 @@
 -- What an opening gives is what the order makes of the start, each document from its milestone on.
-use Rattle.std.proofs.Common.{◌≡◌, ℕ, zero, suc, ◌+◌, ◌-◌, ◌≤◌, ◌<◌, Bool, true, false, List, [], ◌∷◌, length, drop, get_or, Option, Some, None, refl, sym, ap, ap₂, ◌∙◌, subst, arith}
+use Rattle.std.proofs.Common.{◌≡◌, ℕ, zero, suc, ◌+◌, ◌-◌, ◌≤◌, ◌<◌, true, List, [], ◌∷◌, length, drop, get_or, Option, Some, None, refl, sym, ap, ap₂, ◌∙◌, subst, arith}
 use Rattle.std.specs.Prelude.{◌&&◌, nat_le, max, min, slice_get}
 use Rattle.std.proofs.lemmas.List.{at_drop_more}
 use Rattle.std.proofs.lemmas.Bool.{le-leb}
@@ -17,6 +17,7 @@ use Rattle.world.specs.Stepping.{floors_of, recovered, are_reached}
 use Rattle.world.proofs.Pasts.{newest-from_floor, content-from_floor, sources-from_floor, newest-with_step}
 use Rattle.world.proofs.Cutting.{IsCut, cut-itself, cut-floor, cut-change, same-turned, equal-cut}
 use Rattle.world.proofs.Agreeing.{limits-fold}
+use Rattle.std.proofs.Math.Bool.{and-true}
 
 -- of two that are cut from one past, the one of the higher floor is cut from the other
 cut-within : (past a b : Past) → IsCut past a → IsCut past b → a.floor ≤ b.floor → IsCut a b
@@ -161,11 +162,6 @@ held-each keep milestones (first ∷ more) [] behind = absurd behind
 held-each keep [] (first ∷ more) (made ∷ others) behind = (behind-held keep first made behind.0, held-each keep [] more others behind.1)
 held-each keep (milestone ∷ later) (first ∷ more) (made ∷ others) behind =
     (raised-held keep milestone first made behind.0, held-each keep later more others behind.1)
-
--- a floor between two bounds is a pick exactly where it is below the third
-and-true : (b : Bool) → (b && true) ≡ b
-and-true true = refl
-and-true false = refl
 
 between : (low floor most most' high : ℕ) → low ≤ floor → floor ≤ high → most ≡ most' → ((nat_le low floor && nat_le floor most) && nat_le floor high) ≡ nat_le floor most'
 between low floor most most' high above within same =

@@ -15,9 +15,7 @@ use Rattle.world.specs.World.{Entry, is_of}
 use Rattle.world.specs.Shown.{Shown}
 pub use Rattle.world.specs.steps.Placing.{window_in, IsNew, IsNextAt, HasPlace, Placed}
 use Rattle.world.proofs.Showing.{next_shown, blank, shown_by_name, set_shown, grown_shown}
-
-pub same_bytes : (a b : List ℕ) → bytes_eq a b ≡ true → a ≡ b
-same_bytes a b = (bytes_eq-Decides a b).0
+pub use Rattle.revision.proofs.CallerLemmas.{same_name as same_bytes}
 
 pub bytes_same : (a b : List ℕ) → a ≡ b → bytes_eq a b ≡ true
 bytes_same a b = (bytes_eq-Decides a b).1

@@ -1,9 +1,9 @@
 -- Tickets as the order grows and is cut: a ticket tells what its source had after so much of the order.
-use Rattle.std.proofs.Common.{◌≡◌, ℕ, true, false, ◌+◌, ◌≤◌, ◌<◌, Some, List, [], ◌∷◌, ◌++◌, length, take, refl, sym, ap, ◌∙◌, subst, arith, inl, inr}
+use Rattle.std.proofs.Common.{◌≡◌, ℕ, true, false, ◌+◌, ◌≤◌, ◌<◌, Some, List, [], ◌∷◌, ◌++◌, length, take, sym, ap, ◌∙◌, subst, arith, inl, inr}
 use Rattle.std.specs.Prelude.{◌⊎◌}
 use Rattle.std.proofs.lemmas.Bool.{both_ways, cases_lt}
 use Rattle.std.proofs.lemmas.List.{take-append-le, take-take, length-append, length-take-le, map-append}
-use Rattle.revision.specs.Window.{longest, Window, taken_next, revision_in}
+use Rattle.revision.specs.Window.{longest, taken_next, revision_in}
 use Rattle.revision.specs.Command.{Command}
 use Rattle.revision.proofs.CallerLemmas.{shifts}
 use Rattle.world.specs.Board.{Ticket}

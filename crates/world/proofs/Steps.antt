@@ -1,15 +1,15 @@
 -- What the program that steps a world keeps, event by event.
-use Rattle.std.proofs.Common.{◌≡◌, ℕ, zero, suc, ◌≤◌, ◌<◌, ◌^◌, Bool, true, false, cond, List, [], ◌∷◌, ◌++◌, length, take, drop, Some, refl, sym, ap, ◌∙◌, subst, arith, inl, inr}
-use Rattle.std.specs.Prelude.{◌==◌, ◌&&◌, nat_lt, nat_le, if◌then◌else◌, slice_get, option_to_list}
+use Rattle.std.proofs.Common.{◌≡◌, ℕ, zero, suc, ◌≤◌, ◌<◌, ◌^◌, true, false, cond, List, [], ◌∷◌, ◌++◌, length, take, drop, Some, refl, sym, ap, ◌∙◌, subst, arith, inl, inr}
+use Rattle.std.specs.Prelude.{◌==◌, ◌&&◌, nat_lt, nat_le, if◌then◌else◌, option_to_list}
 use Rattle.std.proofs.lemmas.Bool.{and_parts, and_from, or_cases, eqb-true, lt-ltb, le-leb, eq-eqb}
 use Rattle.std.proofs.lemmas.List.{append-nil, take-map, take-append-drop, take-append-le, take-take, length-append, length-take-le, length-map, map-append}
 use Rattle.revision.specs.Command.{Taken, Command}
-use Rattle.revision.specs.State.{newest_revision, Limits, State, grows, grown, all_grow, fold, last_of_all}
+use Rattle.revision.specs.State.{Limits, State, grows, grown, all_grow, fold, last_of_all}
 use Rattle.revision.specs.Acceptance.{Answer, Takes, Repeats, Refuses, answer}
 use Rattle.revision.specs.Agree.{Agree}
-use Rattle.revision.proofs.CallerLemmas.{taken_grows, agreeing_grow}
+use Rattle.revision.proofs.CallerLemmas.{taken_grows, agreeing_grow, fold-append}
 use Rattle.world.specs.Board.{Board, Ticket, submitted, submitted_by, ticket_of, reopened}
-use Rattle.world.specs.Event.{Submit, Publish, Compose}
+use Rattle.world.specs.Event.{Submit, Publish}
 use Rattle.world.specs.World.{Entry, entry_of, takens, World}
 use Rattle.world.specs.Step.{is_numbered, with_command, may_leave, may_pick, whole, opened, can_open, running_step}
 use Rattle.world.specs.Stepping.{empty_store, taken_of, AreStepped, recovered, floors_left, are_reached}
@@ -34,10 +34,6 @@ all_grow-append state [] others grow rest = rest
 all_grow-append state (taken ∷ more) others grow rest =
     let parts = and_parts (grows state taken) (all_grow (grown state taken) more) grow in
     and_from (grows state taken) (all_grow (grown state taken) (more ++ others)) parts.0 (all_grow-append (grown state taken) more others parts.1 rest)
-
-fold-append : (state : State) (first others : List Taken) → fold state (first ++ others) ≡ fold (fold state first) others
-fold-append state [] others = refl
-fold-append state (taken ∷ more) others = fold-append (grown state taken) more others
 
 -- one command more
 module _ (limits : Limits) (board : Board Entry) (order : List Entry) (shown without with_batch : ℕ) (stepped : AreStepped limits board order shown without with_batch)
@@ -202,13 +198,3 @@ left-taken limits world order shown kept stepped may = elim (or_cases (kept == w
   | inl e ↦ let is : kept ≡ world.without = eqb-true kept world.without e in omega (arith, is, stepped.without_taken)
   | inr e ↦ let is : kept ≡ world.with_batch = eqb-true kept world.with_batch e in omega (arith, is, stepped.with_taken)
 ]
-
--- a revision is composed, or isn't
-pub compose-steps : (world : World) (limits : Limits) (document revision : ℕ) (state : State) (made : Bool) → world.board.start ≡ empty_store limits
-    → state ≡ fold (empty_store limits) (takens (take world.without world.board.order))
-    → (nat_le 1 revision && nat_le revision (newest_revision (slice_get state.documents document))) ≡ made
-    → cond made (record world { composed = world.composed ++ (document, revision) ∷ [] }) world ≡ running_step world (Compose document revision)
-compose-steps world limits document revision state there start is test =
-    ap (λ b. cond b (record world { composed = world.composed ++ (document, revision) ∷ [] }) world)
-    (sym test ∙ ap (λ (s : State). nat_le 1 revision && nat_le revision (newest_revision (slice_get s.documents document)))
-    (is ∙ ap (λ s. fold s (takens (take world.without world.board.order))) (sym start)))

@@ -1,5 +1,5 @@
 //! What stands behind the lock: the order of the commands that were taken, the state after them, and how far it is written.
-ghost use Rattle.std.specs.Prelude.{◌≡◌, ◌⊎◌, ◌+◌, ◌≤◌, [], true, Some, if◌then◌else◌, length, drop, IfOk, IfErr, IfSome, IsErrOf, OnOk, OnErr};
+ghost use Rattle.std.specs.Prelude.{◌≡◌, ◌⊎◌, ◌+◌, ◌≤◌, ◌<◌, ◌^◌, [], true, Some, if◌then◌else◌, length, drop, IfOk, IfErr, IfSome, IsErrOf, OnOk, OnErr};
 ghost use Rattle.revision.specs.Acceptance.{answer, Refuses};
 ghost use Rattle.revision.specs.Moved.{IsMovedIn};
 ghost use Rattle.revision.specs.Planned.{may_want_memory};
@@ -75,6 +75,13 @@ impl Board {
         ensures { result ≡ length self.now.order }
     {
         self.order.len()
+    }
+
+    /// What each board keeps, for the prover. It does nothing.
+    pub fn facts(&self)
+        ensures { length self.now.order < 2 ^ 64 }
+    {
+        let _ = self.order.len();
     }
 
     /// How many commands of the order are taken off to be written.

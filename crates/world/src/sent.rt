@@ -1,11 +1,10 @@
 //! Which commands were sent.
-ghost use Rattle.std.specs.Prelude.{◌≡◌, IfOk, IsOkUnless};
+ghost use Rattle.std.specs.Prelude.{◌≡◌, IfOk};
 ghost use Rattle.world.specs.World.{is_of as spec_is_of, last_sent};
 ghost use Rattle.world.specs.Step.{is_among_last as spec_is_among_last};
 
-use refusal::Refusal;
 use revision::{Command, Name};
-use std::alloc::Global;
+use std::alloc::{AllocError, Global};
 use std::marker::Model;
 use std::snapshot::Snapshot;
 
@@ -35,9 +34,8 @@ impl Model for Sent {
 
 impl Sent {
     /// Notes a command. Refused as out of memory alone.
-    pub(crate) fn of(alloc: Global, command: &Command) -> Result<Sent, Refusal>
+    pub(crate) fn of(alloc: Global, command: &Command) -> Result<Sent, AllocError>
         ensures ok { IfOk result (λ sent. sent ≡ command.now) }
-        ensures only { IsOkUnless result Refusal.NoMemory }
     {
         Ok(Sent {
             command: Snapshot::of(command),

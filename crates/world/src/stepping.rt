@@ -1,5 +1,5 @@
 //! A plain program that steps a world, for tests: richd runs it nowhere.
-ghost use Rattle.std.specs.Prelude.{◌≡◌, ◌<◌, ◌≤◌, ◌+◌, ◌++◌, ◌&&◌, [], true, nat_le, length, take, map, option_to_list, slice_get, if◌then◌else◌, IfOk, OnOk, OnErr, IsOkUnless};
+ghost use Rattle.std.specs.Prelude.{◌≡◌, ◌<◌, ◌≤◌, ◌+◌, ◌++◌, ◌&&◌, [], true, nat_le, length, take, map, option_to_list, slice_get, if◌then◌else◌, IfOk, OnOk, OnErr};
 ghost use Rattle.std.specs.Vec.{vec_len, vec_capacity};
 ghost use Rattle.revision.specs.Acceptance.{answer};
 ghost use Rattle.revision.specs.Pending.{record_of};
@@ -15,7 +15,7 @@ use crate::sent::{Sent, is_among_last, last_number};
 use crate::ticket::{Ack, Ticket};
 use refusal::Refusal;
 use revision::{Command, DocState, Limits, Plan, State};
-use std::alloc::Global;
+use std::alloc::{AllocError, Global};
 use std::marker::Model;
 
 /// How the writing of a batch ends.
@@ -142,9 +142,8 @@ impl World {
 
     /// One event. One that isn't possible changes nothing, and from a crash to the next opening only an opening is. It may find
     /// no memory, and then nothing has changed.
-    pub fn step(&mut self, alloc: Global, event: Event) -> Result<(), Refusal>
+    pub fn step(&mut self, alloc: Global, event: Event) -> Result<(), AllocError>
         ensures ok { OnOk result (self.new ≡ spec_step self.old (event_of self.old event.entry)) }
-        ensures only { IsOkUnless result Refusal.NoMemory }
         ensures unchanged { OnErr result (self.new ≡ self.old) }
     {
         if !self.crashed {
@@ -157,9 +156,8 @@ impl World {
     }
 
     // One event of a machine that runs.
-    fn run(&mut self, alloc: Global, event: Event) -> Result<(), Refusal>
+    fn run(&mut self, alloc: Global, event: Event) -> Result<(), AllocError>
         ensures ok { OnOk result (self.new ≡ running_step self.old (event_of self.old event.entry)) }
-        ensures only { IsOkUnless result Refusal.NoMemory }
         ensures unchanged { OnErr result (self.new ≡ self.old) }
     {
         match event {
@@ -182,13 +180,12 @@ impl World {
     }
 
     // A command comes to the board, which may give a ticket for it.
-    fn submit(&mut self, alloc: Global, command: &Command) -> Result<(), Refusal>
+    fn submit(&mut self, alloc: Global, command: &Command) -> Result<(), AllocError>
         ensures ok { OnOk result (self.new ≡ running_step self.old (spec_event.Submit command.now)) }
-        ensures only { IsOkUnless result Refusal.NoMemory }
         ensures unchanged { OnErr result (self.new ≡ self.old) }
     {
         // its number is in range
-        let _ = command.number();
+        command.facts();
         let sent = Sent::of(alloc, command)?;
         let entry = self.taken_of(alloc, command)?;
         self.sent.reserve(1)?;
@@ -201,10 +198,8 @@ impl World {
                 add(&mut self.order, entry);
                 Ok(())
             }
-            Err(refusal) => {
-                if refusal == Refusal::NoMemory {
-                    return Err(refusal);
-                }
+            Err(Refusal::NoMemory) => Err(AllocError),
+            Err(_) => {
                 self.sent.push(sent)?;
                 Ok(())
             }
@@ -212,15 +207,14 @@ impl World {
     }
 
     // What the order keeps of a command where the board will take it.
-    fn taken_of(&self, alloc: Global, command: &Command) -> Result<Option<Entry>, Refusal>
+    fn taken_of(&self, alloc: Global, command: &Command) -> Result<Option<Entry>, AllocError>
         ensures ok { IfOk result (λ entry. option_to_list entry
             ≡ taken_of command.now (answer self.now.board.state command.now)) }
-        ensures only { IsOkUnless result Refusal.NoMemory }
     {
         match self.board.state().plan(alloc, command) {
             Ok(Plan::Taken(taken)) => Ok(Some(Entry::new(command, taken))),
             Ok(Plan::Again { rev: _ }) => Ok(None),
-            Err(Refusal::NoMemory) => Err(Refusal::NoMemory),
+            Err(Refusal::NoMemory) => Err(AllocError),
             Err(_) => Ok(None),
         }
     }
@@ -234,9 +228,8 @@ impl World {
     }
 
     // A command comes again where it is its source's last one.
-    fn resend(&mut self, alloc: Global, command: &Command) -> Result<(), Refusal>
+    fn resend(&mut self, alloc: Global, command: &Command) -> Result<(), AllocError>
         ensures ok { OnOk result (self.new ≡ running_step self.old (spec_event.Resend command.now)) }
-        ensures only { IsOkUnless result Refusal.NoMemory }
         ensures unchanged { OnErr result (self.new ≡ self.old) }
     {
         let last = last_number(command.name(), command.source(), self.sent.as_slice());
@@ -291,9 +284,8 @@ impl World {
     }
 
     // A ticket is acknowledged where its length is settled.
-    fn acknowledge(&mut self, place: usize) -> Result<(), Refusal>
+    fn acknowledge(&mut self, place: usize) -> Result<(), AllocError>
         ensures ok { OnOk result (self.new ≡ running_step self.old (spec_event.Ack place)) }
-        ensures only { IsOkUnless result Refusal.NoMemory }
         ensures unchanged { OnErr result (self.new ≡ self.old) }
     {
         if let Some(ticket) = self.tickets.as_slice().get(place) {
@@ -305,9 +297,8 @@ impl World {
     }
 
     // A revision of a document is composed that what is surely written has made.
-    fn compose(&mut self, alloc: Global, document: usize, revision: u64) -> Result<(), Refusal>
+    fn compose(&mut self, alloc: Global, document: usize, revision: u64) -> Result<(), AllocError>
         ensures ok { OnOk result (self.new ≡ running_step self.old (spec_event.Compose document revision)) }
-        ensures only { IsOkUnless result Refusal.NoMemory }
         ensures unchanged { OnErr result (self.new ≡ self.old) }
     {
         let state = folded(alloc, self.limits, self.first(self.without))?;
@@ -339,14 +330,13 @@ impl World {
     }
 
     // The store is opened with so many commands, each document from its milestone on.
-    fn open(&mut self, alloc: Global, kept: usize, milestones: &[u64]) -> Result<(), Refusal>
+    fn open(&mut self, alloc: Global, kept: usize, milestones: &[u64]) -> Result<(), AllocError>
         ensures ok { OnOk result (self.new ≡ (if can_open self.old kept (floors_left self.old kept milestones.now)
             then opened self.old kept (floors_left self.old kept milestones.now) else self.old)) }
-        ensures only { IsOkUnless result Refusal.NoMemory }
         ensures unchanged { OnErr result (self.new ≡ self.old) }
     {
         // the limits are in their ranges
-        let _ = self.limits.docs();
+        self.limits.facts();
         if !self.may_leave(kept) {
             return Ok(());
         }
@@ -407,14 +397,15 @@ fn last_composed(composed: &[(usize, u64)], document: usize) -> u64
 }
 
 // The state that commands make of a store without documents.
-fn folded(alloc: Global, limits: Limits, entries: &[Entry]) -> Result<State, Refusal>
+fn folded(alloc: Global, limits: Limits, entries: &[Entry]) -> Result<State, AllocError>
     requires grow { all_grow (empty_store limits) (takens entries.now) ≡ true }
     ensures state { IfOk result (λ state. state ≡ fold (empty_store limits) (takens entries.now)) }
-    ensures only { IsOkUnless result Refusal.NoMemory }
 {
     let mut state = State::new(alloc, limits);
     for entry in entries {
-        state.absorb(alloc, entry.taken())?;
+        if let Err(refusal) = state.absorb(alloc, entry.taken()) {
+            return Err(refusal.as_alloc_error());
+        }
     }
     Ok(state)
 }

@@ -4,7 +4,7 @@ use Rattle.std.specs.Prelude.{◌==◌}
 use Rattle.std.proofs.lemmas.Bool.{eqb-true}
 use Rattle.attributes.specs.Attributes.{Changes, transformed, same_changes, same_changes-Decides}
 use Rattle.attributes.specs.Map.{empty, contains}
-use Rattle.attributes.proofs.CallerLemmas.{same_changes_map, get-transformed}
+use Rattle.attributes.proofs.CallerLemmas.{same_changes_map, get-transformed, cond_same}
 use Rattle.delta.specs.Operation.{Operation, insert_text, insert_embed, retain, delete, base_of, out_of}
 use Rattle.delta.specs.Lead.{lead_of}
 use Rattle.delta.specs.Gaps.{Gaps, End, Gap, Fate, Del, Keep, run, counted, units_below, units_kept, units_made}
@@ -18,13 +18,9 @@ use Rattle.xform.proofs.Heads.{after-first, after-nothing, front-End, front-Gap}
 transformed-nothing : (c : Changes) → transformed empty c true ≡ c
 transformed-nothing c = same_changes_map (transformed empty c true) c (get-transformed empty c)
 
-either : {A : Type 0} (b : Bool) (x : A) → cond b x x ≡ x
-either true x = refl
-either false x = refl
-
 nothing-transformed : (c : Changes) → transformed c empty true ≡ empty
 nothing-transformed c =
-    same_changes_map (transformed c empty true) empty (λ name. get-transformed c empty name ∙ either (contains c name) None)
+    same_changes_map (transformed c empty true) empty (λ name. get-transformed c empty name ∙ cond_same (contains c name) None)
 
 fate-stays : (e : Fate) → fate_after empty e true ≡ e
 fate-stays Del = refl

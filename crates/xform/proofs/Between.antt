@@ -2,9 +2,10 @@
 use Rattle.std.proofs.Common.{◌≡◌, Bool, true, false, List, [], ◌∷◌, ◌++◌, length, refl, sym, ap, ◌∙◌, arith}
 use Rattle.std.proofs.lemmas.List.{append-nil, append_assoc, length-append}
 use Rattle.delta.specs.Element.{Element}
-use Rattle.delta.specs.Gaps.{Gaps, End, Gap, Fate, Del, Keep, units_kept, fated, apply}
+use Rattle.delta.specs.Gaps.{Gaps, End, Gap, fated, apply}
 use Rattle.xform.specs.Place.{place, up_to, onward}
 use Rattle.xform.specs.Laws.{PlaceBetween}
+use Rattle.delta.proofs.CallerLemmas.{length-fated}
 
 -- what is inserted just there
 parted : (xs rest : List Element) → xs ++ rest ≡ (xs ++ []) ++ ([] ++ rest)
@@ -23,10 +24,6 @@ parts (x ∷ d) e (Gap xs f g) priority =
     let behind = apply e (onward g (length d) priority) in
     ap (λ l. xs ++ (fated f x ++ l)) (parts d e g priority)
     ∙ (ap (λ l. xs ++ l) (sym (append_assoc (fated f x) before behind)) ∙ sym (append_assoc xs (fated f x ++ before) behind))
-
-length-fated : (f : Fate) (x : Element) → length (fated f x) ≡ units_kept f
-length-fated Del x = refl
-length-fated (Keep c) x = refl
 
 stands : (d : List Element) (g : Gaps) (priority : Bool) → length (apply d (up_to g (length d) priority)) ≡ place g (length d) priority
 stands [] (End xs) true = refl

@@ -8,6 +8,7 @@ use Rattle.delta.specs.Gaps.{Gaps, End, Gap, Fate, Del, Keep, front, run}
 use Rattle.delta.proofs.CallerLemmas.{front-nil, front-front, run-parts}
 use Rattle.delta.specs.Places.{IsBare}
 use Rattle.xform.specs.After.{beside, fate_after, left_of, after}
+pub use Rattle.delta.proofs.CallerLemmas.{front-Gap}
 
 -- at a place where one of them inserts nothing
 beside-nothing : (priority : Bool) (g : Gaps) → beside [] [] priority g ≡ g
@@ -82,9 +83,6 @@ after-kept (suc k) c e g h priority =
 -- after nothing
 pub front-End : (ys : List Element) → front ys (End []) ≡ End ys
 front-End ys = ap End (append-nil ys)
-
-pub front-Gap : (ys : List Element) (f : Fate) (g : Gaps) → front ys (Gap [] f g) ≡ Gap ys f g
-front-Gap ys f g = ap (λ l. Gap l f g) (append-nil ys)
 
 pub after-nothing : (h : Gaps) (priority : Bool) → after (End []) h priority ≡ h
 after-nothing (End ys) priority = beside-only ys priority (End []) ∙ front-End ys

@@ -1,34 +1,14 @@
 -- A list in normal form whose first retain gets another length, once and again.
 use Rattle.std.proofs.Common.{◌≡◌, ℕ, ◌+◌, ◌-◌, ◌<◌, ◌≤◌, ◌^◌, true, List, [], ◌∷◌, Option, Some, None, refl, sym, ap, subst, ◌∙◌, arith}
-use Rattle.std.specs.Prelude.{IsTrue, not, nat_lt}
-use Rattle.std.proofs.lemmas.Bool.{and_from, lt-ltb}
-use Rattle.attributes.specs.Attributes.{Changes}
 use Rattle.attributes.specs.Map.{empty}
-use Rattle.delta.specs.Operation.{Operation, insert_text, insert_embed, retain, delete, op_len, base_of, out_of, IsBounded}
+use Rattle.delta.specs.Operation.{Operation, insert_text, insert_embed, retain, delete, base_of, out_of, IsBounded}
 use Rattle.delta.specs.Gaps.{counted}
 use Rattle.delta.specs.Lead.{lead_of, with_lead}
-use Rattle.delta.specs.Normal.{IsNormal, may_precede, may_lead, is_built, ends_plain, nf}
-use Rattle.delta.proofs.CallerLemmas.{normal-parts, built-parts, may_lead-retain, nf-same}
+use Rattle.delta.specs.Normal.{IsNormal, nf}
+use Rattle.delta.proofs.CallerLemmas.{nf-same, normal-retain}
 use Rattle.xform.specs.After.{second_past}
 use Rattle.xform.specs.steps.Moving.{IsMovedLead, led, IsMoving}
 use Rattle.xform.proofs.Apart.{begins-lead, moved-lead}
-
-built-from : (op : Operation) (ops : List Operation) → 0 < op_len op → IsTrue (may_lead op ops) → IsTrue (is_built ops) → IsTrue (is_built (op ∷ ops))
-built-from op [] long lead rest = lt-ltb 0 (op_len op) long
-built-from op (next ∷ ops) long lead rest =
-    and_from (nat_lt 0 (op_len op)) _ (lt-ltb 0 (op_len op) long) (and_from (may_precede op next) _ lead rest)
-
-ends-retain : (m n : ℕ) (c : Changes) (ops : List Operation) → ends_plain (retain m c ∷ ops) ≡ ends_plain (retain n c ∷ ops)
-ends-retain m n c [] = refl
-ends-retain m n c (next ∷ ops) = refl
-
-normal-retain : (m n : ℕ) (c : Changes) (ops : List Operation) → 0 < n → IsNormal (retain m c ∷ ops) → IsNormal (retain n c ∷ ops)
-normal-retain m n c ops some normal =
-    let parts = normal-parts (retain m c) ops normal in
-    let built = built-parts (retain m c) ops parts.0 in
-    and_from (is_built (retain n c ∷ ops)) _
-    (built-from (retain n c) ops some (may_lead-retain n c ops ∙ (sym (may_lead-retain m c ops) ∙ built.1)) built.2)
-    (ap not (ends-retain n m c ops) ∙ parts.1)
 
 -- the plain retain that is first gets another length
 pub normal-lead : (kept len : ℕ) (ops : List Operation) → lead_of ops ≡ Some kept → 0 < len → IsNormal ops → IsNormal (with_lead len ops)
@@ -82,13 +62,6 @@ still-moving ops lead base out kept len moving leads some bounded =
       some = some;
       leads = ap lead_of (sym same) ∙ lead-of-led kept len (led lead ops) leads;
     }
-
--- it begins with this retain
-pub leads-by : (ops : List Operation) (lead : Option ℕ) (base out len : ℕ) → IsMoving ops lead base out → lead ≡ Some len
-    → lead_of (led lead ops) ≡ Some len
-leads-by ops lead base out len moving is =
-    let led_so : IsMoving ops (Some len) base out = subst (λ l. IsMoving ops l base out) is moving in
-    ap (λ l. lead_of (led l ops)) is ∙ led_so.leads
 
 -- the second keeps all units that the first speaks of
 pub moves-behind : (first second : List Operation) (kept gone made base out len : ℕ) → lead_of second ≡ Some kept

@@ -43,10 +43,6 @@ module _ {first second a b made ops a2 b2 : List Operation} {priority : Bool} (p
     room = partly.room;
   }
 
-  -- there is room for what a step makes
-  pub room-next : base_of made + base_of ops < 2 ^ 64
-  room-next = omega (arith, step.base, partly.base, partly.room)
-
   -- where what it makes never stays within the bound, the whole doesn't
   pub passed-next : ((more : Gaps) → ¬ (IsBounded (nf (joined (counted (made ++ ops)) more)))) → ¬ (CanTransform first second priority)
   passed-next never bounded =

@@ -1,11 +1,12 @@
 -- Where a place goes, operation by operation.
-use Rattle.std.proofs.Common.{◌≡◌, ℕ, zero, suc, ◌+◌, ◌-◌, ◌<◌, ◌≤◌, ◌^◌, ◌⊎◌, ⊎_elim, Bool, true, false, List, [], ◌∷◌, length, drop, get_or, min, refl, sym, ap, ◌∙◌, arith}
-use Rattle.std.proofs.lemmas.List.{length-append, length-map, drop_more}
+use Rattle.std.proofs.Common.{◌≡◌, ℕ, zero, suc, ◌+◌, ◌-◌, ◌<◌, ◌≤◌, ◌^◌, ◌⊎◌, ⊎_elim, Bool, true, false, List, [], ◌∷◌, length, min, refl, sym, ap, ◌∙◌, arith}
+use Rattle.std.proofs.lemmas.List.{length-append, length-map}
 use Rattle.delta.specs.Element.{Element, letters, lettered, embedded}
 use Rattle.delta.specs.Operation.{Operation, insert_text, insert_embed, retain, delete, is_insert, op_out, out_of}
 use Rattle.delta.specs.Gaps.{Gaps, End, Gap, Del, Keep, front, run, counted}
 use Rattle.attributes.specs.Attributes.{Changes}
 use Rattle.xform.specs.Place.{moved_by, place}
+pub use Rattle.attributes.proofs.CallerLemmas.{drop-here as drop-op}
 
 -- what is inserted before a place, and just there
 front-before : (xs : List Element) (g : Gaps) (i : ℕ) (priority : Bool) → 0 < i → place (front xs g) i priority ≡ length xs + place g i priority
@@ -77,10 +78,6 @@ pub place-within_deleted : (n : ℕ) (g : Gaps) (i : ℕ) (priority : Bool) → 
 place-within_deleted zero g i priority h = absurd (omega arith)
 place-within_deleted (suc n) g zero priority h = moved-nothing priority
 place-within_deleted (suc n) g (suc i) priority h = omega (arith, place-within_deleted n g i priority (omega arith))
-
--- the operations from one on
-pub drop-op : (ops : List Operation) (i : ℕ) (op : Operation) → i < length ops → op ≡ get_or ops i op → drop i ops ≡ op ∷ drop (i + 1) ops
-drop-op ops i op h is = drop_more ops i op h ∙ ap (λ o. o ∷ drop (i + 1) ops) (sym is)
 
 -- where a walk over the operations stands: the place so far, the operations left, and how much of what they stand on is before
 -- the place

@@ -1,5 +1,5 @@
 //! A delta past others of the same document, in place where the two lie apart.
-ghost use Rattle.std.specs.Prelude.{◌≡◌, ◌+◌, ◌<◌, ◌^◌, true, Some, IfOk, IfErr, OnOk, IsOkUnless, MatchBool};
+ghost use Rattle.std.specs.Prelude.{◌≡◌, ◌+◌, ◌<◌, ◌^◌, true, Some, IfOk, IfErr, OnOk, MatchBool};
 ghost use Rattle.delta.specs.Lead.{lead_of, with_lead};
 ghost use Rattle.delta.specs.Normal.{IsNormal};
 ghost use Rattle.delta.specs.Operation.{base_of, out_of, IsBounded};
@@ -9,7 +9,7 @@ ghost use Rattle.xform.specs.Outcome.{CanTransform, CanPassAll, IsTransformRefus
 use crate::transforming::transform;
 use delta::{Delta, MAX_LEN};
 use refusal::Refusal;
-use std::alloc::Global;
+use std::alloc::{AllocError, Global};
 use std::marker::Model;
 
 /// The second delta as it is after the first, which has priority: what `transform` makes of them, by moving the second.
@@ -168,9 +168,8 @@ impl Moving {
     }
 
     // the delta, with the length of its first retain written
-    fn into_delta(self, alloc: Global) -> Result<Delta, Refusal>
+    fn into_delta(self, alloc: Global) -> Result<Delta, AllocError>
         ensures same { IfOk result (λ delta. delta ≡ self) }
-        ensures only { IsOkUnless result Refusal.NoMemory }
     {
         let Moving {
             mut delta,
@@ -192,6 +191,6 @@ fn lengths(delta: &Delta) -> (u64, u64)
     ensures normal { IsNormal delta.now }
     ensures bounded { IsBounded delta.now }
 {
-    let _ = delta.lead();
+    delta.facts();
     (delta.base_len(), delta.out_len())
 }

@@ -1,5 +1,5 @@
 //! One step along a delta and another of the same document.
-ghost use Rattle.std.specs.Prelude.{◌≡◌, ◌⊎◌, ◌+◌, ◌<◌, ◌^◌, ◌++◌, [], ◌∷◌, IfOk, IfErr, OnOk, IsOkUnless, true, false};
+ghost use Rattle.std.specs.Prelude.{◌≡◌, ◌⊎◌, ◌+◌, ◌<◌, ◌^◌, ◌++◌, [], ◌∷◌, IfOk, IfErr, OnOk, true, false};
 ghost use Rattle.std.specs.Option.{option_to_list};
 ghost use Rattle.delta.specs.Operation.{base_of, is_insert, IsBounded};
 ghost use Rattle.delta.specs.Gaps.{Gaps, counted, joined};
@@ -10,7 +10,7 @@ ghost use Rattle.xform.specs.steps.Stepping.{made_of, BeginsWithInsert, IsStepOf
 use attributes::Change;
 use delta::{Cursor, Op, OpRef, Part, TrimmingBuilder};
 use refusal::Refusal;
-use std::alloc::Global;
+use std::alloc::{AllocError, Global};
 
 /// What a step makes, and what it leaves of both lists.
 #[derive(Drop)]
@@ -28,12 +28,11 @@ pub(crate) fn next_step<'a, 'b>(
     two: Part<'b>,
     rest: &'b [Op],
     priority: bool,
-) -> Result<Step<'a, 'b>, Refusal>
+) -> Result<Step<'a, 'b>, AllocError>
     requires first { NoneIsEmpty (operations_left first) }
     requires second { NoneIsEmpty (operation_of_part two ∷ rest.now) }
     ensures step { IfOk result
         (IsStepOf (operations_left first.entry) (operation_of_part two.entry ∷ rest.entry.now) priority) }
-    ensures only { IsOkUnless result Refusal.NoMemory }
 {
     let Some((one, others)) = first.split_first() else {
         return pass_second(alloc, first, two, rest, priority);
@@ -77,13 +76,12 @@ fn pass_second<'a, 'b>(
     two: Part<'b>,
     rest: &'b [Op],
     priority: bool,
-) -> Result<Step<'a, 'b>, Refusal>
+) -> Result<Step<'a, 'b>, AllocError>
     requires turn { (operations_left first ≡ []) ⊎ ((is_insert (operation_of_part two) ≡ true)
         × ((priority ≡ false) ⊎ ¬ (BeginsWithInsert (operations_left first)))) }
     requires first { NoneIsEmpty (operations_left first) }
     ensures step { IfOk result
         (IsStepOf (operations_left first.entry) (operation_of_part two.entry ∷ rest.entry.now) priority) }
-    ensures only { IsOkUnless result Refusal.NoMemory }
 {
     let copy = two.to_op(alloc)?;
     Ok(Step {
@@ -101,12 +99,11 @@ fn pass_both<'a, 'b>(
     two: Part<'b>,
     rest: &'b [Op],
     priority: bool,
-) -> Result<Step<'a, 'b>, Refusal>
+) -> Result<Step<'a, 'b>, AllocError>
     requires first { is_insert (operation_of_part one) ≡ false }
     requires second { is_insert (operation_of_part two) ≡ false }
     ensures step { IfOk result (IsStepOf
         (operation_of_part one.entry ∷ others.entry.now) (operation_of_part two.entry ∷ rest.entry.now) priority) }
-    ensures only { IsOkUnless result Refusal.NoMemory }
 {
     let len = one.len16().min(two.len16());
     let made = made_of(alloc, one, two, len, priority)?;
@@ -124,10 +121,9 @@ fn made_of(
     two: Part<'_>,
     len: u64,
     priority: bool,
-) -> Result<Option<Op>, Refusal>
+) -> Result<Option<Op>, AllocError>
     ensures made { IfOk result (λ op.
         option_to_list op ≡ made_of (operation_of_part one.entry) (operation_of_part two.entry) len priority) }
-    ensures only { IsOkUnless result Refusal.NoMemory }
 {
     match (one.get(), two.get()) {
         (OpRef::Retain(_, first), OpRef::Retain(_, second)) => {

@@ -55,7 +55,7 @@ fn a_delta_comes_apart(rt: HostRuntime) {
 const LED: &str = "[{\"retain\":3},{\"insert\":\"a\"}]";
 
 fn shared(alloc: Global) -> Result<Delta, Refusal> {
-    delta_of(alloc, LED)?.share(alloc)
+    Ok(delta_of(alloc, LED)?.share(alloc)?)
 }
 
 #[test]

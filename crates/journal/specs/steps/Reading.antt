@@ -3,19 +3,19 @@ use Rattle.std.specs.Prelude.{◌≡◌, ℕ, ◌==◌, ◌&&◌, nat_le, nat_lt
 use Rattle.std.specs.Option.{option_and_then}
 use Rattle.std.specs.Str.{is_utf8}
 use Rattle.std.specs.Int.{Width, w16, byte_len, from_le_bytes}
-use Rattle.journal.specs.declared.batch.unread.Unread.{Unread}
-use Rattle.journal.specs.declared.batch.unread.Unread.TheVariants.{Malformed, NoMemory}
+use Rattle.journal.specs.declared.batch.read_error.ReadError.{ReadError}
+use Rattle.journal.specs.declared.batch.read_error.ReadError.TheVariants.{Malformed, NoMemory}
 
 infixl 10 ◌>>=◌
 abbrev pub ◌>>=◌ : {A B : Type 0} → Option A → (A → Option B) → Option B
 o >>= f = option_and_then f o
 
 -- what a reader answers, seen by view, is what reading gives, unless memory ran out
-abbrev pub Fails : {B : Type 0} → Unread → Option B → Type 0
+abbrev pub Fails : {B : Type 0} → ReadError → Option B → Type 0
 Fails Malformed read = read ≡ None
 Fails NoMemory read = Unit {0}
 
-abbrev pub Gives : {A B : Type 0} → (A → B) → Result A Unread → Option B → Type 0
+abbrev pub Gives : {A B : Type 0} → (A → B) → Result A ReadError → Option B → Type 0
 Gives view (Ok x) read = read ≡ Some (view x)
 Gives view (Err e) read = Fails e read
 

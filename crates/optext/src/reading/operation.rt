@@ -1,7 +1,7 @@
 //! One operation.
 ghost use Rattle.serde_json.specs.View.{view, members_view};
 ghost use Rattle.optext.specs.Answer.{IsRead};
-ghost use Rattle.optext.specs.Described.{data_of, operation_of, operation_by, insert_of, insertion_of, embed_of, retain_of, delete_of, length_of};
+ghost use Rattle.optext.specs.Described.{data_of, operation_of, operation_by, insert_of, embed_of, retain_of, delete_of, length_of};
 
 use crate::reading::maps::{read_attributes, read_changes};
 use crate::reading::values::read_value;

@@ -1,7 +1,5 @@
 //! Values and names of attributes and embeds.
-ghost use Rattle.std.specs.Prelude.{◌≡◌, option_map};
 ghost use Rattle.serde_json.specs.View.{view, number_view};
-ghost use Rattle.serde_json.specs.Find.{as_integer};
 ghost use Rattle.optext.specs.Answer.{IsRead};
 ghost use Rattle.optext.specs.Described.{key_of, scalar_of, change_of, scalar_of_number};
 
@@ -22,7 +20,7 @@ pub(crate) fn read_value(alloc: Global, value: &Json) -> Result<Value, Refusal>
     ensures { IsRead (scalar_of (view value.now)) result }
 {
     match value {
-        Json::String(text) => Value::text(alloc, text.as_str()),
+        Json::String(text) => Ok(Value::text(alloc, text.as_str())?),
         Json::Number(number) => read_whole(number),
         Json::Bool(flag) => Ok(Value::flag(*flag)),
         Json::Null | Json::Array(_) | Json::Object(_) => Err(Refusal::BadOps),

@@ -1,21 +1,18 @@
 -- Making room in a full journal: the steps on the way to where nothing needs the oldest segment.
-use Rattle.std.specs.Prelude.{◌≡◌, ◌≢◌, ◌⊎◌, ℕ, ◌+◌, ◌-◌, ◌*◌, ◌≤◌, ◌<◌, nat_lt, true, Option, List, [], ◌∷◌, length, take, get_or, filter, slice_get}
+use Rattle.std.specs.Prelude.{◌≡◌, ◌≢◌, ◌⊎◌, ℕ, ◌+◌, ◌-◌, ◌*◌, ◌≤◌, ◌<◌, nat_lt, true, List, [], ◌∷◌, ◌++◌, length, take, get_or, filter, slice_get}
 use Rattle.disk.specs.declared.device.Disk.{Ghosts}
 use Rattle.disk.specs.Counted.{synced_moments}
 use Rattle.disk.specs.Crash.{history_of}
 use Rattle.revision.specs.State.{State, newest_revision}
-use Rattle.history.specs.Cell.{Pair, cells_at}
-use Rattle.segments.specs.Slot.{Segment}
-use Rattle.segments.specs.Table.{IsRetired}
+use Rattle.history.specs.Cell.{cells_at}
 use Rattle.recovery.specs.declared.group.Member.{Member}
 use Rattle.recovery.specs.declared.marks.Mark.{Mark}
 use Rattle.recovery.specs.declared.store.Store.{Store}
 use Rattle.recovery.specs.Freed.{bytes_below, most_bytes}
 use Rattle.recovery.specs.Jobs.{jobs_for}
-use Rattle.recovery.specs.Marked.{MayRetire}
 use Rattle.recovery.specs.Marks.{greatest_marked}
 use Rattle.recovery.specs.Open.{IsOpen, IsLeft, IsRaised, AreBothNewest, device_of, state_of, ring_of, known_marks, kept_jobs}
-use Rattle.recovery.specs.steps.Group.{is_in, IsGroup}
+use Rattle.recovery.specs.steps.Group.{SameOutsideCells, is_in, IsGroup}
 
 -- the newest revision of a document, by its number
 abbrev pub reached_in : State → ℕ → ℕ
@@ -38,6 +35,10 @@ abbrev pub bytes_of : List Member → ℕ
 bytes_of [] = 0
 bytes_of (member ∷ members) = length member.bytes.items + bytes_of members
 
+-- Members have little memory: all of them but the last have fewer bytes than fill a group.
+abbrev pub AreBounded : List Member → Type 0
+AreBounded members = (front : List Member) (last : Member) → members ≡ front ++ last ∷ [] → bytes_of front < most_bytes
+
 -- The documents below `from` are covered by so many groups. Each group before the last was full, and the last one too, while documents are
 -- left.
 pub record AreFull (marked : List ℕ) (state : State) (from groups : ℕ) : Type 0 where
@@ -55,6 +56,11 @@ module _ {D : Type 0} {disk : Ghosts D} where
     pub state : state_of new ≡ state_of old
     pub ring : ring_of new ≡ ring_of old
     pub marks : known_marks new ≡ known_marks old
+
+  -- calls that change cells alone, whatever the device holds
+  pub record ChangesCells (old new : Store D disk) : Type 0 where
+    pub shape : new.shape ≡ old.shape
+    pub outside : SameOutsideCells old.shape (disk.seen (device_of old)) (disk.seen (device_of new))
 
   -- The members are the newest milestones of the marked documents from one number up to another.
   pub record IsGathered (marked : List ℕ) (from end : ℕ) (members : List Member) (store : Store D disk) : Type 0 where

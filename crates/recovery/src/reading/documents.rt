@@ -1,5 +1,6 @@
 //! The documents of a device, read one after the other in order of their numbers.
-ghost use Rattle.std.specs.Prelude.{◌≡◌, ◌⊎◌, ◌≤◌, ◌<◌, ◌+◌, ◌*◌, true, List, ℕ, length, OnOk, IfOk, IfErr};
+ghost use Rattle.std.specs.Prelude.{◌≡◌, ◌≤◌, ◌<◌, ◌+◌, ◌*◌, true, List, ℕ, length, OnOk, IfOk, IfErr, [], ◌∷◌};
+ghost use Rattle.refusal.specs.Refusal.{IsOneOf};
 ghost use Rattle.disk.specs.Calls.{HasOnlyRead, CountsFaultsAs};
 ghost use Rattle.revision.specs.Command.{Taken as TakenValue};
 ghost use Rattle.revision.specs.State.{State as StateValue};
@@ -54,7 +55,7 @@ pub(super) fn read_documents<D: Disk>(
         → (pairs : List Pair) → HoldsCellsIn format (D.seen disk.old) shape.now pairs
         → (all : List TakenValue) → AreByDocument all (lists_of entries.items)
         → (found : StateValue) → ¬ StandFor (limits_in format shape.now) pairs all pick found) }
-    ensures only { IfErr result (λ e. (e ≡ Refusal.Damaged) ⊎ ((e ≡ Refusal.NoMemory) ⊎ (e ≡ Refusal.Fault))) }
+    ensures only { IfErr result (λ e. IsOneOf e (Refusal.Damaged ∷ Refusal.NoMemory ∷ Refusal.Fault ∷ [])) }
     ensures only_read { HasOnlyRead ⟦<D as Disk>⟧ disk.old disk.new }
     ensures faults { CountsFaultsAs ⟦<D as Disk>⟧ Refusal.Fault result disk.old disk.new }
 {
@@ -90,7 +91,7 @@ impl ReadDocuments {
             (length self.old.cells.items) (D.seen disk.old) pair
             → (after : StateValue)
             → ¬ IsDocumentRead (length self.old.cells.items) (picked pick pair) entries.items self.old.state after) }
-        ensures only { IfErr result (λ e. (e ≡ Refusal.Damaged) ⊎ ((e ≡ Refusal.NoMemory) ⊎ (e ≡ Refusal.Fault))) }
+        ensures only { IfErr result (λ e. IsOneOf e (Refusal.Damaged ∷ Refusal.NoMemory ∷ Refusal.Fault ∷ [])) }
         ensures only_read { HasOnlyRead ⟦<D as Disk>⟧ disk.old disk.new }
         ensures faults { CountsFaultsAs ⟦<D as Disk>⟧ Refusal.Fault result disk.old disk.new }
     {
@@ -127,7 +128,7 @@ fn read_cells<D: Disk>(
     ensures cells { IfOk result (λ read. IsCellsOf shape.now number read.cells) }
     ensures damaged { IfErr result (λ e. e ≡ Refusal.Damaged → D.honest disk.new
         → (pair : Pair) → ¬ HoldsPairIn format (cells_place shape.now number) shape.now.cell number (D.seen disk.old) pair) }
-    ensures only { IfErr result (λ e. (e ≡ Refusal.Damaged) ⊎ ((e ≡ Refusal.NoMemory) ⊎ (e ≡ Refusal.Fault))) }
+    ensures only { IfErr result (λ e. IsOneOf e (Refusal.Damaged ∷ Refusal.NoMemory ∷ Refusal.Fault ∷ [])) }
     ensures only_read { HasOnlyRead ⟦<D as Disk>⟧ disk.old disk.new }
     ensures faults { CountsFaultsAs ⟦<D as Disk>⟧ Refusal.Fault result disk.old disk.new }
 {

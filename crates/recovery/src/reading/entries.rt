@@ -1,5 +1,5 @@
 //! The entries of the slots, gathered by their documents, and marked by their segments.
-ghost use Rattle.std.specs.Prelude.{◌≡◌, ◌↔◌, ◌⊎◌, ◌≤◌, ◌<◌, ℕ, List, Option, [], ◌∷◌, ◌++◌, length, map, set, get_or, false, true, IsTrue, OnOk, IfOk, IfErr, IsOkUnless};
+ghost use Rattle.std.specs.Prelude.{◌≡◌, ◌↔◌, ◌⊎◌, ◌≤◌, ◌<◌, List, Option, [], ◌∷◌, ◌++◌, length, map, set, get_or, false, true, IsTrue, OnOk, IfOk, IfErr};
 ghost use Rattle.revision.specs.Command.{Taken as TakenValue, edits as spec_edits};
 ghost use Rattle.journal.specs.Scan.{items_of};
 ghost use Rattle.segments.specs.Slot.{Segment};
@@ -18,7 +18,7 @@ use milestone::Format;
 use refusal::Refusal;
 use revision::{Step, Taken};
 use segments::RecoveredSegment;
-use std::alloc::Global;
+use std::alloc::{AllocError, Global};
 
 /// What was gathered: the commands of each document number in order, and the marks of the segments.
 #[derive(Drop)]
@@ -103,10 +103,9 @@ fn edits(step: Step) -> bool
 }
 
 // So many lists without a command.
-fn empty_lists(alloc: Global, count: u32) -> Result<Vec<Vec<Taken>>, Refusal>
+fn empty_lists(alloc: Global, count: u32) -> Result<Vec<Vec<Taken>>, AllocError>
     ensures empty { IfOk result (λ lists. AreByDocument [] (lists_of lists.items)) }
     ensures count { IfOk result (λ lists. length lists.items ≡ count) }
-    ensures only { IfErr result (λ e. e ≡ Refusal.NoMemory) }
 {
     let mut lists = Vec::new(alloc);
     for _ in 0..count {
@@ -143,9 +142,8 @@ fn add_bodies(
 }
 
 // Marks the commands of a batch that a segment holds. Refused as out of memory alone.
-fn mark_batch(marks: &mut Marks, number: u64, batch: &[Taken]) -> Result<(), Refusal>
+fn mark_batch(marks: &mut Marks, number: u64, batch: &[Taken]) -> Result<(), AllocError>
     ensures noted { OnOk result (IsNoted number batch.now (marks_of marks.old) (marks_of marks.new)) }
-    ensures only { IsOkUnless result Refusal.NoMemory }
 {
     marks.make_room(batch)?;
     marks.note(number, batch);

@@ -56,7 +56,7 @@ pub(super) fn read_document(
         return Err(Refusal::Damaged);
     }
     let unread = enter(alloc, state, cell, entries)?;
-    match state.absorb_all_given(alloc, unread) {
+    match state.absorb_all_owned(alloc, unread) {
         Err(Refusal::Stranger) => Err(Refusal::Damaged),
         other => other,
     }

@@ -1,6 +1,6 @@
 -- An action of the program as what it asks for.
-use Rattle.revision.specs.declared.command.Action as program
-use Rattle.revision.specs.declared.command.Action.TheVariants as variants
+use Rattle.revision.specs.declared.rule.command.Action as program
+use Rattle.revision.specs.declared.rule.command.Action.TheVariants as variants
 use Rattle.revision.specs.Command.{Action, Create, Edit, Undo, Delete}
 
 abbrev pub action_of : program.Action → Action

@@ -1,7 +1,7 @@
 -- The documents of the program, without where they lie in memory.
 use Rattle.std.specs.Prelude.{◌≡◌, ◌⊎◌, ◌≤◌, ℕ, List, [], Some, length, take, map, slice_get}
 use Rattle.std.specs.BTreeMap.{get_by_text}
-use Rattle.revision.specs.declared.documents.Documents.TheInside.{Inside}
+use Rattle.revision.specs.declared.past.documents.Documents.TheInside.{Inside}
 use Rattle.revision.specs.steps.ChangedAt.{IsAmong}
 use Rattle.revision.specs.Documents.{PreparedState}
 use Rattle.revision.specs.steps.Index.{IsIndex, NoneTwice}

@@ -1,5 +1,5 @@
 -- Limits of the program, without where they lie in memory.
-use Rattle.revision.specs.declared.limits.Limits.TheInside.{Inside}
+use Rattle.revision.specs.declared.rule.limits.Limits.TheInside.{Inside}
 use Rattle.revision.specs.State.{Limits}
 
 abbrev pub limits_of : Inside → Limits

@@ -1,5 +1,5 @@
 -- A command that was taken, without where it lies in memory.
-use Rattle.revision.specs.declared.taken.Taken.TheInside.{Inside}
+use Rattle.revision.specs.declared.rule.taken.Taken.TheInside.{Inside}
 use Rattle.revision.specs.Command.{Taken}
 
 abbrev pub taken_of : Inside → Taken

@@ -2,7 +2,7 @@
 use Rattle.std.specs.Prelude.{ℕ, zero, suc, ◌+◌, Bool, true, false, List, [], ◌∷◌}
 use Rattle.revision.specs.Command.{Step, Edits, Deletes, Revives}
 use Rattle.revision.specs.Past.{live_after}
-use Rattle.revision.specs.declared.taker.Taker.{Taker}
+use Rattle.revision.specs.declared.rule.taker.Taker.{Taker}
 
 -- the place of a change, counted from 1, by that of what comes later, counted from there: its own where nothing does, unless it edits
 abbrev pub turn_or : ℕ → Step → ℕ
@@ -12,14 +12,14 @@ turn_or zero Deletes = 1
 turn_or zero Revives = 1
 
 -- how many of the changes there are up to the last that deletes the document or creates it again, 0 where there is none
-abbrev pub steps_up_to_turn : List Taker → ℕ
-steps_up_to_turn [] = 0
-steps_up_to_turn (first ∷ others) = turn_or (steps_up_to_turn others) first.step
+abbrev pub steps_to_last_reset : List Taker → ℕ
+steps_to_last_reset [] = 0
+steps_to_last_reset (first ∷ others) = turn_or (steps_to_last_reset others) first.step
 
 -- the floor by the last step that isn't an edit
-abbrev pub turned_floor : ℕ → ℕ → ℕ → ℕ
-turned_floor newest floor zero = floor
-turned_floor newest floor (suc turns) = newest + suc turns
+abbrev pub floor_after_reset : ℕ → ℕ → ℕ → ℕ
+floor_after_reset newest floor zero = floor
+floor_after_reset newest floor (suc turns) = newest + suc turns
 
 -- whether the document is live after changes
 abbrev pub live_after_takers : Bool → List Taker → Bool

@@ -4,7 +4,7 @@ use disk::{Disk, FaultDisk, FaultPlan, Left};
 use recovery::Store;
 use refusal::Refusal;
 use server_threads::serve_streams;
-use serving::Failure;
+use serving::ServingError;
 use session::Stream;
 use std::io::{self, ErrorKind, Write};
 use std::process::Abort;
@@ -69,7 +69,7 @@ fn answered<R: Threads + Wait + Abort + AllocGlobal + Sync, D: Disk + Send + Dro
     rt: &R,
     store: Store<D>,
     lines: &str,
-) -> (Store<D>, Result<(), Failure>, String) {
+) -> (Store<D>, Result<(), ServingError>, String) {
     let output = Stream::new(Vec::new(rt.alloc()));
     let seen = Seen::new();
     let streamed = serve_streams(
@@ -111,7 +111,7 @@ fn a_failing_device_is_told_and_what_was_acknowledged_is_kept(rt: HostRuntime) {
     let plan = FaultPlan::fail(calls_before_the_edit(&rt), Left::Nothing);
     let store = opened(&rt, FaultDisk::new(formatted(&rt), plan));
     let (store, served, written) = answered(&rt, store, LINES);
-    assert!(&rt; matches!(served, Err(Failure::Refused(Refusal::StoreFailed))));
+    assert!(&rt; matches!(served, Err(ServingError::Refused(Refusal::StoreFailed))));
     assert_eq!(&rt; written.as_str(), FAILED);
     let store = opened(&rt, store.close());
     assert_eq!(&rt; store.state().documents().len(), 1);
@@ -128,5 +128,5 @@ fn an_output_that_fails_ends_the_session(rt: HostRuntime) {
         EVERY,
         &Seen::new(),
     );
-    assert!(&rt; matches!(streamed.served, Err(Failure::Stream)));
+    assert!(&rt; matches!(streamed.served, Err(ServingError::Stream)));
 }

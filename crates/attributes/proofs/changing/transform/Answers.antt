@@ -22,8 +22,10 @@ loop-key-preserved c =
       | else-not-contains w ↦ w.after-is ∙ (c.loop-key.invariant ∙ (ap choice (sym w.if-not-contains.false ∙ known) ∙ more))
     ]
 
-pub returns-clause-value : goal.returns-clause-value
-returns-clause-value c =
-    c.loop-key.invariant
-    ∙ (ap (λ m. without m c.args.first.now) (prefix-over c.args.second.now _ c.loop-key.key-index c.entries-key-items.ensures c.loop-key.auto.key-index-end c.loop-key-test.false)
-    ∙ ap (transformed c.args.first.now c.args.second.now) (sym c.if-not-priority.false))
+pub returns : goal.returns
+returns c = record {
+  value =
+      c.loop-key.invariant
+      ∙ (ap (λ m. without m c.args.first.now) (prefix-over c.args.second.now _ c.loop-key.key-index c.entries-key-items.ensures c.loop-key.auto.key-index-end c.loop-key-test.false)
+      ∙ ap (transformed c.args.first.now c.args.second.now) (sym c.if-not-priority.false));
+}

@@ -23,4 +23,4 @@ returns-in_err-add c =
 pub returns : goal.returns
 returns c =
     let so = subst (λ (l : List Operation). Appends c.args.out (operations_left c.args.rest) c.loop-op.out l) c.in_default.ensures c.loop-op.invariant in
-    outcome c.finish-delta.result c.args.out c.loop-op.out (operations_left c.args.rest) so c.finish-delta.ensures c.ops.ensures.bounded
+    outcome c.finish-delta.result c.args.out c.loop-op.out (operations_left c.args.rest) so c.finish-delta.ensures c.facts.ensures.bounded

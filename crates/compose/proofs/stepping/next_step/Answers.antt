@@ -12,10 +12,6 @@ pass_second-requires-clause-second c = subst IsNormal c.in-Some.ensures c.requir
 pub meet-requires-clause-second : goal.meet-requires-clause-second
 meet-requires-clause-second c = subst IsNormal c.in-Some.ensures c.requires.second
 
-pub returns-then-is_insert-clause-step : goal.returns-then-is_insert-clause-step
-returns-then-is_insert-clause-step c =
-    subst (λ (l : List Operation). IfOk c.pass_second.result (IsStepOf (operation_of_part c.args.op ∷ c.args.tail.now) l)) (sym c.in-Some.ensures) c.pass_second.ensures.step
-
 pub returns-else-is_insert-clause-step : goal.returns-else-is_insert-clause-step
 returns-else-is_insert-clause-step c =
     subst (λ (l : List Operation). IfOk c.meet.result (IsStepOf (operation_of_part c.args.op ∷ c.args.tail.now) l)) (sym c.in-Some.ensures) c.meet.ensures.step

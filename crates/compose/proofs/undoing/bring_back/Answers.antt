@@ -45,9 +45,11 @@ loop-len-preserved c =
       whole = left_whole _ _ step.taken len (len - more) step.parts (omega (arith, step.count, count, some)) so.whole;
     }
 
-pub returns-clause-back : goal.returns-clause-back
-returns-clause-back c =
-    let op = c.args.op.now in
-    let none = c.loop-len-test.false in
-    subst (λ o. IsTakenBack c.args.left.now c.loop-len.left o c.args.made.now c.loop-len.made)
-    (whole_units op (op_base op - c.loop-len.len) c.requires.stands (omega (arith, none))) c.loop-len.invariant.back
+pub returns : goal.returns
+returns c = record {
+  back =
+      let op = c.args.op.now in
+      let none = c.loop-len-test.false in
+      subst (λ o. IsTakenBack c.args.left.now c.loop-len.left o c.args.made.now c.loop-len.made)
+      (whole_units op (op_base op - c.loop-len.len) c.requires.stands (omega (arith, none))) c.loop-len.invariant.back;
+}

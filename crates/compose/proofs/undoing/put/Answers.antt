@@ -18,8 +18,8 @@ pub returns-in-Ok-clause-out : goal.returns-in-Ok-clause-out
 returns-in-Ok-clause-out c =
     omega (arith, ap out_of c.in-Ok.ensures.ok, (lengths-built (c.args.made.now ++ c.args.op ∷ [])).1, out_of-append c.args.made.now (c.args.op ∷ []))
 
-pub returns-in-Err-clause-only : goal.returns-in-Err-clause-only
-returns-in-Err-clause-only c =
+pub as_alloc_error-requires : goal.as_alloc_error-requires
+as_alloc_error-requires c =
     let bounded : IsBounded (c.args.made.now ++ c.args.op ∷ []) = record {
       base = omega (arith, base_of-append c.args.made.now (c.args.op ∷ []), c.requires.base);
       out = omega (arith, out_of-append c.args.made.now (c.args.op ∷ []), c.requires.out);

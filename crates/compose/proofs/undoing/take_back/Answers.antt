@@ -12,8 +12,10 @@ put-requires c =
       out = omega (arith, ap op_out c.delete.ensures, lens.1, c.requires.out);
     }
 
-pub returns-then-is_insert-clause-back : goal.returns-then-is_insert-clause-back
-returns-then-is_insert-clause-back c =
-    let inserts : is_insert c.args.op.now ≡ true = sym c.is_insert.ensures ∙ c.if-is_insert.true in
-    one_back _ _ [] c.args.op.now c.delete.result _ _ refl (out-len c.args.op.now inserts).1 (insert_back c.args.op.now c.delete.result c.len16.result inserts c.len16.ensures c.delete.ensures)
-    c.in_ok-put.ensures.added c.in_ok-put.ensures.base c.in_ok-put.ensures.out
+pub returns-then-is_insert : goal.returns-then-is_insert
+returns-then-is_insert c = record {
+  back =
+      let inserts : is_insert c.args.op.now ≡ true = sym c.is_insert.ensures ∙ c.if-is_insert.true in
+      one_back _ _ [] c.args.op.now c.delete.result _ _ refl (out-len c.args.op.now inserts).1 (insert_back c.args.op.now c.delete.result c.len16.result inserts c.len16.ensures c.delete.ensures)
+      c.in_ok-put.ensures.added c.in_ok-put.ensures.base c.in_ok-put.ensures.out;
+}

@@ -32,8 +32,10 @@ loop-op-preserved c =
     let here = drop-here ops i op c.loop-op-test.true c.op-item.is in
     back-next c.args.document.now c.loop-op.left c.args.delta.now (drop i ops) (drop (i + 1) ops) c.loop-op.made op c.loop-op.invariant here _ _ c.in_ok-take_back.ensures.back
 
-pub returns-clause-one : goal.returns-clause-one
-returns-clause-one c =
-    let ops = c.ops-ops.result.now in
-    let none = drop_all c.loop-op.op-index ops c.loop-op-test.false in
-    c.finish.ensures ∙ back-end c.args.document.now c.loop-op.left c.args.delta.now (drop c.loop-op.op-index ops) c.loop-op.made c.loop-op.invariant none
+pub returns : goal.returns
+returns c = record {
+  one =
+      let ops = c.ops-ops.result.now in
+      let none = drop_all c.loop-op.op-index ops c.loop-op-test.false in
+      c.finish.ensures ∙ back-end c.args.document.now c.loop-op.left c.args.delta.now (drop c.loop-op.op-index ops) c.loop-op.made c.loop-op.invariant none;
+}

@@ -6,7 +6,6 @@ use Rattle.document.specs.steps.Weighing.{IsExchanged}
 use Rattle.document.proofs.Exchanged.{exchanged_more, exchanged_whole, rest_within, length_ahead}
 use Rattle.document.proofs.Progress.{drop-here, take-here, lengths-split, parts_before}
 use Rattle.document.proofs.reweighing.reweighed.Goals as goal
-use Rattle.document.proofs.reweighing.reweighed.Goals.{After-exchange-less}
 
 pub exchange-less-requires-clause-bound : goal.exchange-less-requires-clause-bound
 exchange-less-requires-clause-bound c = omega (arith, rest_within _ _ _ _ _ c.loop-op.invariant.done, c.requires.weight, c.requires.below)

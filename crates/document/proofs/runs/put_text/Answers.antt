@@ -6,7 +6,6 @@ use Rattle.document.proofs.Letters.{length-letters, text_attributes-letters}
 use Rattle.document.proofs.Characters.{IsWellFormed-text}
 use Rattle.document.proofs.Ended.{units_more, AreRuns-one_more, apart_from_text, units-taken, AreRuns-taken, on_true, on_false}
 use Rattle.document.proofs.runs.put_text.Goals as goal
-use Rattle.document.proofs.runs.put_text.Goals.{In_ok-push}
 
 pub returns-then-branch-clause-ok : goal.returns-then-branch-clause-ok
 returns-then-branch-clause-ok c =

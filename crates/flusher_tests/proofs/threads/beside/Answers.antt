@@ -5,5 +5,5 @@ use Rattle.flusher_tests.proofs.threads.beside.Goals as goal
 
 pub join-held-requires-send-F : goal.join-held-requires-send-F
 join-held-requires-send-F g c κs within =
-    let s = c.type_bounds.send-J in let y = c.type_bounds.sync-J in let r = c.type_bounds.sync-R in
+    let s = c.type_bounds.send-L in let y = c.type_bounds.sync-L in let r = c.type_bounds.sync-R in
     search (seat_send, closer_send, hub_sync, sendable, crosses) depth 60 fits 20000

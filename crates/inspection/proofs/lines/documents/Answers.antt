@@ -1,4 +1,4 @@
-use Rattle.std.proofs.Common.{◌≡◌, ◌<◌, ◌^◌, ◌∙◌, sym, ap, subst, length, get_or, List, ℕ, rules}
+use Rattle.std.proofs.Common.{◌≡◌, ◌<◌, ◌^◌, ◌∙◌, sym, ap, subst, length, get_or, List, rules}
 use Rattle.std.specs.Prelude.{slice_get}
 use Rattle.revision.specs.Invariants.{IsPast}
 use Rattle.revision.specs.State.{DocumentRecord, Limits}

@@ -9,7 +9,7 @@ ghost use Rattle.journal.specs.steps.DeltaReading.{delta_at};
 use super::normal_form::delta_of_ops;
 use super::number32;
 use super::operations::operations;
-use crate::batch::unread::Unread;
+use crate::batch::read_error::ReadError;
 use delta::Delta;
 use std::alloc::{AllocError, Global};
 
@@ -23,13 +23,13 @@ pub fn read_delta(alloc: Global, bytes: &[u8]) -> Result<Option<(Delta, &[u8])>,
 {
     match delta_in(alloc, bytes) {
         Ok((delta, rest)) => Ok(Some((delta, rest))),
-        Err(Unread::Malformed) => Ok(None),
-        Err(Unread::NoMemory) => Err(AllocError),
+        Err(ReadError::Malformed) => Ok(None),
+        Err(ReadError::NoMemory) => Err(AllocError),
     }
 }
 
 /// The delta, which has a spelling, with the bytes behind it.
-pub(super) fn delta(alloc: Global, bytes: &[u8]) -> Result<(Delta, &[u8]), Unread>
+pub(super) fn delta(alloc: Global, bytes: &[u8]) -> Result<(Delta, &[u8]), ReadError>
     ensures read { Gives (λ x. (x.0, x.1.now)) result (delta_at bytes.now) }
     ensures spellable { IfOk result (λ x. IsSpellable x.0) }
 {
@@ -38,7 +38,7 @@ pub(super) fn delta(alloc: Global, bytes: &[u8]) -> Result<(Delta, &[u8]), Unrea
 }
 
 #[tactic(auto, unfolding(crate::specs::steps::DeltaReading::delta_at))]
-fn delta_in(alloc: Global, bytes: &[u8]) -> Result<(Delta, &[u8]), Unread>
+fn delta_in(alloc: Global, bytes: &[u8]) -> Result<(Delta, &[u8]), ReadError>
     ensures { Gives (λ x. (x.0, x.1.now)) result (delta_at bytes.now) }
 {
     let (count, rest) = number32(bytes)?;
@@ -48,12 +48,12 @@ fn delta_in(alloc: Global, bytes: &[u8]) -> Result<(Delta, &[u8]), Unread>
 }
 
 // An equal delta, whose copies share its operations: a state that is opened is copied for those who order and who read.
-fn shared(alloc: Global, delta: Delta) -> Result<Delta, Unread>
+fn shared(alloc: Global, delta: Delta) -> Result<Delta, ReadError>
     ensures same { IfOk result (λ shared. shared ≡ delta) }
-    ensures only { IsOkUnless result Unread.NoMemory }
+    ensures only { IsOkUnless result ReadError.NoMemory }
 {
     match delta.share(alloc) {
         Ok(shared) => Ok(shared),
-        Err(_) => Err(Unread::NoMemory),
+        Err(_) => Err(ReadError::NoMemory),
     }
 }

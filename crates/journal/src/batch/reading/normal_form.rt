@@ -1,24 +1,24 @@
 //! The delta of operations that are in normal form.
-ghost use Rattle.std.specs.Prelude.{◌≡◌, ◌++◌, [], ◌∷◌, true, nat_lt, OnOk, IfErr};
-ghost use Rattle.delta.specs.Operation.{op_len, is_plain, is_bounded, IsBounded};
-ghost use Rattle.delta.specs.Normal.{may_precede, built};
+ghost use Rattle.std.specs.Prelude.{◌≡◌, [], true, nat_lt};
+ghost use Rattle.delta.specs.Operation.{op_len, is_plain};
+ghost use Rattle.delta.specs.Normal.{may_precede};
 ghost use Rattle.journal.specs.steps.Reading.{Gives};
 ghost use Rattle.journal.specs.steps.DeltaReading.{begins_normal, is_normal, delta_of};
 
-use crate::batch::unread::Unread;
+use crate::batch::read_error::ReadError;
 use delta::{Delta, Op, OpRef};
 
 /// The delta of these operations, where they are in normal form and within the bound.
 #[tactic(auto, unfolding(crate::specs::steps::DeltaReading::delta_of))]
-pub(super) fn delta_of_ops(ops: Vec<Op>) -> Result<Delta, Unread>
+pub(super) fn delta_of_ops(ops: Vec<Op>) -> Result<Delta, ReadError>
     ensures { Gives (λ x. x) result (delta_of ops.items) }
 {
     if !has_normal_form(ops.as_slice()) {
-        return Err(Unread::Malformed);
+        return Err(ReadError::Malformed);
     }
     match Delta::from_normal(ops) {
         Ok(delta) => Ok(delta),
-        Err(_) => Err(Unread::Malformed),
+        Err(_) => Err(ReadError::Malformed),
     }
 }
 

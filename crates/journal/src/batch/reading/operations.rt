@@ -6,7 +6,7 @@ ghost use Rattle.journal.specs.steps.DeltaReading.{text_insert_at, embed_insert_
 use super::pairs::{attributes, change, name};
 use super::values::value;
 use super::{byte, number64, text32};
-use crate::batch::unread::Unread;
+use crate::batch::read_error::ReadError;
 use delta::Op;
 use refusal::Refusal;
 use std::alloc::Global;
@@ -19,7 +19,7 @@ pub(super) fn operations(
     alloc: Global,
     count: u32,
     bytes: &[u8],
-) -> Result<(Vec<Op>, &[u8]), Unread>
+) -> Result<(Vec<Op>, &[u8]), ReadError>
     ensures { Gives (λ x. (x.0.items, x.1.now)) result (operations_at count [] bytes.now) }
 {
     let mut ops = Vec::with_capacity(alloc, (count as usize).min(bytes.len() / LEAST_OPERATION))?;
@@ -33,7 +33,7 @@ pub(super) fn operations(
 }
 
 #[tactic(auto, unfolding(crate::specs::steps::DeltaReading::operation_at))]
-fn operation(alloc: Global, bytes: &[u8]) -> Result<(Op, &[u8]), Unread>
+fn operation(alloc: Global, bytes: &[u8]) -> Result<(Op, &[u8]), ReadError>
     ensures { Gives (λ x. (x.0, x.1.now)) result (operation_at bytes.now) }
 {
     let (tag, rest) = byte(bytes)?;
@@ -41,7 +41,7 @@ fn operation(alloc: Global, bytes: &[u8]) -> Result<(Op, &[u8]), Unread>
 }
 
 #[tactic(auto, unfolding(crate::specs::steps::DeltaReading::operation_behind))]
-fn operation_of_tag(alloc: Global, tag: u8, bytes: &[u8]) -> Result<(Op, &[u8]), Unread>
+fn operation_of_tag(alloc: Global, tag: u8, bytes: &[u8]) -> Result<(Op, &[u8]), ReadError>
     ensures { Gives (λ x. (x.0, x.1.now)) result (operation_behind tag bytes.now) }
 {
     match tag {
@@ -49,12 +49,12 @@ fn operation_of_tag(alloc: Global, tag: u8, bytes: &[u8]) -> Result<(Op, &[u8]),
         2 => embed_insert(alloc, bytes),
         3 => retain(alloc, bytes),
         4 => delete(bytes),
-        _ => Err(Unread::Malformed),
+        _ => Err(ReadError::Malformed),
     }
 }
 
 #[tactic(auto, unfolding(crate::specs::steps::DeltaReading::text_insert_at))]
-fn text_insert(alloc: Global, bytes: &[u8]) -> Result<(Op, &[u8]), Unread>
+fn text_insert(alloc: Global, bytes: &[u8]) -> Result<(Op, &[u8]), ReadError>
     ensures { Gives (λ x. (x.0, x.1.now)) result (text_insert_at bytes.now) }
 {
     let (text, rest) = text32(bytes)?;
@@ -64,7 +64,7 @@ fn text_insert(alloc: Global, bytes: &[u8]) -> Result<(Op, &[u8]), Unread>
 }
 
 #[tactic(auto, unfolding(crate::specs::steps::DeltaReading::embed_insert_at))]
-fn embed_insert(alloc: Global, bytes: &[u8]) -> Result<(Op, &[u8]), Unread>
+fn embed_insert(alloc: Global, bytes: &[u8]) -> Result<(Op, &[u8]), ReadError>
     ensures { Gives (λ x. (x.0, x.1.now)) result (embed_insert_at bytes.now) }
 {
     let (name, rest) = name(bytes)?;
@@ -72,13 +72,13 @@ fn embed_insert(alloc: Global, bytes: &[u8]) -> Result<(Op, &[u8]), Unread>
     let (attrs, rest) = attributes(alloc, rest)?;
     match Op::embed(alloc, name, value, attrs) {
         Ok(op) => Ok((op, rest)),
-        Err(Refusal::NoMemory) => Err(Unread::NoMemory),
+        Err(Refusal::NoMemory) => Err(ReadError::NoMemory),
         Err(_) => unreachable!(),
     }
 }
 
 #[tactic(auto, unfolding(crate::specs::steps::DeltaReading::retain_at))]
-fn retain(alloc: Global, bytes: &[u8]) -> Result<(Op, &[u8]), Unread>
+fn retain(alloc: Global, bytes: &[u8]) -> Result<(Op, &[u8]), ReadError>
     ensures { Gives (λ x. (x.0, x.1.now)) result (retain_at bytes.now) }
 {
     let (len, rest) = number64(bytes)?;
@@ -87,7 +87,7 @@ fn retain(alloc: Global, bytes: &[u8]) -> Result<(Op, &[u8]), Unread>
 }
 
 #[tactic(auto, unfolding(crate::specs::steps::DeltaReading::delete_at))]
-fn delete(bytes: &[u8]) -> Result<(Op, &[u8]), Unread>
+fn delete(bytes: &[u8]) -> Result<(Op, &[u8]), ReadError>
     ensures { Gives (λ x. (x.0, x.1.now)) result (delete_at bytes.now) }
 {
     let (len, rest) = number64(bytes)?;

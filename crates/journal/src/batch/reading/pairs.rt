@@ -7,7 +7,7 @@ ghost use Rattle.journal.specs.steps.DeltaReading.{key_at, key_above, pair_at, p
 
 use super::values::{new_value, value};
 use super::{number32, text16};
-use crate::batch::unread::Unread;
+use crate::batch::read_error::ReadError;
 use attributes::{Attrs, Change, Key, Value};
 use refusal::Refusal;
 use std::alloc::Global;
@@ -18,7 +18,7 @@ const MAX_NAME: usize = 64;
 
 /// Attributes.
 #[tactic(auto, unfolding(crate::specs::steps::DeltaReading::attributes_at))]
-pub(super) fn attributes(alloc: Global, bytes: &[u8]) -> Result<(Attrs, &[u8]), Unread>
+pub(super) fn attributes(alloc: Global, bytes: &[u8]) -> Result<(Attrs, &[u8]), ReadError>
     ensures { Gives (λ x. (x.0, x.1.now)) result (attributes_at bytes.now) }
 {
     let (count, rest) = number32(bytes)?;
@@ -27,14 +27,14 @@ pub(super) fn attributes(alloc: Global, bytes: &[u8]) -> Result<(Attrs, &[u8]), 
 
 /// A change.
 #[tactic(auto, unfolding(crate::specs::steps::DeltaReading::change_at))]
-pub(super) fn change(alloc: Global, bytes: &[u8]) -> Result<(Change, &[u8]), Unread>
+pub(super) fn change(alloc: Global, bytes: &[u8]) -> Result<(Change, &[u8]), ReadError>
     ensures { Gives (λ x. (x.0, x.1.now)) result (change_at bytes.now) }
 {
     let (count, rest) = number32(bytes)?;
     change_pairs(alloc, count, rest)
 }
 
-fn attribute_pairs(alloc: Global, count: u32, bytes: &[u8]) -> Result<(Attrs, &[u8]), Unread>
+fn attribute_pairs(alloc: Global, count: u32, bytes: &[u8]) -> Result<(Attrs, &[u8]), ReadError>
     ensures { Gives (λ x. (x.0, x.1.now)) result (pairs_at value_at count [] empty bytes.now) }
 {
     let mut attrs = Attrs::new(alloc);
@@ -49,7 +49,7 @@ fn attribute_pairs(alloc: Global, count: u32, bytes: &[u8]) -> Result<(Attrs, &[
     Ok((attrs, rest))
 }
 
-fn change_pairs(alloc: Global, count: u32, bytes: &[u8]) -> Result<(Change, &[u8]), Unread>
+fn change_pairs(alloc: Global, count: u32, bytes: &[u8]) -> Result<(Change, &[u8]), ReadError>
     ensures { Gives (λ x. (x.0, x.1.now)) result (pairs_at new_value_at count [] empty bytes.now) }
 {
     let mut change = Change::new(alloc);
@@ -69,7 +69,7 @@ fn attribute_pair<'a>(
     alloc: Global,
     last: &str,
     bytes: &'a [u8],
-) -> Result<(&'a str, Value, &'a [u8]), Unread>
+) -> Result<(&'a str, Value, &'a [u8]), ReadError>
     ensures read { Gives (λ x. ((x.0.now, x.1), x.2.now)) result (pair_at value_at last.now bytes.now) }
     ensures kept { IfOk result (λ x. IsKey x.0.now) }
 {
@@ -83,7 +83,7 @@ fn change_pair<'a>(
     alloc: Global,
     last: &str,
     bytes: &'a [u8],
-) -> Result<(&'a str, Option<Value>, &'a [u8]), Unread>
+) -> Result<(&'a str, Option<Value>, &'a [u8]), ReadError>
     ensures read { Gives (λ x. ((x.0.now, x.1), x.2.now)) result (pair_at new_value_at last.now bytes.now) }
     ensures kept { IfOk result (λ x. IsKey x.0.now) }
 {
@@ -92,15 +92,20 @@ fn change_pair<'a>(
     Ok((name, value, rest))
 }
 
-fn set_attribute(alloc: Global, attrs: &mut Attrs, name: &str, value: Value) -> Result<(), Unread>
+fn set_attribute(
+    alloc: Global,
+    attrs: &mut Attrs,
+    name: &str,
+    value: Value,
+) -> Result<(), ReadError>
     requires { IsKey name.now }
     ensures ok { OnOk result (attrs.new ≡ insert attrs.old name.now value) }
-    ensures only { IfErr result (λ e. e ≡ Unread.NoMemory) }
+    ensures only { IfErr result (λ e. e ≡ ReadError.NoMemory) }
 {
     let key = key_of(alloc, name)?;
     match attrs.set(key, value) {
         Ok(()) => Ok(()),
-        Err(_) => Err(Unread::NoMemory),
+        Err(_) => Err(ReadError::NoMemory),
     }
 }
 
@@ -109,51 +114,51 @@ fn set_change(
     change: &mut Change,
     name: &str,
     value: Option<Value>,
-) -> Result<(), Unread>
+) -> Result<(), ReadError>
     requires { IsKey name.now }
     ensures ok { OnOk result (change.new ≡ insert change.old name.now value) }
-    ensures only { IfErr result (λ e. e ≡ Unread.NoMemory) }
+    ensures only { IfErr result (λ e. e ≡ ReadError.NoMemory) }
 {
     let key = key_of(alloc, name)?;
     match change.set(key, value) {
         Ok(()) => Ok(()),
-        Err(_) => Err(Unread::NoMemory),
+        Err(_) => Err(ReadError::NoMemory),
     }
 }
 
-fn key_of(alloc: Global, name: &str) -> Result<Key, Unread>
+fn key_of(alloc: Global, name: &str) -> Result<Key, ReadError>
     requires { IsKey name.now }
     ensures ok { IfOk result (λ key. key ≡ name.now) }
-    ensures only { IfErr result (λ e. e ≡ Unread.NoMemory) }
+    ensures only { IfErr result (λ e. e ≡ ReadError.NoMemory) }
 {
     match Key::new(alloc, name) {
         Ok(key) => Ok(key),
-        Err(Refusal::NoMemory) => Err(Unread::NoMemory),
+        Err(Refusal::NoMemory) => Err(ReadError::NoMemory),
         Err(_) => unreachable!(),
     }
 }
 
 #[tactic(auto, unfolding(crate::specs::steps::DeltaReading::key_above))]
-fn name_above<'a>(last: &str, bytes: &'a [u8]) -> Result<(&'a str, &'a [u8]), Unread>
+fn name_above<'a>(last: &str, bytes: &'a [u8]) -> Result<(&'a str, &'a [u8]), ReadError>
     ensures read { Gives (λ x. (x.0.now, x.1.now)) result (key_above last.now bytes.now) }
     ensures kept { IfOk result (λ x. IsKey x.0.now) }
 {
     let (name, rest) = name(bytes)?;
     match last.cmp(name) {
         Ordering::Less => Ok((name, rest)),
-        _ => Err(Unread::Malformed),
+        _ => Err(ReadError::Malformed),
     }
 }
 
 /// A name of 1 to 64 bytes.
 #[tactic(auto, unfolding(crate::specs::steps::DeltaReading::key_at, crate::specs::steps::Reading::name_at))]
-pub(super) fn name(bytes: &[u8]) -> Result<(&str, &[u8]), Unread>
+pub(super) fn name(bytes: &[u8]) -> Result<(&str, &[u8]), ReadError>
     ensures read { Gives (λ x. (x.0.now, x.1.now)) result (key_at bytes.now) }
     ensures kept { IfOk result (λ x. IsKey x.0.now) }
 {
     let (text, rest) = text16(bytes)?;
     if text.is_empty() || text.len() > MAX_NAME {
-        return Err(Unread::Malformed);
+        return Err(ReadError::Malformed);
     }
     Ok((text, rest))
 }

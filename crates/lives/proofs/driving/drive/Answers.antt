@@ -10,12 +10,12 @@ use Rattle.lives.proofs.driving.drive.Goals as goal
 
 pub returns-clause-any_moment : goal.returns-clause-any_moment
 returns-clause-any_moment g c is_open =
-    first_any_moment g.J.Site.start (standing c.args.board.now c.args.flusher.now) (standing c.drive_all-ended.new.board c.drive_all-ended.new.flusher) c.drive_all-ended.ensures.goes
+    first_any_moment g.L.Life.start (standing c.args.board.now c.args.flusher.now) (standing c.drive_all-ended.new.board c.drive_all-ended.new.flusher) c.drive_all-ended.ensures.goes
     c.requires.works is_open
 
 pub returns-clause-holds : goal.returns-clause-holds
 returns-clause-holds g c is_open =
-    first_now g.J.Site.start (standing c.args.board.now c.args.flusher.now) (standing c.drive_all-ended.new.board c.drive_all-ended.new.flusher) c.drive_all-ended.ensures.goes
+    first_now g.L.Life.start (standing c.args.board.now c.args.flusher.now) (standing c.drive_all-ended.new.board c.drive_all-ended.new.flusher) c.drive_all-ended.ensures.goes
     c.requires.works is_open
 
 pub returns-clause-acknowledged : goal.returns-clause-acknowledged
@@ -25,14 +25,14 @@ returns-clause-acknowledged g c =
     let answers = c.drive_all-ended.new.answers.items in
     let made = take (length answers) c.args.calls.now in
     all_later a.last.board.board.settled c.drive_all-ended.new.board.board.settled a.last.tickets tickets [] made answers (omega (arith, a.settled)) (a.tickets ∙ sym (append-nil a.last.tickets))
-    (answered_held (cap_of g.J.Site.start) (between c.args.board.now [] c.args.flusher.now) made answers a.last a.answered)
+    (answered_held (cap_of g.L.Life.start) (between c.args.board.now [] c.args.flusher.now) made answers a.last a.answered)
 
 pub returns-clause-whole : goal.returns-clause-whole
 returns-clause-whole g c = stop_none c.drive_all-ended.result c.stopped_by.result c.stopped_by.ensures c.drive_all-ended.ensures.whole
 
 pub returns-clause-stops : goal.returns-clause-stops
 returns-clause-stops g c =
-    stop_some (λ r. Stops (cap_of g.J.Site.start) (between c.args.board.now [] c.args.flusher.now) c.args.calls.now c.drive_all-ended.new.answers.items r c.drive_all-ended.new.flusher) c.drive_all-ended.result c.stopped_by.result
+    stop_some (λ r. Stops (cap_of g.L.Life.start) (between c.args.board.now [] c.args.flusher.now) c.args.calls.now c.drive_all-ended.new.answers.items r c.drive_all-ended.new.flusher) c.drive_all-ended.result c.stopped_by.result
     c.stopped_by.ensures c.drive_all-ended.ensures.stops
 
 pub returns-clause-fails : goal.returns-clause-fails

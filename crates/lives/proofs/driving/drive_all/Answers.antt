@@ -13,22 +13,22 @@ loop-call-init g c = record {
   calm = c.requires.calm;
   works = c.requires.works;
   failed = refl;
-  goes = run_none g.J.Site.start (standing c.args.board.now c.args.flusher.now) c.requires.calm;
+  goes = run_none g.L.Life.start (standing c.args.board.now c.args.flusher.now) c.requires.calm;
   counts = refl;
   count = ap length c.requires.nothing.0;
-  answered = begins_at (cap_of g.J.Site.start) c.args.board.now (store_of c.args.flusher.now) c.args.answers.now.items c.args.tickets.now.items c.requires.nothing.0 c.requires.nothing.1;
+  answered = begins_at (cap_of g.L.Life.start) c.args.board.now (store_of c.args.flusher.now) c.args.answers.now.items c.args.tickets.now.items c.requires.nothing.0 c.requires.nothing.1;
 }
 
 pub returns-in_err-answer-clause-goes : goal.returns-in_err-answer-clause-goes
 returns-in_err-answer-clause-goes g c =
     let i = c.loop-call.invariant in
-    run_on g.J.Site.start (standing c.args.board.now c.args.flusher.now) (standing c.loop-call.board c.loop-call.flusher) (standing c.call_one.new.board c.call_one.new.flusher)
+    run_on g.L.Life.start (standing c.args.board.now c.args.flusher.now) (standing c.loop-call.board c.loop-call.flusher) (standing c.call_one.new.board c.call_one.new.flusher)
     i.goes i.calm i.works c.call_one.ensures.goes
 
 pub returns-in_err-answer-clause-stops : goal.returns-in_err-answer-clause-stops
 returns-in_err-answer-clause-stops g c =
     let i = c.loop-call.invariant in
-    let cap : ℕ = cap_of g.J.Site.start in
+    let cap : ℕ = cap_of g.L.Life.start in
     let first = between c.args.board.now [] c.args.flusher.now in
     let last = between c.loop-call.board c.loop-call.tickets.items c.loop-call.flusher in
     let answered =
@@ -49,14 +49,14 @@ loop-call-preserved g c =
       works = c.in_ok-answer.ensures.works;
       failed = c.call_one.ensures.failed ∙ i.failed;
       goes =
-          run_on g.J.Site.start (standing c.args.board.now c.args.flusher.now) (standing c.loop-call.board c.loop-call.flusher) (standing c.call_one.new.board c.call_one.new.flusher)
+          run_on g.L.Life.start (standing c.args.board.now c.args.flusher.now) (standing c.loop-call.board c.loop-call.flusher) (standing c.call_one.new.board c.call_one.new.flusher)
           i.goes i.calm i.works c.call_one.ensures.goes;
       counts = omega (arith, i.counts, c.call_one.ensures.counts);
       count = omega (arith, ap length items, length-append c.loop-call.answers.items (c.in_ok-answer.answer ∷ []), i.count);
       answered =
-          subst (λ l. Answered (cap_of g.J.Site.start) (between c.args.board.now [] c.args.flusher.now) (take (c.loop-call.call-index + 1) c.args.calls.now) l
+          subst (λ l. Answered (cap_of g.L.Life.start) (between c.args.board.now [] c.args.flusher.now) (take (c.loop-call.call-index + 1) c.args.calls.now) l
           (between c.call_one.new.board c.call_one.new.tickets.items c.call_one.new.flusher)) (sym items)
-          (one_more (cap_of g.J.Site.start) (between c.args.board.now [] c.args.flusher.now) c.args.calls.now c.loop-call.call-index c.call-item.result c.loop-call.answers.items
+          (one_more (cap_of g.L.Life.start) (between c.args.board.now [] c.args.flusher.now) c.args.calls.now c.loop-call.call-index c.call-item.result c.loop-call.answers.items
           (between c.loop-call.board c.loop-call.tickets.items c.loop-call.flusher) c.in_ok-answer.answer (between c.call_one.new.board c.call_one.new.tickets.items c.call_one.new.flusher) _
           c.loop-call-test.true c.call-item.is i.answered c.in_ok-answer.ensures.gives c.in_ok-answer.ensures.works (c.call_one.ensures.goes.goes.opens c.in_ok-answer.ensures.works));
     }
@@ -64,7 +64,7 @@ loop-call-preserved g c =
 pub returns-in_err-answer-clause-answered : goal.returns-in_err-answer-clause-answered
 returns-in_err-answer-clause-answered g c =
     let i = c.loop-call.invariant in
-    let cap : ℕ = cap_of g.J.Site.start in
+    let cap : ℕ = cap_of g.L.Life.start in
     let first = between c.args.board.now [] c.args.flusher.now in
     let last = between c.loop-call.board c.loop-call.tickets.items c.loop-call.flusher in
     record {
@@ -86,7 +86,7 @@ returns-in_err-answer-clause-answered g c =
 pub returns-in_err-reserve-clause-answered : goal.returns-in_err-reserve-clause-answered
 returns-in_err-reserve-clause-answered g c =
     let i = c.loop-call.invariant in
-    let cap : ℕ = cap_of g.J.Site.start in
+    let cap : ℕ = cap_of g.L.Life.start in
     let first = between c.args.board.now [] c.args.flusher.now in
     let last = between c.loop-call.board c.loop-call.tickets.items c.loop-call.flusher in
     record {
@@ -103,7 +103,7 @@ returns-in_err-reserve-clause-answered g c =
 pub returns-clause-answered : goal.returns-clause-answered
 returns-clause-answered g c =
     let i = c.loop-call.invariant in
-    let cap : ℕ = cap_of g.J.Site.start in
+    let cap : ℕ = cap_of g.L.Life.start in
     let first = between c.args.board.now [] c.args.flusher.now in
     let last = between c.loop-call.board c.loop-call.tickets.items c.loop-call.flusher in
     record {

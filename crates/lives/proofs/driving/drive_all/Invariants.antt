@@ -9,11 +9,11 @@ use Rattle.lives.proofs.driving.drive_all.Given as goal
 
 abbrev pub invariant-loop-call : goal.invariant-loop-call
 invariant-loop-call g l = record {
-  calm : IsCalm g.J.Site.start (standing l.board l.flusher);
+  calm : IsCalm g.L.Life.start (standing l.board l.flusher);
   works : has_failed (store_of l.flusher) ≡ false;
   failed : l.board.failed ≡ l.fn.board.failed;
-  goes : RunGoes g.J.Site.start (standing l.fn.board l.fn.flusher) (standing l.board l.flusher);
+  goes : RunGoes g.L.Life.start (standing l.fn.board l.fn.flusher) (standing l.board l.flusher);
   counts : l.seat + length l.fn.board.board.order ≡ l.fn.seat + length l.board.board.order;
   count : length l.answers.items ≡ l.call-index;
-  answered : Answered (cap_of g.J.Site.start) (between l.fn.board [] l.fn.flusher) (take l.call-index l.calls) l.answers.items (between l.board l.tickets.items l.flusher);
+  answered : Answered (cap_of g.L.Life.start) (between l.fn.board [] l.fn.flusher) (take l.call-index l.calls) l.answers.items (between l.board l.tickets.items l.flusher);
 }

@@ -1,5 +1,5 @@
-use Rattle.std.proofs.Common.{◌≡◌, ◌<◌, ◌≤◌, ◌⊎◌, ⊎_elim, inl, inr, Err, ℕ, Bool, true, false, List, [], ◌∷◌, ◌++◌, length, refl, sym, ◌∙◌, ap, subst, arith, append-nil}
-use Rattle.std.proofs.lemmas.Bool.{false≢true}
+use Rattle.std.proofs.Common.{◌≡◌, ◌<◌, ◌≤◌, ◌⊎◌, inl, inr, ℕ, true, false, List, [], ◌∷◌, ◌++◌, length, refl, sym, ◌∙◌, ap, subst, arith, append-nil}
+use Rattle.std.proofs.lemmas.Bool.{false≢true, false_from_ne_true}
 use Rattle.std.proofs.lemmas.Result.{err_from_is_err_and}
 use Rattle.revision.specs.Command.{Taken}
 use Rattle.revision.specs.State.{fold}
@@ -18,30 +18,25 @@ use Rattle.lives.specs.Driving.{turned, IsTurnRefused, IsUnsettled, IsRunCommitt
 use Rattle.lives.proofs.Running.{run_none}
 use Rattle.lives.proofs.Steps.{run_of_none, run_refused_by, run_settled}
 use Rattle.lives.proofs.Fitting.{run_fits, run_within, may_settle, goes_held, goes_next, run_committed}
-use Rattle.refusal.specs.declared.Refusal.{Refusal}
 use Rattle.refusal.specs.declared.Refusal.TheVariants.{NoMemory, Fault}
 use Rattle.lives.proofs.Answering.{turned_by, turned_not, turn_refused, handed_on, on_err}
 use Rattle.lives.proofs.turning.turn.Goals as goal
 
-unfailed : (b : Bool) → (b ≡ true → ⊥) → b ≡ false
-unfailed true never = absurd (never refl)
-unfailed false never = refl
-
 pub returns-in_err-run-clause-goes : goal.returns-in_err-run-clause-goes
 returns-in_err-run-clause-goes g c =
-    subst (λ (b : Board). RunGoes g.J.Site.start (standing c.args.board.now c.args.flusher.now) (standing b c.args.flusher.now)) (sym c.in_err-run.ensures.unchanged)
-    (run_none g.J.Site.start (standing c.args.board.now c.args.flusher.now) c.requires.calm)
+    subst (λ (b : Board). RunGoes g.L.Life.start (standing c.args.board.now c.args.flusher.now) (standing b c.args.flusher.now)) (sym c.in_err-run.ensures.unchanged)
+    (run_none g.L.Life.start (standing c.args.board.now c.args.flusher.now) c.requires.calm)
 
 pub returns-then-count-eq0-clause-goes : goal.returns-then-count-eq0-clause-goes
 returns-then-count-eq0-clause-goes g c =
     let zero : length c.in_ok-run.run'.commands ≡ 0 = omega arith in
-    (run_of_none g.J.Site.start (standing c.args.board.now c.args.flusher.now) c.take.new.self.board c.take.new.self.told c.requires.calm
+    (run_of_none g.L.Life.start (standing c.args.board.now c.args.flusher.now) c.take.new.self.board c.take.new.self.told c.requires.calm
     (ap (λ (b : Board). b.board) c.in_ok-run.ensures.board ∙ ap (taken_more c.args.board.now.board) zero) (ap (λ (b : Board). b.told) c.in_ok-run.ensures.board)).1
 
 pub returns-then-count-eq0-clause-calm : goal.returns-then-count-eq0-clause-calm
 returns-then-count-eq0-clause-calm g c =
     let zero : length c.in_ok-run.run'.commands ≡ 0 = omega arith in
-    (run_of_none g.J.Site.start (standing c.args.board.now c.args.flusher.now) c.take.new.self.board c.take.new.self.told c.requires.calm
+    (run_of_none g.L.Life.start (standing c.args.board.now c.args.flusher.now) c.take.new.self.board c.take.new.self.told c.requires.calm
     (ap (λ (b : Board). b.board) c.in_ok-run.ensures.board ∙ ap (taken_more c.args.board.now.board) zero) (ap (λ (b : Board). b.told) c.in_ok-run.ensures.board)).0
 
 pub returns-then-count-eq0-clause-settled : goal.returns-then-count-eq0-clause-settled
@@ -68,29 +63,29 @@ hold-requires-clause-fits g c =
 
 pub hold-requires-clause-next : goal.hold-requires-clause-next
 hold-requires-clause-next g c =
-    goes_next g.J.Site.start (standing c.args.board.now c.args.flusher.now) c.in_ok-run.run'.place c.requires.calm c.in_ok-run.ensures.place
+    goes_next g.L.Life.start (standing c.args.board.now c.args.flusher.now) c.in_ok-run.run'.place c.requires.calm c.in_ok-run.ensures.place
 
 pub returns-in_err-write-clause-goes : goal.returns-in_err-write-clause-goes
 returns-in_err-write-clause-goes g c =
     let run = c.in_ok-run.run'.commands in
     let within = run_within c.cap.result c.args.board.now.board (length run) c.requires.calm.even.taken c.in_ok-run.ensures.longest in
     let held =
-    c.in_err-write.ensures.held ∙ ap (λ (l : List (List Taken)). l ++ waiting_of c.hold.new.self) (c.hold.ensures.committed ∙ c.requires.calm.committed) ∙ c.hold.ensures.waiting in
-    run_refused_by g.J.Site.start (standing c.args.board.now c.args.flusher.now) c.take.new.self.board c.take.new.self.told (told_of c.write.new.self) (committed_of c.write.new.self) (waiting_of c.write.new.self)
+    c.in_err-write.ensures.refused.held ∙ ap (λ (l : List (List Taken)). l ++ waiting_of c.hold.new.self) (c.hold.ensures.committed ∙ c.requires.calm.committed) ∙ c.hold.ensures.waiting in
+    run_refused_by g.L.Life.start (standing c.args.board.now c.args.flusher.now) c.take.new.self.board c.take.new.self.told (told_of c.write.new.self) (committed_of c.write.new.self) (waiting_of c.write.new.self)
     (store_of c.write.new.self) run c.requires.calm c.in_ok-run.ensures.run within (ap (λ (b : Board). b.board) c.in_ok-run.ensures.board) held
     (goes_held (store_of c.args.flusher.now) (store_of c.hold.new.self) (store_of c.write.new.self) (waiting_of c.hold.new.self) run c.hold.ensures.store c.hold.ensures.waiting c.write.ensures.goes)
-    (c.in_err-write.ensures.told ∙ c.hold.ensures.told)
+    (c.in_err-write.ensures.refused.told ∙ c.hold.ensures.told)
 
 pub returns-in_err-settle_on-in-Some-clause-goes : goal.returns-in_err-settle_on-in-Some-clause-goes
 returns-in_err-settle_on-in-Some-clause-goes g c =
     let run = c.in_ok-run.run'.commands in
     let some : 0 < length run = omega arith in
     let held = ap (λ (l : List (List Taken)). l ++ waiting_of c.hold.new.self) (c.hold.ensures.committed ∙ c.requires.calm.committed) ∙ c.hold.ensures.waiting in
-    let written = rw c.in-Some.is at c.in_ok-write.ensures.some in
-    let same = same_batch _ c.in-Some.both.0 run written.batch held in
+    let written = (rw c.in-Some.is at c.in_ok-write.ensures.published).some in
+    let same = same_batch _ c.in-Some.both.0.batch run written.batch held in
     let tells = written.token_is ∙ written.published ∙ ap (λ (l : List (List Taken)). told_of c.hold.new.self ++ l) held ∙ ap (λ (l : List (List Taken)). l ++ run ∷ []) c.hold.ensures.told in
     absurd (false≢true (c.in_err-settle_on-in-Some.ensures.stranger
-    (may_settle g.J.Site.start (standing c.args.board.now c.args.flusher.now) c.take.new.self.board run c.in-Some.both.0 c.in-Some.both.1 c.requires.calm c.in_ok-run.ensures.run
+    (may_settle g.L.Life.start (standing c.args.board.now c.args.flusher.now) c.take.new.self.board run c.in-Some.both.0.batch c.in-Some.both.1 c.requires.calm c.in_ok-run.ensures.run
     (ap (λ (b : Board). b.board) c.in_ok-run.ensures.board) some same tells)))
 
 pub returns-in_ok-settle_on-in-Some-clause-goes : goal.returns-in_ok-settle_on-in-Some-clause-goes
@@ -98,20 +93,20 @@ returns-in_ok-settle_on-in-Some-clause-goes g c =
     let run = c.in_ok-run.run'.commands in
     let within = run_within c.cap.result c.args.board.now.board (length run) c.requires.calm.even.taken c.in_ok-run.ensures.longest in
     let held = ap (λ (l : List (List Taken)). l ++ waiting_of c.hold.new.self) (c.hold.ensures.committed ∙ c.requires.calm.committed) ∙ c.hold.ensures.waiting in
-    let written = rw c.in-Some.is at c.in_ok-write.ensures.some in
-    let same = same_batch _ c.in-Some.both.0 run written.batch held in
+    let written = (rw c.in-Some.is at c.in_ok-write.ensures.published).some in
+    let same = same_batch _ c.in-Some.both.0.batch run written.batch held in
     let tells = written.published ∙ ap (λ (l : List (List Taken)). told_of c.hold.new.self ++ l) held ∙ ap (λ (l : List (List Taken)). l ++ run ∷ []) c.hold.ensures.told in
     let knows = ap (λ (b : Board). b.told) c.in_ok-settle_on-in-Some.ensures.ok ∙ written.token_is in
     let boards =
     ap (λ (b : Board). b.board) c.in_ok-settle_on-in-Some.ensures.ok ∙ ap (λ (r : List Taken). settled_more c.take.new.self.board (length r)) same
     ∙ ap (λ (b : Board). settled_more b.board (length run)) c.in_ok-run.ensures.board in
-    let works = unfailed (has_failed (store_of c.write.new.self)) (λ failed.
-    let fault = (c.in_ok-write.ensures.fails (ap has_failed c.hold.ensures.store ∙ c.requires.works)).0 failed in
+    let works = false_from_ne_true (has_failed (store_of c.write.new.self)) (λ failed.
+    let fault = (c.in_ok-write.ensures.faults.fails (ap has_failed c.hold.ensures.store ∙ c.requires.works)).0 failed in
     let no : ⊥ = cc in no) in
-    (run_settled g.J.Site.start (standing c.args.board.now c.args.flusher.now) c.settle_on.new.board.board c.settle_on.new.board.told (told_of c.write.new.self) (committed_of c.write.new.self) (waiting_of c.write.new.self)
-    (store_of c.write.new.self) run c.requires.calm c.in_ok-run.ensures.run within boards knows tells c.in_ok-write.ensures.done.0 c.in_ok-write.ensures.done.1
-    (c.kept.ensures ∙ ap (λ (l : List (List Taken)). fold g.J.Site.start (commands_of (told_of c.write.new.self ++ l))) c.in_ok-write.ensures.done.0
-    ∙ ap (λ (l : List (List Taken)). fold g.J.Site.start (commands_of l)) (append-nil (told_of c.write.new.self))) works
+    (run_settled g.L.Life.start (standing c.args.board.now c.args.flusher.now) c.settle_on.new.board.board c.settle_on.new.board.told (told_of c.write.new.self) (committed_of c.write.new.self) (waiting_of c.write.new.self)
+    (store_of c.write.new.self) run c.requires.calm c.in_ok-run.ensures.run within boards knows tells c.in_ok-write.ensures.published.committed c.in_ok-write.ensures.published.waiting
+    (c.kept.ensures ∙ ap (λ (l : List (List Taken)). fold g.L.Life.start (commands_of (told_of c.write.new.self ++ l))) c.in_ok-write.ensures.published.committed
+    ∙ ap (λ (l : List (List Taken)). fold g.L.Life.start (commands_of l)) (append-nil (told_of c.write.new.self))) works
     (goes_held (store_of c.args.flusher.now) (store_of c.hold.new.self) (store_of c.write.new.self) (waiting_of c.hold.new.self) run c.hold.ensures.store c.hold.ensures.waiting c.write.ensures.goes)).1
 
 pub returns-in_ok-settle_on-in-Some-clause-calm : goal.returns-in_ok-settle_on-in-Some-clause-calm
@@ -119,20 +114,20 @@ returns-in_ok-settle_on-in-Some-clause-calm g c =
     let run = c.in_ok-run.run'.commands in
     let within = run_within c.cap.result c.args.board.now.board (length run) c.requires.calm.even.taken c.in_ok-run.ensures.longest in
     let held = ap (λ (l : List (List Taken)). l ++ waiting_of c.hold.new.self) (c.hold.ensures.committed ∙ c.requires.calm.committed) ∙ c.hold.ensures.waiting in
-    let written = rw c.in-Some.is at c.in_ok-write.ensures.some in
-    let same = same_batch _ c.in-Some.both.0 run written.batch held in
+    let written = (rw c.in-Some.is at c.in_ok-write.ensures.published).some in
+    let same = same_batch _ c.in-Some.both.0.batch run written.batch held in
     let tells = written.published ∙ ap (λ (l : List (List Taken)). told_of c.hold.new.self ++ l) held ∙ ap (λ (l : List (List Taken)). l ++ run ∷ []) c.hold.ensures.told in
     let knows = ap (λ (b : Board). b.told) c.in_ok-settle_on-in-Some.ensures.ok ∙ written.token_is in
     let boards =
     ap (λ (b : Board). b.board) c.in_ok-settle_on-in-Some.ensures.ok ∙ ap (λ (r : List Taken). settled_more c.take.new.self.board (length r)) same
     ∙ ap (λ (b : Board). settled_more b.board (length run)) c.in_ok-run.ensures.board in
-    let works = unfailed (has_failed (store_of c.write.new.self)) (λ failed.
-    let fault = (c.in_ok-write.ensures.fails (ap has_failed c.hold.ensures.store ∙ c.requires.works)).0 failed in
+    let works = false_from_ne_true (has_failed (store_of c.write.new.self)) (λ failed.
+    let fault = (c.in_ok-write.ensures.faults.fails (ap has_failed c.hold.ensures.store ∙ c.requires.works)).0 failed in
     let no : ⊥ = cc in no) in
-    (run_settled g.J.Site.start (standing c.args.board.now c.args.flusher.now) c.settle_on.new.board.board c.settle_on.new.board.told (told_of c.write.new.self) (committed_of c.write.new.self) (waiting_of c.write.new.self)
-    (store_of c.write.new.self) run c.requires.calm c.in_ok-run.ensures.run within boards knows tells c.in_ok-write.ensures.done.0 c.in_ok-write.ensures.done.1
-    (c.kept.ensures ∙ ap (λ (l : List (List Taken)). fold g.J.Site.start (commands_of (told_of c.write.new.self ++ l))) c.in_ok-write.ensures.done.0
-    ∙ ap (λ (l : List (List Taken)). fold g.J.Site.start (commands_of l)) (append-nil (told_of c.write.new.self))) works
+    (run_settled g.L.Life.start (standing c.args.board.now c.args.flusher.now) c.settle_on.new.board.board c.settle_on.new.board.told (told_of c.write.new.self) (committed_of c.write.new.self) (waiting_of c.write.new.self)
+    (store_of c.write.new.self) run c.requires.calm c.in_ok-run.ensures.run within boards knows tells c.in_ok-write.ensures.published.committed c.in_ok-write.ensures.published.waiting
+    (c.kept.ensures ∙ ap (λ (l : List (List Taken)). fold g.L.Life.start (commands_of (told_of c.write.new.self ++ l))) c.in_ok-write.ensures.published.committed
+    ∙ ap (λ (l : List (List Taken)). fold g.L.Life.start (commands_of l)) (append-nil (told_of c.write.new.self))) works
     (goes_held (store_of c.args.flusher.now) (store_of c.hold.new.self) (store_of c.write.new.self) (waiting_of c.hold.new.self) run c.hold.ensures.store c.hold.ensures.waiting c.write.ensures.goes)).0
 
 pub returns-in_ok-settle_on-in-Some-clause-settled : goal.returns-in_ok-settle_on-in-Some-clause-settled
@@ -140,8 +135,8 @@ returns-in_ok-settle_on-in-Some-clause-settled g c =
     let run = c.in_ok-run.run'.commands in
     let some : 0 < length run = omega arith in
     let held = ap (λ (l : List (List Taken)). l ++ waiting_of c.hold.new.self) (c.hold.ensures.committed ∙ c.requires.calm.committed) ∙ c.hold.ensures.waiting in
-    let written = rw c.in-Some.is at c.in_ok-write.ensures.some in
-    let same = same_batch _ c.in-Some.both.0 run written.batch held in
+    let written = (rw c.in-Some.is at c.in_ok-write.ensures.published).some in
+    let same = same_batch _ c.in-Some.both.0.batch run written.batch held in
     let tells =
     written.token_is ∙ written.published ∙ ap (λ (l : List (List Taken)). told_of c.hold.new.self ++ l) held
     ∙ ap (λ (l : List (List Taken)). l ++ run ∷ []) (c.hold.ensures.told ∙ sym c.requires.calm.known) in
@@ -153,7 +148,7 @@ returns-in_ok-settle_on-in-Some-clause-settled g c =
 pub returns-in_ok-settle_on-in-Some-clause-state : goal.returns-in_ok-settle_on-in-Some-clause-state
 returns-in_ok-settle_on-in-Some-clause-state g c =
     let count : length c.in_ok-run.run'.commands ≡ c.len-count.result = omega arith in
-    c.in_ok-write.ensures.state ∙ ap (λ s. fold (state_of s) (commands_of (waiting_of c.hold.new.self))) c.hold.ensures.store
+    c.in_ok-write.ensures.published.state ∙ ap (λ s. fold (state_of s) (commands_of (waiting_of c.hold.new.self))) c.hold.ensures.store
     ∙ ap (λ (l : List (List Taken)). fold (state_of (store_of c.args.flusher.now)) (commands_of l)) c.hold.ensures.waiting
     ∙ ap (fold (state_of (store_of c.args.flusher.now))) (append-nil c.in_ok-run.run'.commands ∙ c.in_ok-run.ensures.run ∙ ap (λ (n : ℕ). takens (next_run c.args.board.now.board n)) count)
 
@@ -162,7 +157,7 @@ returns-in_ok-settle_on-in-Some-clause-committed g c =
     let run = c.in_ok-run.run'.commands in
     let some : 0 < length run = omega arith in
     let count : length run ≡ c.len-count.result = omega arith in
-    let done = subst (λ s. IsHeldCommitted (waiting_of c.hold.new.self) s (store_of c.write.new.self)) c.hold.ensures.store c.in_ok-write.ensures.committed in
+    let done = subst (λ s. IsHeldCommitted (waiting_of c.hold.new.self) s (store_of c.write.new.self)) c.hold.ensures.store c.in_ok-write.ensures.published.store in
     subst (λ (r : List Taken). IsRunCommitted r (store_of c.args.flusher.now) (store_of c.write.new.self))
     (c.in_ok-run.ensures.run ∙ ap (λ (n : ℕ). takens (next_run c.args.board.now.board n)) count)
     (run_committed (store_of c.args.flusher.now) (store_of c.write.new.self) run (waiting_of c.hold.new.self) c.hold.ensures.waiting some done)
@@ -177,21 +172,19 @@ returns-in_err-write-clause-refused g c =
     let p = err_from_is_err_and c.from_residual-in_err-write.result c.from_residual-in_err-write.ensures.1 in
     let some : 1 ≤ length run = omega arith in
     handed_on (λ r. ((r ≡ NoMemory) ⊎ (r ≡ Fault)) ⊎ IsTurnRefused cap c.args.board.now store r c.write.new.self) c.from_residual-in_err-write.result p.0 c.in_err-write.field-0.0 p.1 p.2
-    (turn_refused cap c.args.board.now store (store_of c.hold.new.self) c.write.new.self (waiting_of c.hold.new.self) run c.in_err-write.field-0.0 c.hold.ensures.waiting
-    c.hold.ensures.store c.in_ok-run.ensures.run longest some (λ is. e.full (ap (λ (r : Refusal). Err r) is)) (λ is. e.needed (ap (λ (r : Refusal). Err r) is))
-    (λ told. e.never_full (⊎_elim (λ full. inl (ap (λ (r : Refusal). Err r) full)) (λ still. inr (ap (λ (r : Refusal). Err r) still)) told))
-    (λ no_memory. (e.uncommitted no_memory).state) e.only)
+    (turn_refused cap c.args.board.now store c.hold.new.self c.write.new.self run c.in_err-write.field-0.0 c.hold.ensures.waiting c.hold.ensures.store c.in_ok-run.ensures.run longest some
+    e.refused e.why)
 
 pub returns-in_err-settle_on-in-Some-clause-refused : goal.returns-in_err-settle_on-in-Some-clause-refused
 returns-in_err-settle_on-in-Some-clause-refused g c =
     let run = c.in_ok-run.run'.commands in
     let some : 0 < length run = omega arith in
     let held = ap (λ (l : List (List Taken)). l ++ waiting_of c.hold.new.self) (c.hold.ensures.committed ∙ c.requires.calm.committed) ∙ c.hold.ensures.waiting in
-    let written = rw c.in-Some.is at c.in_ok-write.ensures.some in
-    let same = same_batch _ c.in-Some.both.0 run written.batch held in
+    let written = (rw c.in-Some.is at c.in_ok-write.ensures.published).some in
+    let same = same_batch _ c.in-Some.both.0.batch run written.batch held in
     let tells = written.token_is ∙ written.published ∙ ap (λ (l : List (List Taken)). told_of c.hold.new.self ++ l) held ∙ ap (λ (l : List (List Taken)). l ++ run ∷ []) c.hold.ensures.told in
     absurd (false≢true (c.in_err-settle_on-in-Some.ensures.stranger
-    (may_settle g.J.Site.start (standing c.args.board.now c.args.flusher.now) c.take.new.self.board run c.in-Some.both.0 c.in-Some.both.1 c.requires.calm c.in_ok-run.ensures.run
+    (may_settle g.L.Life.start (standing c.args.board.now c.args.flusher.now) c.take.new.self.board run c.in-Some.both.0.batch c.in-Some.both.1 c.requires.calm c.in_ok-run.ensures.run
     (ap (λ (b : Board). b.board) c.in_ok-run.ensures.board) some same tells)))
 
 pub returns-in_err-run-clause-left : goal.returns-in_err-run-clause-left
@@ -224,9 +217,9 @@ returns-in_err-settle_on-in-Some-clause-unpublished g c =
     let run = c.in_ok-run.run'.commands in
     let some : 0 < length run = omega arith in
     let held = ap (λ (l : List (List Taken)). l ++ waiting_of c.hold.new.self) (c.hold.ensures.committed ∙ c.requires.calm.committed) ∙ c.hold.ensures.waiting in
-    let written = rw c.in-Some.is at c.in_ok-write.ensures.some in
-    let same = same_batch _ c.in-Some.both.0 run written.batch held in
+    let written = (rw c.in-Some.is at c.in_ok-write.ensures.published).some in
+    let same = same_batch _ c.in-Some.both.0.batch run written.batch held in
     let tells = written.token_is ∙ written.published ∙ ap (λ (l : List (List Taken)). told_of c.hold.new.self ++ l) held ∙ ap (λ (l : List (List Taken)). l ++ run ∷ []) c.hold.ensures.told in
     absurd (false≢true (c.in_err-settle_on-in-Some.ensures.stranger
-    (may_settle g.J.Site.start (standing c.args.board.now c.args.flusher.now) c.take.new.self.board run c.in-Some.both.0 c.in-Some.both.1 c.requires.calm c.in_ok-run.ensures.run
+    (may_settle g.L.Life.start (standing c.args.board.now c.args.flusher.now) c.take.new.self.board run c.in-Some.both.0.batch c.in-Some.both.1 c.requires.calm c.in_ok-run.ensures.run
     (ap (λ (b : Board). b.board) c.in_ok-run.ensures.board) some same tells)))

@@ -1,17 +1,18 @@
-use Rattle.std.proofs.Common.{◌≡◌, ◌∙◌, inl, inr, ℕ, List, Result, Ok, Err, length, sym, ap, subst}
-use Rattle.std.specs.Prelude.{OnOk}
+use Rattle.std.proofs.Common.{◌≡◌, ◌∙◌, inl, inr, ℕ, List, refl, sym, ap, subst}
 use Rattle.std.proofs.lemmas.Result.{on_ok_weaker}
-use Rattle.refusal.specs.declared.Refusal.TheVariants.{Damaged}
-use Rattle.disk.specs.Crash.{history_of}
+use Rattle.refusal.specs.declared.Refusal.TheVariants.{OldFormat}
+use Rattle.disk.specs.Crash.{MayLeaveNow}
 use Rattle.history.specs.declared.pick.Pick.TheVariants.{Newer}
+use Rattle.milestone.specs.declared.format.Format.TheVariants.{One, Two}
 use Rattle.revision.specs.State.{State}
 use Rattle.revision.specs.Agree.{Agree}
 use Rattle.revision.proofs.CallerLemmas.{agrees}
 use Rattle.recovery.specs.Found.{Found, FoundAs}
-use Rattle.recovery.specs.Formatting.{Fits}
-use Rattle.migration.specs.Copied.{HasRoom, StandsFor}
+use Rattle.migration.specs.Brought.{IsCopiedFrom}
+use Rattle.migration.specs.Copied.{StandsFor}
 use Rattle.migration.proofs.Copies.{as_agreeing}
-use Rattle.migration.proofs.Moments.{agreeing, uncopied}
+use Rattle.migration.proofs.Moments.{spares_as, untouched}
+use Rattle.migration.proofs.Refused.{refused_by_old, refused_by_new}
 use Rattle.migration.proofs.Rooms.{by_limits, by_shape}
 use Rattle.migration.proofs.copying.copy.Goals as goal
 
@@ -25,51 +26,59 @@ read_agrees : (content : List ℕ) (held read state : State) → read ≡ held �
     → StandsFor content state → Agree read state
 read_agrees content held read state same only runs stands = subst (λ (s : State). Agree s state) (sym same) (held_agrees content held state only runs stands)
 
-both : {T E : Type 0} (r : Result T E) (P Q : Type 0) → OnOk r P → OnOk r Q → OnOk r (P × Q)
-both (Ok x) P Q p q = (p, q)
-both (Err e) P Q p q = tt
-
-pub returns-in-Ok-clause-from_sync : goal.returns-in-Ok-clause-from_sync
-returns-in-Ok-clause-from_sync g c honest unformatted state stands =
-    let here = subst g.A.Disk.honest c.close.ensures honest in
-    let read = c.state.result.now in
-    let agree = read_agrees (g.A.Disk.seen c.args.old) c.in-Ok.store.state read state c.state.ensures (c.in-Ok.ensures.only_state here)
-    (λ (s : State) (is : FoundAs (g.A.Disk.seen c.args.old) s). (c.in-Ok.ensures.open here s is).1) stands in
-    agreeing c.args.shape read state (history_of g.B.Disk c.args.new.now) (history_of g.B.Disk c.begin_with-made.new.disk) agree
-    (c.begin_with-made.ensures.from_sync unformatted)
-
-pub returns-in-Ok-clause-done : goal.returns-in-Ok-clause-done
-returns-in-Ok-clause-done g c =
-    on_ok_weaker c.begin_with-made.result (λ made honest state stands.
-    let here = subst g.A.Disk.honest c.close.ensures honest in
-    as_agreeing c.args.shape c.state.result.now state (g.B.Disk.seen c.begin_with-made.new.disk)
-    (read_agrees (g.A.Disk.seen c.args.old) c.in-Ok.store.state c.state.result.now state c.state.ensures (c.in-Ok.ensures.only_state here)
-    (λ (s : State) (is : FoundAs (g.A.Disk.seen c.args.old) s). (c.in-Ok.ensures.open here s is).1) stands) made) c.begin_with-made.ensures.done
-
-pub returns-in-Ok-clause-bad_shape : goal.returns-in-Ok-clause-bad_shape
-returns-in-Ok-clause-bad_shape g c refused honest state is suits =
-    let here = subst g.A.Disk.honest c.close.ensures honest in
-    let limits = ap (λ (s : State). s.limits) (c.state.ensures ∙ sym (c.in-Ok.ensures.only_state here state is)) ∙ is.stand.same_limits in
-    c.begin_with-made.ensures.bad_shape refused suits.fits
-    (by_limits c.state.result.now.limits is.shape c.args.shape is.holds.laid_out.names.in_range limits suits.room)
+pub returns-in-Ok-clause-brought : goal.returns-in-Ok-clause-brought
+returns-in-Ok-clause-brought g c =
+    on_ok_weaker c.begin_with-made.result (λ made. record {
+      found = λ honest. (c.in-Ok.store.state, c.in-Ok.ensures.opened.found (subst g.A.Disk.honest c.close.ensures honest));
+      kept = λ content left. c.in-Ok.ensures.device.kept content (subst (λ d. MayLeaveNow g.A.Disk d content) c.close.ensures left);
+      made = record {
+        is = λ honest state stands.
+            let here = subst g.A.Disk.honest c.close.ensures honest in
+            as_agreeing c.args.shape c.state.result.now state (g.B.Disk.seen c.begin_with-made.new.disk)
+            (read_agrees (g.A.Disk.seen c.args.old) c.in-Ok.store.state c.state.result.now state c.state.ensures (c.in-Ok.ensures.opened.only_state here)
+            (λ (s : State) (is : FoundAs (g.A.Disk.seen c.args.old) s). (c.in-Ok.ensures.opened.runs_on here s is).1) stands) made.is;
+        synced = made.synced;
+        had_none = made.had_none;
+      };
+    }) c.begin_with-made.ensures.made
 
 pub returns-in-Ok-clause-suits : goal.returns-in-Ok-clause-suits
 returns-in-Ok-clause-suits g c =
     on_ok_weaker c.begin_with-made.result (λ parts honest state is.
     let here = subst g.A.Disk.honest c.close.ensures honest in
-    let limits = ap (λ (s : State). s.limits) (c.state.ensures ∙ sym (c.in-Ok.ensures.only_state here state is)) ∙ is.stand.same_limits in
+    let limits = ap (λ (s : State). s.limits) (c.state.ensures ∙ sym (c.in-Ok.ensures.opened.only_state here state is)) ∙ is.stand.same_limits in
     record {
       fits = parts.0;
       room = by_shape c.state.result.now.limits is.shape c.args.shape is.holds.laid_out.names.in_range limits parts.1;
     })
-    (both c.begin_with-made.result (Fits c.args.shape (length (g.B.Disk.seen c.args.new.now))) (HasRoom c.state.result.now.limits c.args.shape)
-    c.begin_with-made.ensures.fits c.begin_with-made.ensures.room)
+    c.begin_with-made.ensures.suits
 
-pub returns-in-Err-clause-damaged : goal.returns-in-Err-clause-damaged
-returns-in-Err-clause-damaged g c told honest =
-    let same : c.in-Err.field-0.refusal ≡ Damaged = cc in
-    c.in-Err.ensures.damaged same honest
+pub returns-in-Ok-clause-any_moment : goal.returns-in-Ok-clause-any_moment
+returns-in-Ok-clause-any_moment g c =
+    spares_as (λ content is honest state stands.
+    let here = subst g.A.Disk.honest c.close.ensures honest in
+    as_agreeing c.args.shape c.state.result.now state content
+    (read_agrees (g.A.Disk.seen c.args.old) c.in-Ok.store.state c.state.result.now state c.state.ensures (c.in-Ok.ensures.opened.only_state here)
+    (λ (s : State) (is : FoundAs (g.A.Disk.seen c.args.old) s). (c.in-Ok.ensures.opened.runs_on here s is).1) stands) is)
+    c.begin_with-made.ensures.any_moment
+
+pub returns-in-Ok-clause-refused : goal.returns-in-Ok-clause-refused
+returns-in-Ok-clause-refused g c =
+    let begun = c.begin_with-made in
+    refused_by_new g.A.Disk g.B.Disk Two One OldFormat (inl refl) _ c.args.old c.close.result begun.result _ c.args.new.now begun.new.disk
+    (λ honest. (c.in-Ok.store.state, c.in-Ok.ensures.opened.found (subst g.A.Disk.honest c.close.ensures honest)))
+    (λ unfit honest state is suits.
+    let here = subst g.A.Disk.honest c.close.ensures honest in
+    let limits = ap (λ (s : State). s.limits) (c.state.ensures ∙ sym (c.in-Ok.ensures.opened.only_state here state is)) ∙ is.stand.same_limits in
+    unfit suits.fits (by_limits c.state.result.now.limits is.shape c.args.shape is.holds.laid_out.names.in_range limits suits.room))
+    begun.ensures.refused begun.ensures.only begun.ensures.faults
 
 -- nothing was done to the new device
-pub returns-in-Err-clause-from_sync : goal.returns-in-Err-clause-from_sync
-returns-in-Err-clause-from_sync g c honest unformatted state stands = uncopied c.args.shape state (history_of g.B.Disk c.args.new.now)
+pub returns-in-Err-clause-any_moment : goal.returns-in-Err-clause-any_moment
+returns-in-Err-clause-any_moment g c = untouched g.B.Disk (IsCopiedFrom g.A.Disk c.args.shape c.args.old c.in-Err.field-0.disk) c.args.new.now
+
+pub returns-in-Err-clause-refused : goal.returns-in-Err-clause-refused
+returns-in-Err-clause-refused g c =
+    let refused = c.in-Err.ensures.refused in
+    refused_by_old g.A.Disk g.B.Disk Two One OldFormat (inl refl) _ c.args.old c.in-Err.field-0.disk c.in-Err.field-0.refusal c.args.new.now refused.only
+    (record { not_formatted = refused.not_formatted; other_format = refused.old_format; damaged = refused.damaged }) refused.fault

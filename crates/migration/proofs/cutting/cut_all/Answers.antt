@@ -13,7 +13,7 @@ cut_document-requires c =
     let documents = c.documents-documents.result.now in
     let document = c.document-item.result in
     let there = record_at_place documents c.loop-document.document-index document c.loop-document-test.true c.document-item.is in
-    let is = c.limits.ensures.state in (
+    let is = c.facts.ensures.state in (
       c.args.state.now.limits,
       is.each c.loop-document.document-index (record_of document) (ap (λ (ds : List DocumentRecord). slice_get ds c.loop-document.document-index) (sym c.documents-documents.ensures.documents) ∙ there),
       c.requires,

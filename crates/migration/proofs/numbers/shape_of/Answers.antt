@@ -16,10 +16,10 @@ returns-in-Ok-clause-shape g c =
     (λ (shape : Shape). g.A.Disk.honest c.read_numbers.result.device → (state : State) → (is : Found (g.A.Disk.seen c.args.device) Newer state) → is.shape ≡ shape)
     (λ shape named honest state is.
     let names = is.holds.laid_out.names in
-    sym (named honest is.shape names.in_range (ap (λ (l : List ℕ). take 32 (drop 1 l)) c.in-Ok.ensures.seen ∙ names.named)))
+    sym (named honest is.shape names.in_range (ap (λ (l : List ℕ). take 32 (drop 1 l)) c.in-Ok.ensures.device.seen ∙ names.named)))
     c.read_numbers.ensures.shape
 
 pub returns-in-Err-clause-damaged : goal.returns-in-Err-clause-damaged
 returns-in-Err-clause-damaged g c told honest =
     let same : c.in-Err.field-0.refusal ≡ Damaged = cc in
-    c.in-Err.ensures.damaged same honest
+    c.in-Err.ensures.refused.damaged same honest

@@ -1,5 +1,4 @@
 use Rattle.std.proofs.Common.{◌≡◌, inl, inr, true, Err, sym, ◌∙◌, ap, subst}
-use Rattle.std.proofs.lemmas.Result.{err_from_is_err_and}
 use Rattle.revision.specs.Sources.{Sources}
 use Rattle.revision.specs.Past.{Content, is_content, newest, content_at, sources_at}
 use Rattle.revision.specs.Pending.{record_of}
@@ -26,12 +25,11 @@ new-copy-requires-clause-content c =
     subst (λ (k : Content). is_content k ≡ true) (sym same) at.content
 
 -- a document that keeps the limits has a spelling
-pub returns-in_err-content-2-clause-only : goal.returns-in_err-content-2-clause-only
-returns-in_err-content-2-clause-only c =
-    let p = err_from_is_err_and c.from_residual-in_err-content-2.result c.from_residual-in_err-content-2.ensures.1 in
+pub as_alloc_error-requires : goal.as_alloc_error-requires
+as_alloc_error-requires c =
     let units = ap (λ (cell : Cell). cell.content.units) c.new-copy.ensures ∙ (c.in_ok-content.ensures.same ∙ c.document.ensures) in
-    let heavy = c.in_err-content-2.ensures.heavy in
-    rw p.1 (elim c.in_err-content-2.ensures.only [
+    let heavy = c.in-Err.ensures.heavy in
+    elim c.in-Err.ensures.only [
       | inl much ↦ absurd (light_enough c.requires.0 (record_of c.args.document.now).past c.new-copy.result.content.units c.requires.1 c.requires.2 units (heavy (ap (λ e. Err e) much)))
-      | inr none ↦ p.2 ∙ none
-    ])
+      | inr none ↦ none
+    ]

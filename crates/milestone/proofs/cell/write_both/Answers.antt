@@ -1,7 +1,7 @@
-use Rattle.std.proofs.Common.{refl, rules, arith}
-use Rattle.std.specs.Prelude.{◌+◌, ◌≤◌, length, ℕ, List}
+use Rattle.std.proofs.Common.{refl, arith}
+use Rattle.std.specs.Prelude.{◌+◌, ◌≤◌, length, ℕ}
 use Rattle.disk.specs.Crash.{history_of, Leaves}
-use Rattle.disk.specs.Device.{History, IsWrite, IsAtMostOneStep, SameOutside}
+use Rattle.disk.specs.Device.{History, IsWrite, IsAtMostOneStep}
 use Rattle.disk.proofs.CallerLemmas.{begins_anywhere, goes_on_write, same_outside_wider, same_outside_then}
 use Rattle.milestone.specs.LeftOutside.{IsLeftOutside}
 use Rattle.milestone.proofs.cell.write_both.Goals as goal

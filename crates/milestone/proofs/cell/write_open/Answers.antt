@@ -1,10 +1,8 @@
-use Rattle.std.proofs.Common.{◌≡◌, ◌+◌, ◌*◌, ◌≤◌, ℕ, Some, List, [], ◌∷◌, length, refl, ap, ◌∙◌, arith}
-use Rattle.disk.specs.Crash.{history_of}
+use Rattle.std.proofs.Common.{◌≡◌, ◌+◌, ◌≤◌, ℕ, Some, List, [], ◌∷◌, length, ap, ◌∙◌, arith}
 use Rattle.disk.specs.Device.{overwritten}
 use Rattle.disk.proofs.CallerLemmas.{leaves_map, same_outside_wider}
 use Rattle.journal.specs.Area.{frame, open_gate}
 use Rattle.milestone.specs.CellSpelling.{cell_body}
-use Rattle.milestone.specs.LeftOutside.{IsLeftOutside}
 use Rattle.milestone.proofs.Holding.{first_changed, put_cell, put_outside}
 use Rattle.milestone.proofs.cell.write_open.Goals as goal
 

@@ -9,8 +9,10 @@ apply_one-requires c =
     all_accepted c.args.job.now c.in_ok-document.document c.in_ok-one.one c.deltas.ensures.job c.in_ok-document.ensures.units
     (subst (λ (l : List (List Operation)). ComposesPart c.in_ok-one.one l) c.deltas.ensures.deltas c.in_ok-one.ensures.composes)
 
-pub returns-clause-content : goal.returns-clause-content
-returns-clause-content c =
-    c.in_ok-apply_one.ensures.made
-    ∙ all_made c.args.job.now c.in_ok-document.document c.in_ok-one.one c.deltas.ensures.job c.in_ok-document.ensures.units
-    (subst (λ (l : List (List Operation)). ComposesPart c.in_ok-one.one l) c.deltas.ensures.deltas c.in_ok-one.ensures.composes)
+pub returns : goal.returns
+returns c = record {
+  content =
+      c.in_ok-apply_one.ensures.made
+      ∙ all_made c.args.job.now c.in_ok-document.document c.in_ok-one.one c.deltas.ensures.job c.in_ok-document.ensures.units
+      (subst (λ (l : List (List Operation)). ComposesPart c.in_ok-one.one l) c.deltas.ensures.deltas c.in_ok-one.ensures.composes);
+}

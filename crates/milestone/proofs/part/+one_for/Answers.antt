@@ -29,8 +29,8 @@ returns-in-Ok-clause-lengths t c =
     (omega (arith, c.in_ok-first.ensures.lengths, ap lengths_of c.split_at.ensures.front))
     (omega (arith, c.in_ok-second.ensures.lengths, ap lengths_of c.split_at.ensures.back)) c.in-Ok.ensures.one
 
-pub returns-clause-only : goal.returns-clause-only
-returns-clause-only t c =
+pub as_alloc_error-requires : goal.as_alloc_error-requires
+as_alloc_error-requires t c =
     both-memory (length c.args.deltas.now / 2) c.args.deltas.now c.in_ok-first.first c.in_ok-second.second
     (subst (ComposesPart c.in_ok-first.first) c.split_at.ensures.front c.in_ok-first.ensures.composes)
     (subst (ComposesPart c.in_ok-second.second) c.split_at.ensures.back c.in_ok-second.ensures.composes) c.in-Err.refusal c.requires

@@ -1,4 +1,3 @@
-use Rattle.std.proofs.Common.{◌∙◌, ◌++◌, ◌∷◌, ap, arith}
 use Rattle.milestone.proofs.Marks.{mark_none, other_mark}
 use Rattle.milestone.proofs.reading.mark_in_byte.Goals as goal
 

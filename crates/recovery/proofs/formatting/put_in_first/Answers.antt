@@ -1,4 +1,4 @@
-use Rattle.std.proofs.Common.{◌≡◌, ◌+◌, ◌*◌, ◌≤◌, length, Some, subst, sym}
+use Rattle.std.proofs.Common.{◌+◌, ◌*◌, ◌≤◌, length, Some, subst, sym}
 use Rattle.std.specs.Prelude.{OnOk}
 use Rattle.history.specs.Cell.{Pair}
 use Rattle.milestone.specs.CellSpelling.{cell_body}

@@ -1,4 +1,4 @@
-use Rattle.std.proofs.Common.{◌≡◌, ◌≤◌, inl, get_or, arith}
+use Rattle.std.proofs.Common.{◌≡◌, inl, get_or, arith}
 use Rattle.recovery.specs.declared.marks.Mark.{Mark}
 use Rattle.recovery.specs.Marks.{revision_for}
 use Rattle.recovery.proofs.Covering.{next_mark, no_revision, at_most}

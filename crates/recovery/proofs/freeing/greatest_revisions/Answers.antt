@@ -1,4 +1,4 @@
-use Rattle.std.proofs.Common.{◌≡◌, ◌∙◌, ◌+◌, List, ℕ, get_or, take, subst, sym, ap, arith, Vec, Global, replicate}
+use Rattle.std.proofs.Common.{◌≡◌, ◌∙◌, ◌+◌, ℕ, get_or, take, subst, sym, Vec, Global, replicate}
 use Rattle.std.proofs.lemmas.List.{with_items_is}
 use Rattle.recovery.specs.declared.marks.Mark.{Mark}
 use Rattle.recovery.proofs.Gathered.{IsTable, table_none, table_pass, table_more}

@@ -1,4 +1,4 @@
-use Rattle.std.proofs.Common.{◌≡◌, ◌∙◌, List, take, sym, ap, arith}
+use Rattle.std.proofs.Common.{◌∙◌, List, take, sym, ap, arith}
 use Rattle.std.proofs.lemmas.List.{take_all}
 use Rattle.milestone.specs.Job.{Job}
 use Rattle.recovery.specs.declared.group.Member.{Member}

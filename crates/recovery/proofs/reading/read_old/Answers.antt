@@ -31,7 +31,7 @@ pub returns-in_err-shape-clause-damaged : goal.returns-in_err-shape-clause-damag
 returns-in_err-shape-clause-damaged g c =
     let p = err_from_is_err_and c.from_residual-in_err-shape.result c.from_residual-in_err-shape.ensures.1 in
     rw p.1 (λ is honest. (
-      subst IsFormatted c.is_synced_as.ensures.seen (c.in_err-shape.ensures.formatted (sym p.2 ∙ is) honest),
+      subst IsFormatted c.is_synced_as.ensures.seen (c.in_err-shape.ensures.refused.formatted (sym p.2 ∙ is) honest),
       λ two. search rules,
-      λ found holds. c.in_err-shape.ensures.damaged (sym p.2 ∙ is) honest found (subst (λ (l : List ℕ). FoundIn One l Newer found) (sym c.is_synced_as.ensures.seen) holds),
+      λ found holds. c.in_err-shape.ensures.refused.damaged (sym p.2 ∙ is) honest found (subst (λ (l : List ℕ). FoundIn One l Newer found) (sym c.is_synced_as.ensures.seen) holds),
     ))

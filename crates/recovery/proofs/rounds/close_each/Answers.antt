@@ -1,15 +1,13 @@
-use Rattle.std.proofs.Common.{◌≡◌, ◌⊎◌, inl, inr, List, ℕ, ◌+◌, ◌*◌, ◌≤◌, ◌<◌, length, get_or, take, refl, sym, ◌∙◌, ap, subst, arith, rules}
-use Rattle.std.specs.Prelude.{slice_get, Some, OnOk}
+use Rattle.std.proofs.Common.{◌≡◌, inl, List, ℕ, ◌+◌, ◌<◌, length, get_or, take, refl, sym, ◌∙◌, ap, subst, arith, rules}
+use Rattle.std.specs.Prelude.{slice_get, Some}
 use Rattle.std.proofs.lemmas.List.{take_all}
 use Rattle.std.proofs.lemmas.Option.{slice_get-get_or}
-use Rattle.disk.specs.Crash.{LeavesOnly}
 use Rattle.disk.proofs.CallerLemmas.{goes_on_sync}
 use Rattle.history.specs.Cell.{Pair, freed}
 use Rattle.milestone.specs.declared.cells.Cells.{Cells}
 use Rattle.milestone.specs.Together.{IsFreedOr}
 use Rattle.recovery.specs.declared.group.Member.{Member}
-use Rattle.recovery.specs.declared.shape.Shape.{Shape}
-use Rattle.recovery.specs.steps.Group.{HaveClosed, MayBeFreed, Stand, WriteCells, part, is_in}
+use Rattle.recovery.specs.steps.Group.{HaveClosed, MayBeFreed, Stand, part}
 use Rattle.recovery.proofs.ClosedBefore.{none_freed}
 use Rattle.recovery.proofs.Members.{part_next, part_still, part_before}
 use Rattle.recovery.proofs.Together.{writes_none, writes_one, writes_then, writes_wider, way_begins, way_left, way_more, stands_apart, within_here, on_ok}

@@ -1,9 +1,8 @@
-use Rattle.std.proofs.Common.{◌≡◌, ◌<◌, ℕ, Some, false, length, get_or, sym, ◌∙◌, ap, subst, arith, rules}
+use Rattle.std.proofs.Common.{◌≡◌, Some, false, get_or, sym, ◌∙◌, subst, arith, rules}
 use Rattle.std.specs.Prelude.{slice_get}
 use Rattle.std.proofs.lemmas.Option.{slice_get-get_or, same_Some}
 use Rattle.milestone.specs.declared.cells.Cells.{Cells}
 use Rattle.milestone.specs.Cells.{HasClosed, revisions_of}
-use Rattle.recovery.specs.declared.group.Member.{Member}
 use Rattle.recovery.proofs.ClosedBefore.{closed_more}
 use Rattle.recovery.proofs.rounds.is_one_full.Goals as goal
 

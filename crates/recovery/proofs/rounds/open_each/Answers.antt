@@ -1,16 +1,15 @@
-use Rattle.std.proofs.Common.{◌≡◌, ◌⊎◌, inl, inr, List, ℕ, ◌+◌, ◌*◌, ◌≤◌, ◌<◌, false, true, length, get_or, take, refl, sym, ◌∙◌, ap, subst, arith}
-use Rattle.std.specs.Prelude.{slice_get, Some, OnOk}
+use Rattle.std.proofs.Common.{◌≡◌, inl, List, ℕ, ◌+◌, ◌<◌, false, true, length, get_or, take, refl, sym, ◌∙◌, ap, subst, arith}
+use Rattle.std.specs.Prelude.{slice_get, Some}
 use Rattle.std.proofs.lemmas.List.{take_all}
 use Rattle.std.proofs.lemmas.Option.{slice_get-get_or}
 use Rattle.disk.proofs.CallerLemmas.{goes_on_sync}
 use Rattle.history.specs.Cell.{Cell, Pair}
 use Rattle.milestone.specs.Cells.{HasClosed, revisions_of, with_cell}
 use Rattle.milestone.specs.declared.cells.Cells.{Cells}
-use Rattle.milestone.specs.Revisions.{Revisions, revisions_in}
+use Rattle.milestone.specs.Revisions.{revisions_in}
 use Rattle.milestone.specs.Together.{IsPutOr, IsReady}
 use Rattle.recovery.specs.declared.group.Member.{Member}
-use Rattle.recovery.specs.declared.shape.Shape.{Shape}
-use Rattle.recovery.specs.steps.Group.{MayBePut, Stand, WriteCells, part, is_in}
+use Rattle.recovery.specs.steps.Group.{MayBePut, Stand, part, is_in}
 use Rattle.recovery.proofs.Members.{in_at, part_next, part_still, part_before}
 use Rattle.recovery.proofs.Together.{writes_none, writes_one, writes_then, writes_wider, way_begins, way_left, way_more, stands_apart, within_here, put_implies, waits_more, on_ok}
 use Rattle.recovery.proofs.rounds.open_each.Goals as goal

@@ -1,6 +1,4 @@
-use Rattle.std.proofs.Common.{◌≡◌, ◌⊎◌, inl, inr, ℕ, ◌+◌, ◌*◌, ◌≤◌, length, sym, ◌∙◌, ap, subst, arith}
-use Rattle.history.specs.Cell.{Cell, Pair}
-use Rattle.recovery.specs.declared.shape.Shape.{Shape}
+use Rattle.std.proofs.Common.{inl, inr, ◌+◌, ◌*◌, length, ap, arith}
 use Rattle.recovery.specs.steps.Group.{MayBeReplaced, MayBeTwice, StandTogether, put_in}
 use Rattle.recovery.proofs.OneRound.{places_on, stands_on, left_map, left_then, if_ok}
 use Rattle.recovery.proofs.Together.{writes_then, writes_wider}

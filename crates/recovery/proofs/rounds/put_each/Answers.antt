@@ -1,9 +1,8 @@
-use Rattle.std.proofs.Common.{◌≡◌, ◌⊎◌, inl, inr, ℕ, ◌+◌, ◌*◌, ◌≤◌, length, sym, ◌∙◌, ap, subst, arith}
-use Rattle.history.specs.Cell.{Cell, Pair, freed}
+use Rattle.std.proofs.Common.{◌≡◌, inl, ℕ, ◌+◌, ◌*◌, length, ◌∙◌, ap, arith}
+use Rattle.history.specs.Cell.{Pair, freed}
 use Rattle.milestone.specs.Cells.{with_cell}
-use Rattle.recovery.specs.declared.shape.Shape.{Shape}
 use Rattle.recovery.specs.steps.Group.{MayBeFreed, MayBePut, MayBeReplaced, StandTogether, part, put_in}
-use Rattle.recovery.proofs.OneRound.{costs_still, costs_before, costs_wider, closed_half, less_may, put_may, put_same, places_on, stands_on, stand_same, left_map, left_then, counts_on, if_ok}
+use Rattle.recovery.proofs.OneRound.{costs_still, costs_before, costs_wider, closed_half, less_may, put_may, put_same, places_on, stands_on, stand_same, left_map, left_then, if_ok}
 use Rattle.recovery.proofs.Together.{costs_then, writes_then, writes_wider}
 use Rattle.recovery.proofs.rounds.put_each.Goals as goal
 

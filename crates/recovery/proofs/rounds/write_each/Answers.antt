@@ -1,14 +1,13 @@
-use Rattle.std.proofs.Common.{◌≡◌, ◌⊎◌, inl, inr, List, ℕ, ◌+◌, ◌*◌, ◌≤◌, ◌<◌, false, length, get_or, set, take, refl, sym, ◌∙◌, ap, subst, arith}
-use Rattle.std.specs.Prelude.{slice_get, Some, OnOk}
+use Rattle.std.proofs.Common.{◌≡◌, List, ◌+◌, ◌<◌, false, length, get_or, set, take, refl, sym, ◌∙◌, ap, subst, arith}
+use Rattle.std.specs.Prelude.{slice_get, Some}
 use Rattle.std.proofs.lemmas.Bool.{false≢true}
 use Rattle.std.proofs.lemmas.List.{take_all, set-get_or}
 use Rattle.std.proofs.lemmas.Option.{slice_get_read}
 use Rattle.disk.proofs.CallerLemmas.{goes_on_sync}
-use Rattle.history.specs.Cell.{Cell, Pair}
+use Rattle.history.specs.Cell.{Cell}
 use Rattle.milestone.specs.declared.cells.Cells.{Cells}
 use Rattle.recovery.specs.declared.group.Member.{Member}
-use Rattle.recovery.specs.declared.shape.Shape.{Shape}
-use Rattle.recovery.specs.steps.Group.{AreReady, IsUnderWay, Stand, WriteCells, is_in}
+use Rattle.recovery.specs.steps.Group.{AreReady, IsUnderWay, Stand, WriteCells}
 use Rattle.recovery.proofs.Together.{writes_none, writes_one, writes_then, writes_wider, way_begins, way_left, way_more, stands_apart, within_here, room_here, framed_here, ready_more, same_cells, on_ok}
 use Rattle.recovery.proofs.rounds.write_each.Goals as goal
 

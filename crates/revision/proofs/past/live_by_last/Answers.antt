@@ -1,5 +1,5 @@
 use Rattle.std.proofs.Common.{◌-◌, ℕ, length, sym, ap, ◌∙◌, arith}
-use Rattle.revision.specs.declared.taker.Taker.{Taker}
+use Rattle.revision.specs.declared.rule.taker.Taker.{Taker}
 use Rattle.revision.specs.steps.Turning.{leaves_live}
 use Rattle.revision.proofs.Turning.{last-decides}
 use Rattle.revision.proofs.past.live_by_last.Goals as goal

@@ -10,11 +10,13 @@ use Rattle.revision.specs.State.{units_of, is_live}
 use Rattle.revision.specs.Pending.{record_of}
 use Rattle.server.proofs.documents.content_text.Goals as goal
 
-pub returns-clause-ok : goal.returns-clause-ok
-returns-clause-ok c =
-    let document = record_of c.args.document.now in
-    let live : is_live document ≡ true = search rules in
-    let delta : c.in_ok-delta.delta ≡ nf (End (units_of document)) =
-    c.in_ok-delta.ensures.delta ∙ ap (λ (units : List Element). nf (End units)) c.document.ensures in
-    let printed : string_bytes c.in_ok-content.content ≡ text_of c.in_ok-delta.delta = search rules in
-    printed ∙ ap (λ (ops : List Operation). text_of ops) delta ∙ sym (ap (λ b. cond {A = List ℕ} b (text_of (nf (End (units_of document)))) (codes "deleted")) live)
+pub returns : goal.returns
+returns c = record {
+  ok =
+      let document = record_of c.args.document.now in
+      let live : is_live document ≡ true = search rules in
+      let delta : c.in_ok-delta.delta ≡ nf (End (units_of document)) =
+      c.in_ok-delta.ensures.delta ∙ ap (λ (units : List Element). nf (End units)) c.document.ensures in
+      let printed : string_bytes c.in_ok-content.content ≡ text_of c.in_ok-delta.delta = search rules in
+      printed ∙ ap (λ (ops : List Operation). text_of ops) delta ∙ sym (ap (λ b. cond {A = List ℕ} b (text_of (nf (End (units_of document)))) (codes "deleted")) live);
+}

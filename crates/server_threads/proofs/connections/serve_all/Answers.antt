@@ -12,17 +12,17 @@ use Rattle.server_threads.proofs.connections.serve_all.Goals as goal
 pub serve_desks-requires-send-K : goal.serve_desks-requires-send-K
 serve_desks-requires-send-K g c κs within =
     param_send 0 _ (arg_send _ yes _
-    (desk_send (record { mir = named 3; lft = κs.1.1.1.0 }) (param 3 g.row.D) (param 0 g.row.J) (param 1 g.row.R) g.J.Site g.J.Ledger
-    c.type_bounds.send-J c.type_bounds.sync-J c.type_bounds.sync-R))
+    (desk_send (record { mir = named 3; lft = κs.1.1.1.0 }) (param 3 g.row.D) (param 0 g.row.L) (param 1 g.row.R) g.L.Life g.L.Ledger
+    c.type_bounds.send-L c.type_bounds.sync-L c.type_bounds.sync-R))
 
 pub returns-in-Ok-clause-served : goal.returns-in-Ok-clause-served
-returns-in-Ok-clause-served g c = each_served g.J.Site.start c.args.desks.items c.in-Ok.desks.items c.in-Ok.ensures.served c.requires.first
+returns-in-Ok-clause-served g c = each_served g.L.Life.start c.args.desks.items c.in-Ok.desks.items c.in-Ok.ensures.served c.requires.first
 
 pub returns-in-Ok-clause-as_many : goal.returns-in-Ok-clause-as_many
-returns-in-Ok-clause-as_many g c = as_many g.J.Site.start c.args.desks.items c.in-Ok.desks.items c.in-Ok.ensures.served
+returns-in-Ok-clause-as_many g c = as_many g.L.Life.start c.args.desks.items c.in-Ok.desks.items c.in-Ok.ensures.served
 
 -- nobody was served
 pub returns-clause-served : goal.returns-clause-served
 returns-clause-served g c =
-    unserved g.J.Site.start c.in-Err.failed.value.items
+    unserved g.L.Life.start c.in-Err.failed.value.items
     (subst (λ v. All (λ desk. desk ≡ first_desk) v.items) (sym c.in-Err.ensures.refused) c.requires.first)

@@ -11,20 +11,20 @@ use Rattle.server_threads.proofs.connections.serve_from.Goals as goal
 pub returns-in-Ok-clause-served : goal.returns-in-Ok-clause-served
 returns-in-Ok-clause-served g c =
     let past = c.in-Ok.past in
-    let lived = lived_from (EachHasServed g.J.Site.start) g.J.Site.start c.args.server.flusher past.ordered past.published past.tally.counted past.written
+    let lived = lived_from (EachHasServed g.L.Life.start) g.L.Life.start c.args.server.flusher past.ordered past.published past.tally.counted past.written
     c.end-store.result.1 (store_of past.flusher) c.end-store.result.0 c.end-store.ensures.store c.requires.started c.in-Ok.ensures.held c.end-store.ensures.counted in
-    served_as (EachHasServed g.J.Site.start) (EachHasServed g.J.Site.start) (is_ok c.end-store.result.1) (is_ok c.first_failure.result) (store_of c.args.server.flusher) c.end-store.result.0
+    served_as (EachHasServed g.L.Life.start) (EachHasServed g.L.Life.start) (is_ok c.end-store.result.1) (is_ok c.first_failure.result) (store_of c.args.server.flusher) c.end-store.result.0
     (λ desks is. is) (well_by c.first_failure.result c.end-store.result.1 c.first_failure.ensures.ok) lived.served
 
 pub returns-in-Ok-clause-fails : goal.returns-in-Ok-clause-fails
 returns-in-Ok-clause-fails g c =
     let past = c.in-Ok.past in
-    let lived = lived_from (EachHasServed g.J.Site.start) g.J.Site.start c.args.server.flusher past.ordered past.published past.tally.counted past.written
+    let lived = lived_from (EachHasServed g.L.Life.start) g.L.Life.start c.args.server.flusher past.ordered past.published past.tally.counted past.written
     c.end-store.result.1 (store_of past.flusher) c.end-store.result.0 c.end-store.ensures.store c.requires.started c.in-Ok.ensures.held c.end-store.ensures.counted in
     λ works. (λ failed. c.first_failure.ensures.fault.1 ((lived.fails works).0 failed), λ is. (lived.fails works).1 (c.first_failure.ensures.fault.0 is))
 
 -- nobody was served
 pub returns-in-Err-clause-served : goal.returns-in-Err-clause-served
 returns-in-Err-clause-served g c =
-    subst (λ s. WasServed (EachHasServed g.J.Site.start) false (store_of c.args.server.flusher) s) (sym (c.end.ensures ∙ ap store_of c.in-Err.ensures.refused))
-    (none_served (EachHasServed g.J.Site.start) (store_of c.args.server.flusher) (nobody_served g.J.Site.start))
+    subst (λ s. WasServed (EachHasServed g.L.Life.start) false (store_of c.args.server.flusher) s) (sym (c.end.ensures ∙ ap store_of c.in-Err.ensures.refused))
+    (none_served (EachHasServed g.L.Life.start) (store_of c.args.server.flusher) (nobody_served g.L.Life.start))

@@ -41,8 +41,8 @@ loop-desk-preserved g c =
           (subst (λ l. IsPrefix desk.told l) there (subst (λ t. IsPrefix t here) told c.covers-in-loop-desk.ensures.begins));
       before = prefix_trans c.args.ordered.now at.ordered c.join.new.ordered i.before c.join.ensures.before;
       found = one_found_more at.ordered c.join.new.ordered at.yielded desk i.found c.join.ensures.before c.join.ensures.found;
-      told_same = c.covers-in-loop-desk.ensures.told ∙ i.told_same;
-      committed_same = c.covers-in-loop-desk.ensures.committed ∙ i.committed_same;
+      told_same = c.covers-in-loop-desk.ensures.batches.told ∙ i.told_same;
+      committed_same = c.covers-in-loop-desk.ensures.batches.committed ∙ i.committed_same;
       store_same = c.covers-in-loop-desk.ensures.store ∙ i.store_same;
     }
 

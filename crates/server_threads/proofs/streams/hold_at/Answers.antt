@@ -8,7 +8,7 @@ returns-in-Ok-hold_beside-clause-held g c = record {
   last = c.in-Ok-hold_beside.field-0.flusher;
   desks = c.in-Ok-hold_beside.field-0.held.1.items;
   before = record { state = c.kept.ensures };
-  wrote = subst (λ w. HasWritten g.J.Site.start c.args.server.flusher c.in-Ok-hold_beside.field-0.flusher w) (sym c.tally_all.ensures.written) c.in-Ok-hold_beside.ensures.written;
+  wrote = subst (λ w. HasWritten g.L.Life.start c.args.server.flusher c.in-Ok-hold_beside.field-0.flusher w) (sym c.tally_all.ensures.written) c.in-Ok-hold_beside.ensures.written;
   tallied = c.tally_all.ensures.tallied;
   sessions = search rules;
 }

@@ -1,7 +1,7 @@
 use Rattle.std.proofs.Common.{sym, subst, false}
 use Rattle.std.specs.Prelude.{is_ok, Err}
 use Rattle.recovery.specs.Open.{state_of}
-use Rattle.serving.specs.declared.failure.Failure.TheVariants.{Refused}
+use Rattle.serving.specs.declared.failure.ServingError.TheVariants.{Refused}
 use Rattle.server_threads.specs.Served.{WasServed}
 use Rattle.server_threads.specs.Streams.{ByOne, EndsAtHub}
 use Rattle.server_threads.proofs.Served.{one_unserved}

@@ -2,7 +2,7 @@ use Rattle.std.proofs.Common.{refl}
 use Rattle.std.specs.Prelude.{Err}
 use Rattle.refusal.specs.declared.Refusal.TheVariants.{NoMemory}
 use Rattle.recovery.specs.Open.{state_of}
-use Rattle.serving.specs.declared.failure.Failure.TheVariants.{Refused}
+use Rattle.serving.specs.declared.failure.ServingError.TheVariants.{Refused}
 use Rattle.server_threads.specs.Streams.{ByOne, EndsAtHub}
 use Rattle.server_threads.proofs.Served.{one_unserved}
 use Rattle.server_threads.proofs.Ended.{nothing_asked}

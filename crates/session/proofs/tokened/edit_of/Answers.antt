@@ -1,13 +1,14 @@
-use Rattle.std.proofs.Common.{◌≡◌, ℕ, List, [], Bor, Some, Ok, ap, subst, ◌∙◌, arith}
+use Rattle.std.proofs.Common.{◌≡◌, ℕ, List, [], Bor, Some, Ok, ap, ◌∙◌, arith}
 use Rattle.std.specs.Str.{IsUtf8}
 use Rattle.json.specs.Token.{Token}
-use Rattle.json.specs.Lex.{lex, punctuate, tokens}
+use Rattle.json.specs.Lex.{tokens}
 use Rattle.serde_json.specs.Data.{Data}
 use Rattle.revision.specs.Command.{Command}
 use Rattle.session.specs.declared.request.Request.TheVariants.{Ask}
 use Rattle.session.specs.Request.{of_value}
 use Rattle.session.specs.steps.Tokened.{Reads, IsEdit}
-use Rattle.session.proofs.ScalarTokens.{kept, some_so, matched_ok}
+use Rattle.attributes.proofs.CallerLemmas.{IfSome-map}
+use Rattle.session.proofs.ScalarTokens.{kept, matched_ok}
 use Rattle.session.proofs.WholeLine.{line_read}
 use Rattle.session.proofs.tokened.edit_of.Goals as goal
 
@@ -20,6 +21,6 @@ returns c =
     let over : c.read.new.reader ≡ [] = grind arith in
     let spells = c.in_ok-fields.ensures in
     let reads : Reads 4 (tokens text) spells.0 [] = rw (← opened, ← over) spells.2 in
-    some_so (λ (command : Command). (value : Data) → IsEdit c.in_ok-fields.fields value → of_value (Some c.args.source.now) (Some value) ≡ Ok (Ask command)) _ c.command.result
+    IfSome-map (λ (command : Command). (value : Data) → IsEdit c.in_ok-fields.fields value → of_value (Some c.args.source.now) (Some value) ≡ Ok (Ask command)) _ c.command.result
     (λ command due. ap (of_value (Some c.args.source.now)) (line_read line text spells.0 both.1 both.0 reads) ∙ due spells.0 spells.1)
     c.command.ensures

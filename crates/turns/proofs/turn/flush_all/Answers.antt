@@ -4,17 +4,17 @@ use Rattle.turns.proofs.Writing.{writes_none, writes_on, works_after, fails_err}
 use Rattle.turns.proofs.turn.flush_all.Goals as goal
 
 pub loop-init : goal.loop-init
-loop-init g c = record { works = λ works. works; writes = writes_none g.J.Site.start c.args.flusher.now c.kept.ensures }
+loop-init g c = record { works = λ works. works; writes = writes_none g.L.Life.start c.args.flusher.now c.kept.ensures }
 
 -- a turn failed the board
 pub returns-in-Err-clause-writes : goal.returns-in-Err-clause-writes
 returns-in-Err-clause-writes g c =
     let i = c.loop.invariant in
-    writes_on g.J.Site.start c.args.flusher.now c.loop.flusher c.turn_on.new.flusher i.writes i.works c.turn_on.ensures.writes
+    writes_on g.L.Life.start c.args.flusher.now c.loop.flusher c.turn_or_yield.new.flusher i.writes i.works c.turn_or_yield.ensures.writes
 
 pub returns-in-Err-clause-fails : goal.returns-in-Err-clause-fails
 returns-in-Err-clause-fails g c works =
-    fails_err c.in-Err.failed (has_failed (store_of c.loop.flusher)) (has_failed (store_of c.turn_on.new.flusher)) c.in-Err.ensures.fails (c.loop.invariant.works works)
+    fails_err c.in-Err.failed (has_failed (store_of c.loop.flusher)) (has_failed (store_of c.turn_or_yield.new.flusher)) c.in-Err.ensures.fails (c.loop.invariant.works works)
 
 pub returns-in-Err-clause-causes : goal.returns-in-Err-clause-causes
 returns-in-Err-clause-causes g c no_fault =
@@ -24,15 +24,15 @@ returns-in-Err-clause-causes g c no_fault =
 pub returns-in-Err-wait_work-clause-writes : goal.returns-in-Err-wait_work-clause-writes
 returns-in-Err-wait_work-clause-writes g c =
     let i = c.loop.invariant in
-    writes_on g.J.Site.start c.args.flusher.now c.loop.flusher c.turn_on.new.flusher i.writes i.works c.turn_on.ensures.writes
+    writes_on g.L.Life.start c.args.flusher.now c.loop.flusher c.turn_or_yield.new.flusher i.writes i.works c.turn_or_yield.ensures.writes
 
 -- a turn was made
 pub loop-preserved : goal.loop-preserved
 loop-preserved g c =
     let i = c.loop.invariant in
     record {
-      works = λ works. works_after c.in_default.field-0 (has_failed (store_of c.loop.flusher)) (has_failed (store_of c.turn_on.new.flusher)) c.in_default.ensures.fails (i.works works);
-      writes = writes_on g.J.Site.start c.args.flusher.now c.loop.flusher c.turn_on.new.flusher i.writes i.works c.turn_on.ensures.writes;
+      works = λ works. works_after c.in_default.field-0 (has_failed (store_of c.loop.flusher)) (has_failed (store_of c.turn_or_yield.new.flusher)) c.in_default.ensures.fails (i.works works);
+      writes = writes_on g.L.Life.start c.args.flusher.now c.loop.flusher c.turn_or_yield.new.flusher i.writes i.works c.turn_or_yield.ensures.writes;
     }
 
 -- a turn was made, and work waits
@@ -40,6 +40,6 @@ pub loop-preserved-in_default-wait_work : goal.loop-preserved-in_default-wait_wo
 loop-preserved-in_default-wait_work g c =
     let i = c.loop.invariant in
     record {
-      works = λ works. works_after c.in_default.field-0 (has_failed (store_of c.loop.flusher)) (has_failed (store_of c.turn_on.new.flusher)) c.in_default.ensures.fails (i.works works);
-      writes = writes_on g.J.Site.start c.args.flusher.now c.loop.flusher c.turn_on.new.flusher i.writes i.works c.turn_on.ensures.writes;
+      works = λ works. works_after c.in_default.field-0 (has_failed (store_of c.loop.flusher)) (has_failed (store_of c.turn_or_yield.new.flusher)) c.in_default.ensures.fails (i.works works);
+      writes = writes_on g.L.Life.start c.args.flusher.now c.loop.flusher c.turn_or_yield.new.flusher i.writes i.works c.turn_or_yield.ensures.writes;
     }

@@ -7,5 +7,5 @@ use Rattle.turns.proofs.turn.flush_all.Given as goal
 abbrev pub invariant-loop : goal.invariant-loop
 invariant-loop g l = record {
   works : has_failed (store_of l.fn.flusher) ≡ false → has_failed (store_of l.flusher) ≡ false;
-  writes : Writes g.J.Site.start l.fn.flusher l.flusher;
+  writes : Writes g.L.Life.start l.fn.flusher l.flusher;
 }

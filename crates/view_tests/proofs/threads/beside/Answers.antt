@@ -6,6 +6,6 @@ use Rattle.view_tests.proofs.threads.beside.Goals as goal
 
 pub join-last-requires-send-F : goal.join-last-requires-send-F
 join-last-requires-send-F g c κs within =
-    let viewer = viewer_send disk.the_row (param 0 g.row.J) g.J.Site g.J.Ledger c.type_bounds.send-J c.type_bounds.sync-J in
+    let viewer = viewer_send disk.the_row (param 0 g.row.L) g.L.Life g.L.Ledger c.type_bounds.send-L c.type_bounds.sync-L in
     let runtime = c.type_bounds.sync-R in
     search sendable depth 20 fits 20000

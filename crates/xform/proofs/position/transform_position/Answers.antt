@@ -6,7 +6,7 @@ use Rattle.delta.specs.declared.op.OpRef.{OpRef}
 use Rattle.xform.specs.Place.{place}
 use Rattle.xform.proofs.Places.{drop-op, stands-insert, stands-insert_after, stands-retained, stands-deleted, within_retained, within_deleted}
 use Rattle.xform.proofs.position.transform_position.Goals as goal
-use Rattle.xform.proofs.position.transform_position.Goals.{in-Text+then-before-gt0, then-before-gt0-via-then-before-gt0, then-before-gt0-via-else-before-gt0+then-not-priority, in-Text+else-before-gt0+else-not-priority, in-Retain+else-kept-len, in-Delete+else-deleted-len}
+use Rattle.xform.proofs.position.transform_position.Goals.{in-Text+then-before-gt0, in-Text+else-before-gt0+else-not-priority, in-Retain+else-kept-len, in-Delete+else-deleted-len}
 
 pub returns-then-kept-len : goal.returns-then-kept-len
 returns-then-kept-len c =

@@ -10,6 +10,8 @@ loop-key-preserved c =
     ∙ (insert-same c.loop-key.invariant c.in_ok-copy.ensures.same c.in_ok-copy-2.ensures.same
     ∙ insert-prefix c.args.self.now c.loop-key.key-index c.loop-key-item.result read.0 read.1)
 
-pub returns-clause-same : goal.returns-clause-same
-returns-clause-same c =
-    c.loop-key.invariant ∙ prefix-over c.args.self.now _ c.loop-key.key-index c.entries-key-items.ensures c.loop-key.auto.key-index-end c.loop-key-test.false
+pub returns : goal.returns
+returns c = record {
+  same =
+      c.loop-key.invariant ∙ prefix-over c.args.self.now _ c.loop-key.key-index c.entries-key-items.ensures c.loop-key.auto.key-index-end c.loop-key-test.false;
+}

@@ -35,8 +35,7 @@ pub returns-in_err-put-clause-bad : goal.returns-in_err-put-clause-bad
 returns-in_err-put-clause-bad c =
     let bounded = bounded-room c.self.inside.ops.items c.args.self.now c.args.op c.self.inside.base c.self.inside.out c.base_len-base.result c.out_len-out.result c.self.invariant c.self.view_is c.base_len-base.ensures c.out_len-out.ensures c.if-base-self.false c.if-out-self.false in
     let p = err_from_is_err_and c.from_residual.result c.from_residual.ensures.1 in
-    let only : c.in_err-put.field-0.0 ≡ NoMemory = c.in_err-put.ensures.only in
-    let from : p.0 ≡ c.in_err-put.field-0.0 = p.2 in
+    let from : p.0 ≡ NoMemory = p.2 in
     let was : ◌≡◌ {A = Result (Unit {0}) Refusal} c.from_residual.result (Err p.0) = p.1 in
     (λ (e : ◌≡◌ {A = Result (Unit {0}) Refusal} c.from_residual.result (Err BadOps)). absurd (cc), λ past. absurd (past bounded))
 

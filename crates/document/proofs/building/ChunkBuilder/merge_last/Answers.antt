@@ -16,20 +16,22 @@ merge_into-requires-clause-bound c =
       c.requires.bound,
     )
 
-pub returns-clause-ok : goal.returns-clause-ok
-returns-clause-ok c =
-    let before = runs_of_chunks c.refill.new.made.items in
-    let new = before ++ c.merge_into.new.runs.items in
-    let more = letters (units_of c.args.text.now) c.args.attrs.now in
-    let old = runs_of_chunks c.self.inside.made.items ++ c.self.inside.loose.items in
-    let filled : 0 < length old =
-    elim c.else-is_empty.branch [
-      | else-is_empty-via-then-is_empty+else-not-takes w ↦ subst (λ l. 0 < length l) (sym c.self.view_is) (some_last c.args.self.now c.args.attrs.now (w.takes.ensures.0 w.if-not-takes.false))
-      | else-is_empty-via-else-is_empty w ↦ let some : 0 < length c.self.inside.loose.items = search rules in
-          omega (arith, length-append (runs_of_chunks c.self.inside.made.items) c.self.inside.loose.items, some)
-    ] in
-    let some = c.in_ok-refill.ensures.some filled in
-    subst
-    (λ l. MatchBool c.in_ok-merged.merged (TakesText l new more c.args.attrs.now) ((last_attributes l ≢ Some c.args.attrs.now) × (new ≡ l)))
-    (c.in_ok-refill.ensures.runs ∙ c.self.view_is)
-    (merged_loose c.in_ok-merged.merged before c.refill.new.loose.items c.merge_into.new.runs.items more c.args.attrs.now some c.in_ok-merged.ensures.ok)
+pub returns : goal.returns
+returns c = record {
+  ok =
+      let before = runs_of_chunks c.refill.new.made.items in
+      let new = before ++ c.merge_into.new.runs.items in
+      let more = letters (units_of c.args.text.now) c.args.attrs.now in
+      let old = runs_of_chunks c.self.inside.made.items ++ c.self.inside.loose.items in
+      let filled : 0 < length old =
+      elim c.else-is_empty.branch [
+        | else-is_empty-via-then-is_empty+else-not-takes w ↦ subst (λ l. 0 < length l) (sym c.self.view_is) (some_last c.args.self.now c.args.attrs.now (w.takes.ensures.0 w.if-not-takes.false))
+        | else-is_empty-via-else-is_empty w ↦ let some : 0 < length c.self.inside.loose.items = search rules in
+            omega (arith, length-append (runs_of_chunks c.self.inside.made.items) c.self.inside.loose.items, some)
+      ] in
+      let some = c.in_ok-refill.ensures.some filled in
+      subst
+      (λ l. MatchBool c.in_ok-merged.merged (TakesText l new more c.args.attrs.now) ((last_attributes l ≢ Some c.args.attrs.now) × (new ≡ l)))
+      (c.in_ok-refill.ensures.runs ∙ c.self.view_is)
+      (merged_loose c.in_ok-merged.merged before c.refill.new.loose.items c.merge_into.new.runs.items more c.args.attrs.now some c.in_ok-merged.ensures.ok);
+}

@@ -12,8 +12,8 @@ use Rattle.document.proofs.document.Document.as_delta.Goals.{After-finish}
 pub unreachable-requires : goal.unreachable-requires
 unreachable-requires c = whole_at_end c.loop-left.cursor c.loop-left.left (sym c.loop-left.invariant.left) c.in-Err.ensures.parted
 
-pub returns-in-Err-push-clause-only : goal.returns-in-Err-push-clause-only
-returns-in-Err-push-clause-only c =
+pub as_alloc_error-requires : goal.as_alloc_error-requires
+as_alloc_error-requires c =
     let so_far = c.loop-left.invariant.made in
     only_memory c.in-Err-push.refusal _
     (bounded_more so_far.0 c.loop-left.builder c.in_ok-op.op so_far.1 c.in_ok-op.ensures.base

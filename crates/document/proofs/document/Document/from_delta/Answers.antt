@@ -13,4 +13,4 @@ returns-in-Err-clause-past_end c =
 
 pub returns-in-Err-clause-only : goal.returns-in-Err-clause-only
 returns-in-Err-clause-only c =
-    refused_empty c.args.delta.now c.ops.ensures.bounded c.in-Err.refusal (rw c.empty-document.ensures at c.in-Err.ensures.only)
+    refused_empty c.args.delta.now c.facts.ensures.bounded c.in-Err.refusal (rw c.empty-document.ensures at c.in-Err.ensures.only)

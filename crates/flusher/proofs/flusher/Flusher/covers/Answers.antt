@@ -1,4 +1,4 @@
-use Rattle.std.proofs.Common.{◌≡◌, ◌∙◌, ◌++◌, length, sym, ap, subst, arith}
+use Rattle.std.proofs.Common.{◌∙◌, ◌++◌, length, refl, sym, ap, subst, arith}
 use Rattle.revision.specs.State.{fold}
 use Rattle.recovery.specs.Found.{commands_of}
 use Rattle.recovery.specs.Open.{state_of}
@@ -16,3 +16,8 @@ invariant_of-self g c =
       fits = λ run is. subst (λ (p : Published). MayCommit (state_of before.store) run.commands p.unpublished) (sym same) (before.fits run is);
       placed = λ run is. before.placed run is ∙ ap (λ (p : Published). length (commands_of p.told)) (sym same);
     }
+
+pub returns-clause-batches : goal.returns-clause-batches
+returns-clause-batches g c =
+    let same = c.covers.ensures.same in
+    record { told = ap (λ (p : Published). p.told) same; committed = ap (λ (p : Published). p.unpublished) same; waiting = refl }

@@ -1,12 +1,13 @@
-use Rattle.std.proofs.Common.{sym, subst, ◌∙◌}
+use Rattle.std.proofs.Common.{refl, sym, subst, ◌∙◌}
 use Rattle.recovery.proofs.CallerLemmas.{goes_still, found_as, found_open}
 use Rattle.flusher.specs.Flushers.{MayCommit}
+use Rattle.flusher.proofs.Holdings.{keeps_by}
 use Rattle.flusher.proofs.flusher.Flusher.give_up_job.Goals as goal
 
-pub returns-clause-goes : goal.returns-clause-goes
-returns-clause-goes g c =
+pub returns-clause-keeps : goal.returns-clause-keeps
+returns-clause-keeps g c =
     let e = c.give_up_job.ensures in
-    goes_still e.same.device e.same.failed e.open (λ is_open. found_as _ _ (found_open c.args.self.now.store is_open))
+    keeps_by (goes_still e.same.device e.same.failed e.open (λ is_open. found_as _ _ (found_open c.args.self.now.store is_open))) e.same.state refl refl refl
 
 pub invariant_of-self : goal.invariant_of-self
 invariant_of-self g c =

@@ -1,12 +1,12 @@
-use Rattle.std.proofs.Common.{sym, subst, ◌∙◌}
+use Rattle.std.proofs.Common.{refl, sym, subst, ◌∙◌}
 use Rattle.flusher.specs.Flushers.{MayCommit}
-use Rattle.flusher.proofs.Holdings.{goes_put}
+use Rattle.flusher.proofs.Holdings.{goes_put, keeps_by}
 use Rattle.flusher.proofs.flusher.Flusher.put_milestone.Goals as goal
 
-pub returns-clause-goes : goal.returns-clause-goes
-returns-clause-goes g c =
+pub returns-clause-keeps : goal.returns-clause-keeps
+returns-clause-keeps g c =
     let e = c.put_milestone.ensures in
-    goes_put c.args.self.now.store c.put_milestone.new.self c.args.composed.now c.put_milestone.result e.faults e.any_moment e.done e.kept
+    keeps_by (goes_put c.args.self.now.store c.put_milestone.new.self c.args.composed.now c.put_milestone.result e.faults e.any_moment e.done e.kept) e.state refl refl refl
 
 pub invariant_of-self : goal.invariant_of-self
 invariant_of-self g c =

@@ -1,6 +1,10 @@
-use Rattle.std.proofs.Common.{sym, subst, ◌∙◌}
+use Rattle.std.proofs.Common.{refl, sym, subst, ◌∙◌}
 use Rattle.flusher.specs.Flushers.{MayCommit}
+use Rattle.flusher.proofs.Holdings.{keeps_by}
 use Rattle.flusher.proofs.flusher.Flusher.put_milestones.Goals as goal
+
+pub returns-clause-keeps : goal.returns-clause-keeps
+returns-clause-keeps g c = keeps_by c.put_milestones.ensures.goes c.put_milestones.ensures.keeps.state refl refl refl
 
 pub invariant_of-self : goal.invariant_of-self
 invariant_of-self g c =

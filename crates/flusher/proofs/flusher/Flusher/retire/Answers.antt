@@ -1,26 +1,31 @@
-use Rattle.std.proofs.Common.{sym, subst, ◌∙◌}
+use Rattle.std.proofs.Common.{refl, sym, subst, ◌∙◌}
 use Rattle.flusher.specs.Flushers.{MayCommit}
-use Rattle.flusher.proofs.Holdings.{goes_retired, retired_now, retire_why}
+use Rattle.flusher.proofs.Holdings.{keeps_by}
+use Rattle.flusher.proofs.Retirement.{retired_taken, why_of_retirement, unretired}
 use Rattle.flusher.proofs.flusher.Flusher.retire.Goals as goal
 
-pub returns-clause-goes : goal.returns-clause-goes
-returns-clause-goes g c =
+pub returns-clause-keeps : goal.returns-clause-keeps
+returns-clause-keeps g c =
     let e = c.retire.ensures in
-    goes_retired c.args.self.now.store c.retire.new.self c.retire.result e.faults e.any_moment e.done e.only e.untouched
+    keeps_by e.goes e.stays.state refl refl refl
 
 pub returns-clause-retired : goal.returns-clause-retired
-returns-clause-retired g c =
-    let e = c.retire.ensures in
-    retired_now c.args.self.now.store c.retire.new.self c.retire.result e.faults.works e.state e.not_needed e.done
+returns-clause-retired g c = retired_taken c.args.self.now.store c.retire.new.self c.retire.result c.retire.ensures.retired
 
 pub returns-clause-needed : goal.returns-clause-needed
 returns-clause-needed g c =
     let e = c.retire.ensures in
-    retire_why c.args.self.now.store c.retire.new.self c.retire.result e.only e.needed
+    why_of_retirement c.args.self.now.store c.retire.new.self c.retire.result e.faults e.needed
+
+pub returns-clause-untouched : goal.returns-clause-untouched
+returns-clause-untouched g c = unretired c.args.self.now.store c.retire.new.self c.retire.result c.retire.ensures.left
+
+pub returns-clause-only : goal.returns-clause-only
+returns-clause-only g c = c.retire.ensures.needed.only
 
 pub invariant_of-self : goal.invariant_of-self
 invariant_of-self g c =
-    let same = c.retire.ensures.state in
+    let same = c.retire.ensures.stays.state in
     record {
       kept = same ∙ c.args.self.now.kept;
       few = c.args.self.now.few;

@@ -1,6 +1,7 @@
-use Rattle.std.proofs.Common.{◌≡◌, None}
-use Rattle.refusal.specs.declared.Refusal.TheVariants.{JournalFull}
-use Rattle.flusher.proofs.Holdings.{same_refusal, none_of_held, published_or_not, kept_moved, few_moved}
+use Rattle.std.proofs.Common.{◌≡◌, None, refl}
+use Rattle.refusal.specs.declared.Refusal.TheVariants.{StillNeeded}
+use Rattle.flusher.proofs.Holdings.{no_error, same_refusal, none_of_held, published_or_not, kept_moved, few_moved}
+use Rattle.flusher.proofs.Writes.{faults_refused, faults_behind, unpublished_held, unpublished_behind, refused_by_memory, published_behind, published_as, memory_no_fault}
 use Rattle.flusher.proofs.flusher.Flusher.write.Goals as goal
 
 -- what was given is published, or it stays given
@@ -9,7 +10,7 @@ invariant_of-self g c =
     let before = c.commit_freeing.new.self in
     let e = c.publish.ensures in
     let moved = published_or_not c.publish.result before.publisher c.publish.new.self e.batch e.told e.shown e.none e.unchanged in
-    let none : before.waiting ≡ None = none_of_held before.waiting c.in_default.ensures.ok.1 in
+    let none : before.waiting ≡ None = none_of_held before.waiting c.in_default.ensures.committed.waiting in
     record {
       kept = kept_moved _ _ before.publisher c.publish.new.self moved before.kept;
       few = few_moved before.publisher c.publish.new.self moved before.few;
@@ -17,16 +18,40 @@ invariant_of-self g c =
       placed = λ run is. absurd (let no : ⊥ = cc in no);
     }
 
-pub returns-in-Err-clause-full_still : goal.returns-in-Err-clause-full_still
-returns-in-Err-clause-full_still g c told = c.in-Err.ensures.full_still (same_refusal c.in-Err.refusal JournalFull told)
+-- its commit is refused
+pub returns-in-Err-clause-refused : goal.returns-in-Err-clause-refused
+returns-in-Err-clause-refused g c = unpublished_held c.in-Err.ensures.refused
 
--- a commit that was Ok had no batch in a store that had failed, and none that finds no room
-pub returns-in-Ok-clause-failed_before : goal.returns-in-Ok-clause-failed_before
-returns-in-Ok-clause-failed_before g c failed batch held =
-    let told = (c.in_default.ensures.failed_before failed batch held).0 in
-    let no : ⊥ = cc in absurd no
+pub returns-in-Err-clause-few : goal.returns-in-Err-clause-few
+returns-in-Err-clause-few g c works room few = same_refusal c.in-Err.refusal StillNeeded (c.in-Err.ensures.few works room few)
 
+pub returns-in-Err-clause-faults : goal.returns-in-Err-clause-faults
+returns-in-Err-clause-faults g c = faults_refused c.in-Err.refusal c.in-Err.ensures.faults
+
+-- it is committed, and published
+pub returns-in-Ok-clause-published : goal.returns-in-Ok-clause-published
+returns-in-Ok-clause-published g c =
+    let e = c.in-Ok.ensures in
+    published_as c.to_settle.result c.in-Ok.published c.to_settle.ensures
+    (published_behind c.in-Ok.published c.in_default.ensures.committed refl refl e.batch e.told e.shown e.none)
+
+-- a commit that was Ok had no batch that finds no room where too few slots are open
 pub returns-in-Ok-clause-few : goal.returns-in-Ok-clause-few
-returns-in-Ok-clause-few g c batch held works full few =
-    let told = c.in_default.ensures.few batch held works full few in
-    let no : ⊥ = cc in absurd no
+returns-in-Ok-clause-few g c works room few = absurd (no_error c.in_default.field-0 StillNeeded (c.in_default.ensures.few works room few))
+
+pub returns-in-Ok-clause-faults : goal.returns-in-Ok-clause-faults
+returns-in-Ok-clause-faults g c = faults_behind c.in_default.field-0 _ c.in_default.ensures.faults refl (no_error _ _)
+
+-- it is committed, and memory ran out for the publish
+pub returns-in-Err-publish-clause-refused : goal.returns-in-Err-publish-clause-refused
+returns-in-Err-publish-clause-refused g c =
+    unpublished_behind c.into.ensures c.in_default.ensures.committed refl refl c.in-Err-publish.ensures.unchanged
+
+pub returns-in-Err-publish-clause-why : goal.returns-in-Err-publish-clause-why
+returns-in-Err-publish-clause-why g c = refused_by_memory c.into.ensures
+
+pub returns-in-Err-publish-clause-few : goal.returns-in-Err-publish-clause-few
+returns-in-Err-publish-clause-few g c works room few = absurd (no_error c.in_default.field-0 StillNeeded (c.in_default.ensures.few works room few))
+
+pub returns-in-Err-publish-clause-faults : goal.returns-in-Err-publish-clause-faults
+returns-in-Err-publish-clause-faults g c = faults_behind c.in_default.field-0 _ c.in_default.ensures.faults refl (memory_no_fault c.into.result c.into.ensures)

@@ -5,4 +5,4 @@ use Rattle.hub.proofs.ahead.Ahead.of.Goals as goal
 
 pub invariant_of-result : goal.invariant_of-result
 invariant_of-result g c =
-    moved_further g.J.Site.start (commands_of c.args.told.now) (takens c.ordered.result) c.args.moved c.ordered.ensures c.requires
+    moved_further g.L.Life.start (commands_of c.args.told.now) (takens c.ordered.result) c.args.moved c.ordered.ensures c.requires

@@ -10,8 +10,8 @@ pub by_board-run-requires-clause-made : goal.by_board-run-requires-clause-made
 by_board-run-requires-clause-made g c =
     let first : c.replace-made.result.items ≡ take c.longest-count.result c.self.inside.made.items = ap (λ v. v.items) c.replace-made.ensures.value ∙ c.in_ok-rest.ensures.first in
     let is : c.in_ok-batch.batch ≡ takens (next_run c.self.inside.board c.longest-count.result) = search rules in
-    subst (λ (d : List (List Element)). AreMadeThere g.J.Site.start c.self.inside.board.order c.self.inside.board.taken c.in_ok-batch.batch d) (sym first)
-    (run_made g.J.Site.start c.self.inside.board c.self.inside.made.items c.self.invariant.7 c.longest-count.result c.in_ok-batch.batch is)
+    subst (λ (d : List (List Element)). AreMadeThere g.L.Life.start c.self.inside.board.order c.self.inside.board.taken c.in_ok-batch.batch d) (sym first)
+    (run_made g.L.Life.start c.self.inside.board c.self.inside.made.items c.self.invariant.7 c.longest-count.result c.in_ok-batch.batch is)
 
 pub invariant_of-self-3 : goal.invariant_of-self-3
 invariant_of-self-3 g c =
@@ -24,6 +24,6 @@ invariant_of-self-3 g c =
       search rules,
       search rules,
       search rules,
-      subst (λ (d : List (List Element)). AreMadeThere g.J.Site.start c.take.new.self.order c.take.new.self.taken (untaken c.take.new.self) d) (sym c.in_ok-rest.ensures.rest)
-          (rest_made g.J.Site.start c.self.inside.board c.self.inside.made.items c.self.invariant.7 c.longest-count.result c.take.new.self new),
+      subst (λ (d : List (List Element)). AreMadeThere g.L.Life.start c.take.new.self.order c.take.new.self.taken (untaken c.take.new.self) d) (sym c.in_ok-rest.ensures.rest)
+          (rest_made g.L.Life.start c.self.inside.board c.self.inside.made.items c.self.invariant.7 c.longest-count.result c.take.new.self new),
     )

@@ -15,7 +15,7 @@ loop-i-preserved g c =
     record {
       commands = commands_same c.loop-i.sent.items c.loop-i.i item c.answer_by-answer.result c.index_mut.ensures.value ∙ so_far.commands;
       others = c.answer_by-answer.ensures.others ∙ ap (λ (d : Desk). record d { told = new.told; stopped = new.stopped }) so_far.others;
-      asks = answered_more g.J.Site.start c.args.self.now c.loop-i.self new c.loop-i.sent.items (commands_of c.args.sent.now.items) c.args.tickets.now c.loop-i.i asked item
+      asks = answered_more g.L.Life.start c.args.self.now c.loop-i.self new c.loop-i.sent.items (commands_of c.args.sent.now.items) c.args.tickets.now c.loop-i.i asked item
           c.index-tickets-i.result c.answer_by-answer.result within ticked c.index.ensures c.index_mut.ensures.value c.index-tickets-i.is so_far.commands
           (ap (λ (d : Desk). d.shown) so_far.others) so_far.asks c.answer_by-answer.ensures.answer;
     }
@@ -24,5 +24,5 @@ pub returns-clause-answered : goal.returns-clause-answered
 returns-clause-answered g c =
     let all : length c.loop-i.sent.items ≤ c.loop-i.i = search rules in
     let ticked : length c.args.tickets.now ≤ c.loop-i.i = search rules in
-    answered_whole g.J.Site.start c.args.self.now c.loop-i.self c.loop-i.sent.items (commands_of c.args.sent.now.items) c.args.tickets.now c.loop-i.i all ticked
+    answered_whole g.L.Life.start c.args.self.now c.loop-i.self c.loop-i.sent.items (commands_of c.args.sent.now.items) c.args.tickets.now c.loop-i.i all ticked
     c.loop-i.invariant.commands c.loop-i.invariant.asks

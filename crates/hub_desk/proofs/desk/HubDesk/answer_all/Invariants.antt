@@ -8,5 +8,5 @@ abbrev pub invariant-loop-i : goal.invariant-loop-i
 invariant-loop-i g l = record {
   commands : commands_of l.sent.items ≡ commands_of l.fn.sent.items;
   others : l.self ≡ record l.fn.self { told = l.self.told; stopped = l.self.stopped };
-  asks : AnswersSoFar g.J.Site.start l.fn.self (commands_of l.fn.sent.items) l.tickets l.i (exchanges_of (take l.i l.sent.items)) l.self;
+  asks : AnswersSoFar g.L.Life.start l.fn.self (commands_of l.fn.sent.items) l.tickets l.i (exchanges_of (take l.i l.sent.items)) l.self;
 }

@@ -1,5 +1,5 @@
-use Rattle.std.proofs.Common.{◌≡◌, Option, IfSome, sym, subst, ◌∙◌}
-use Rattle.revision.specs.Moved.{LateEdit, MovedEdit, IsLateIn, IsMovedIn}
+use Rattle.std.proofs.Common.{Option, IfSome, sym, subst, ◌∙◌}
+use Rattle.revision.specs.Moved.{LateEdit, IsLateIn, IsMovedIn}
 use Rattle.revision.specs.State.{State}
 use Rattle.revision.proofs.CallerLemmas.{late_is_moved}
 use Rattle.hub_desk.proofs.desk.HubDesk.moved_on.Goals as goal

@@ -19,14 +19,14 @@ returns-clause-shown g c =
       (answer.1, subst (λ (l : List (List Taken)). IsPrefix l c.read.new.self) (ap (λ (d : Desk). d.told) c.self.view_is) read.kept, c.told.ensures, ap (λ (d : Desk). d.counted) c.self.view_is, ap (λ (d : Desk). d.found) c.self.view_is),
       answer.2,
       λ x is. let same : state ≡ x = cc in
-          sym same ∙ answer.1 ∙ ap (λ (l : List (List Taken)). fold g.J.Site.start (commands_of l)) (sym c.told.ensures),
+          sym same ∙ answer.1 ∙ ap (λ (l : List (List Taken)). fold g.L.Life.start (commands_of l)) (sym c.told.ensures),
     )
 
 -- and so it is later than what was shown before
 pub returns-clause-later : goal.returns-clause-later
 returns-clause-later g c =
     let read = c.in_ok-answer.ensures in
-    let start = g.J.Site.start in
+    let start = g.L.Life.start in
     subst (λ (l : List (List Taken)). IsLater (fold start (commands_of l)) (fold start (commands_of c.told.result))) (ap (λ (d : Desk). d.shown) c.self.view_is)
     (subst (λ (l : List (List Taken)). IsLater (fold start (commands_of c.self.inside.shown)) (fold start (commands_of l))) (sym c.told.ensures)
     (later_batches start c.self.inside.shown c.read.new.self (prefix_trans c.self.inside.shown c.self.inside.viewer c.read.new.self c.self.invariant read.kept) read.grows))

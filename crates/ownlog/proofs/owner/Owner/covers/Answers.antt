@@ -1,8 +1,8 @@
-use Rattle.std.proofs.Common.{◌≡◌, false, List, ap, ap₂, sym, subst, ◌∙◌}
+use Rattle.std.proofs.Common.{◌≡◌, false, List, ap, sym, subst, ◌∙◌}
 use mathlib.Core.List.{IsPrefix}
-use Rattle.logbook.specs.Pages.{cell, nib, may_write}
+use Rattle.logbook.specs.Pages.{cell}
 use Rattle.ownlog.specs.declared.link.Link.{Link}
-use Rattle.ownlog.specs.Rules.{items_of, last_key}
+use Rattle.ownlog.specs.Rules.{last_key}
 use Rattle.ownlog.proofs.Cells.{all_of, prefix_items}
 use Rattle.ownlog.proofs.Steps.{stays_moves}
 use Rattle.ownlog.proofs.owner.Owner.covers.Goals as goal

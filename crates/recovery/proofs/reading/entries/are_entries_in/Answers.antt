@@ -1,9 +1,7 @@
-use Rattle.std.proofs.Common.{◌↔◌, List, sym, subst}
+use Rattle.std.proofs.Common.{◌↔◌, sym, subst}
 use Rattle.std.specs.Prelude.{IsTrue}
-use Rattle.revision.specs.Command.{Taken}
 use Rattle.milestone.specs.declared.format.Format.{Format}
 use Rattle.recovery.specs.Found.{AreEntriesIn}
-use Rattle.recovery.specs.steps.Reading.{lists_of, AreByDocument}
 use Rattle.recovery.proofs.Editing.{entries_edit}
 use Rattle.recovery.proofs.reading.entries.are_entries_in.Goals as goal
 

@@ -1,87 +1,83 @@
 use Rattle.std.proofs.Common.{◌≡◌, ◌∙◌, ⊎_elim, inl, inr, true, false, List, length, sym, ap, subst, rules, arith}
-use Rattle.std.specs.Prelude.{Err}
 use Rattle.std.proofs.lemmas.Bool.{false≢true}
-use Rattle.refusal.specs.declared.Refusal.{Refusal}
-use Rattle.refusal.specs.declared.Refusal.TheVariants.{JournalFull, StillNeeded, Stranger, NoMemory}
-use Rattle.revision.specs.Made.{AreMade}
+use Rattle.std.proofs.lemmas.Result.{IfOk-weaker, IfErr-weaker}
 use Rattle.revision.specs.State.{State, fold, all_grow}
 use Rattle.journal.specs.BatchSpelling.{batch_width}
 use Rattle.segments.specs.declared.ring.Ring.{Ring}
 use Rattle.segments.specs.Room.{has_room_for}
 use Rattle.milestone.specs.Job.{Job}
 use Rattle.recovery.specs.declared.marks.Mark.{Mark}
+use Rattle.recovery.specs.Commit.{MayBeCommitted, IsReceiptOf, IsCommitted, IsCommitRefused}
 use Rattle.recovery.specs.Found.{FoundAs}
 use Rattle.recovery.specs.Freed.{IsUncommitted}
 use Rattle.recovery.specs.Goes.{Goes}
-use Rattle.recovery.specs.Open.{IsWithOrWithout, has_failed, has_room}
+use Rattle.recovery.specs.Open.{IsWithOrWithout, has_room}
+use Rattle.recovery.proofs.Committing.{kept_by_commit, refused_goes}
 use Rattle.recovery.proofs.Going.{goes_map, goes_on}
-use Rattle.recovery.proofs.Faults.{faults_on, goes_by}
+use Rattle.recovery.proofs.Faults.{faults_on}
 use Rattle.recovery.proofs.Covering.{freed_still}
-use Rattle.recovery.proofs.Freed.{OfCommit, no_needed, no_full, no_stranger_freed, not_full, of_commit, of_freeing, keeps_others_same, costs_few, costs_more, costs_on}
+use Rattle.recovery.proofs.Freed.{no_needed, no_stranger_freed, not_full, of_commit, of_freeing, keeps_others_same, costs_few, costs_more, costs_on}
 use Rattle.recovery.proofs.FullGroups.{syncs_few, syncs_more, syncs_on}
-use Rattle.recovery.proofs.Refusals.{if_err, on_ok_by, of_err, of_if_err, of_ok}
+use Rattle.recovery.proofs.Refusals.{full_no_fault, memory_no_fault, no_fault, on_ok_from}
 use Rattle.recovery.proofs.Rooms.{freed_up, few_up}
 use Rattle.recovery.proofs.SparedJobs.{spared_then}
 use Rattle.recovery.proofs.store.Store.commit_freeing.Goals as goal
 
 -- there was room
+pub returns-then-has_room-clause-receipt : goal.returns-then-has_room-clause-receipt
+returns-then-has_room-clause-receipt g c =
+    IfOk-weaker c.commit.result (λ r. IsCommitted r c.args.batch.now c.args.self.now c.commit.new.self) (λ r. IsReceiptOf r c.args.batch.now c.commit.new.self)
+    (λ r done. done.handed_out) c.commit.ensures.committed
+
 pub returns-then-has_room-clause-committed : goal.returns-then-has_room-clause-committed
 returns-then-has_room-clause-committed g c =
     let room : has_room c.args.self.now c.args.batch.now ≡ true = search rules in
-    let e = c.commit.ensures in
-    on_ok_by c.commit.result
-    (λ receipt is. record {
-      grow = of_ok c.commit.result receipt is e.grow;
-      state = of_ok c.commit.result receipt is e.state;
-      now = λ there is_open. of_ok c.commit.result receipt is e.committed is_open;
+    on_ok_from (λ r. IsCommitted r c.args.batch.now c.args.self.now c.commit.new.self) c.commit.result
+    (λ receipt done. record {
+      grow = done.grow;
+      state = done.state;
+      now = λ there is_open. done.now is_open;
       behind = λ none is_open. absurd (false≢true (sym none ∙ room));
-      marks = of_ok c.commit.result receipt is e.marks;
-    })
+      marks = done.marks;
+    }) c.commit.ensures.committed
 
 pub returns-then-has_room-clause-refused : goal.returns-then-has_room-clause-refused
 returns-then-has_room-clause-refused g c =
     let store = c.args.self.now in
     let batch = c.args.batch.now in
     let room : has_room store batch ≡ true = search rules in
-    let e = c.commit.ensures in
-    if_err (λ r. IsUncommitted r batch store c.commit.new.self) c.commit.result
-    (λ r is. record {
-      only = of_commit r (of_if_err OfCommit c.commit.result r is e.only);
-      state = of_err c.commit.result r is e.same_state;
-      marks = omega (arith, ap (λ (l : List Mark). length l) (of_err c.commit.result r is e.same_marks));
-      same_marks = λ there. of_err c.commit.result r is e.same_marks;
-      full = λ told. absurd (no_full c.commit.result (has_failed store) (has_room store batch) e.faults.failed_before e.full room (is ∙ ap (λ (x : Refusal). Err x) told));
-      needed = λ told. absurd (no_needed c.commit.result e.only (is ∙ ap (λ (x : Refusal). Err x) told));
-      spent = λ told is_open.
-          ⊎_elim (λ full. absurd (no_full c.commit.result (has_failed store) (has_room store batch) e.faults.failed_before e.full room (is ∙ ap (λ (x : Refusal). Err x) full)))
-          (λ needed. absurd (no_needed c.commit.result e.only (is ∙ ap (λ (x : Refusal). Err x) needed))) told;
-      stranger = λ told. e.stranger (is ∙ ap (λ (x : Refusal). Err x) told);
-      memory = λ told. (
-        λ there. (e.memory (is ∙ ap (λ (x : Refusal). Err x) told)).1,
-        goes_by c.commit.result e.faults (λ works is_open. e.unwritten (is ∙ ap (λ (x : Refusal). Err x) told) is_open) e.done e.kept,
-      );
-      unchanged = λ told there.
-          ⊎_elim (λ strange. e.untouched (inr (is ∙ ap (λ (x : Refusal). Err x) strange))) (λ memory. e.given_up (is ∙ ap (λ (x : Refusal). Err x) memory)) told;
+    IfErr-weaker c.commit.result (λ r. IsCommitRefused r batch store c.commit.new.self) (λ r. IsUncommitted r batch store c.commit.new.self)
+    (λ r left. record {
+      only = of_commit r left.only;
+      state = left.state;
+      marks = omega (arith, ap (λ (l : List Mark). length l) left.marks);
+      same_marks = λ there. left.marks;
+      full = λ told. absurd (false≢true (sym (left.full told) ∙ room));
+      needed = λ told. absurd (no_needed r left.only told);
+      spent = λ told is_open. ⊎_elim (λ full. absurd (false≢true (sym (left.full full) ∙ room))) (λ needed. absurd (no_needed r left.only needed)) told;
+      stranger = left.stranger;
+      memory = λ told. (λ there. (left.memory told).1, refused_goes (memory_no_fault told) left);
+      unchanged = λ told there. left.unchanged (no_fault r told);
       behind = λ told none. absurd (false≢true (sym none ∙ room));
-    })
+    }) c.commit.ensures.refused
 
 pub returns-then-has_room-clause-plain : goal.returns-then-has_room-clause-plain
 returns-then-has_room-clause-plain g c room =
     let e = c.commit.ensures in
-    record { jobs = e.jobs; cells = e.cells; calls = e.calls; calls_where_it_fits = e.calls_where_it_fits }
+    let kept = kept_by_commit c.args.batch.now c.args.self.now c.commit.new.self c.commit.result e.committed e.refused in
+    record { jobs = kept.0; cells = kept.1; calls = e.costs.in_all.calls; calls_where_it_fits = λ fits. (e.costs.where_it_fits fits).calls }
 
 pub returns-then-has_room-clause-others : goal.returns-then-has_room-clause-others
-returns-then-has_room-clause-others g c = keeps_others_same c.args.self.now c.commit.new.self c.commit.ensures.jobs
+returns-then-has_room-clause-others g c =
+    keeps_others_same c.args.self.now c.commit.new.self (kept_by_commit c.args.batch.now c.args.self.now c.commit.new.self c.commit.result c.commit.ensures.committed c.commit.ensures.refused).0
 
 pub returns-then-has_room-clause-costs : goal.returns-then-has_room-clause-costs
-returns-then-has_room-clause-costs g c = costs_few 10 c.args.self.now c.commit.new.self (omega (arith, c.commit.ensures.calls))
-
-pub returns-then-has_room-clause-syncs : goal.returns-then-has_room-clause-syncs
-returns-then-has_room-clause-syncs g c = syncs_few 6 c.args.self.now c.commit.new.self (omega (arith, c.commit.ensures.syncs))
-
-pub returns-then-has_room-clause-goes : goal.returns-then-has_room-clause-goes
-returns-then-has_room-clause-goes g c =
-    goes_by c.commit.result c.commit.ensures.faults c.commit.ensures.any_moment c.commit.ensures.done c.commit.ensures.kept
+returns-then-has_room-clause-costs g c =
+    let most = c.commit.ensures.costs.in_all in
+    record {
+      calls = costs_few 10 c.args.self.now c.commit.new.self (omega (arith, most.calls));
+      syncs = syncs_few 6 c.args.self.now c.commit.new.self (omega (arith, most.syncs));
+    }
 
 -- no segment could be freed
 pub returns-in-Err-clause-refused : goal.returns-in-Err-clause-refused
@@ -112,38 +108,46 @@ returns-in-Err-clause-plain g c room =
     absurd (false≢true (sym none ∙ room))
 
 pub returns-in-Err-clause-costs : goal.returns-in-Err-clause-costs
-returns-in-Err-clause-costs g c = costs_more 2 10 c.args.self.now c.free_oldest.new.self (omega arith) c.free_oldest.ensures.costs
-
-pub returns-in-Err-clause-syncs : goal.returns-in-Err-clause-syncs
-returns-in-Err-clause-syncs g c = syncs_more 2 6 c.args.self.now c.free_oldest.new.self (omega arith) c.free_oldest.ensures.syncs
+returns-in-Err-clause-costs g c =
+    let costs = c.free_oldest.ensures.costs in
+    let syncs = c.free_oldest.ensures.syncs in
+    record {
+      calls = costs_more 2 10 c.args.self.now c.free_oldest.new.self (omega arith) costs;
+      syncs = syncs_more 2 6 c.args.self.now c.free_oldest.new.self (omega arith) syncs;
+    }
 
 pub returns-in-Err-clause-goes : goal.returns-in-Err-clause-goes
 returns-in-Err-clause-goes g c = goes_map (λ content found. inl found) c.free_oldest.ensures.goes
 
--- freeing leaves the documents, so those that are given continue them still
-pub commit-requires-2-clause-made : goal.commit-requires-2-clause-made
-commit-requires-2-clause-made g c = subst (λ (s : State). AreMade s c.args.batch.now c.args.made.now) (sym c.free_oldest.ensures.state) c.requires.made
+-- freeing leaves the documents, so the batch may be committed still
+pub commit-requires-2 : goal.commit-requires-2
+commit-requires-2 g c = subst (λ (s : State). MayBeCommitted s c.args.batch.now c.args.made.now) (sym c.free_oldest.ensures.state) c.requires
 
 -- it was freed, and the batch is committed
 pub returns-clause-faults : goal.returns-clause-faults
 returns-clause-faults g c = faults_on c.in_default.field-0 c.commit-2.result c.in_default.ensures.faults c.commit-2.ensures.faults
 
+pub returns-clause-receipt : goal.returns-clause-receipt
+returns-clause-receipt g c =
+    IfOk-weaker c.commit-2.result (λ r. IsCommitted r c.args.batch.now c.free_oldest.new.self c.commit-2.new.self) (λ r. IsReceiptOf r c.args.batch.now c.commit-2.new.self)
+    (λ r done. done.handed_out) c.commit-2.ensures.committed
+
 pub returns-clause-committed : goal.returns-clause-committed
 returns-clause-committed g c =
     let batch = c.args.batch.now in
+    let mid = c.free_oldest.new.self in
     let none : has_room c.args.self.now batch ≡ false = search rules in
     let freed = c.in_default.ensures.freed in
-    let e = c.commit-2.ensures in
-    on_ok_by c.commit-2.result
-    (λ receipt is. record {
-      grow = subst (λ (s : State). all_grow s batch ≡ true) c.free_oldest.ensures.state (of_ok c.commit-2.result receipt is e.grow);
-      state = of_ok c.commit-2.result receipt is e.state ∙ ap (λ (s : State). fold s batch) c.free_oldest.ensures.state;
+    on_ok_from (λ r. IsCommitted r batch mid c.commit-2.new.self) c.commit-2.result
+    (λ receipt done. record {
+      grow = subst (λ (s : State). all_grow s batch ≡ true) c.free_oldest.ensures.state done.grow;
+      state = done.state ∙ ap (λ (s : State). fold s batch) c.free_oldest.ensures.state;
       now = λ room is_open. absurd (false≢true (sym none ∙ room));
       behind = λ there is_open.
           let now = freed.now is_open in
-          record { mid = c.free_oldest.new.self; freed = now; committed = of_ok c.commit-2.result receipt is e.committed now.goes_on };
-      marks = omega (arith, of_ok c.commit-2.result receipt is e.marks, c.free_oldest.ensures.no_more_marks);
-    })
+          record { mid = mid; freed = now; committed = done.now now.goes_on };
+      marks = omega (arith, done.marks, c.free_oldest.ensures.no_more_marks);
+    }) c.commit-2.ensures.committed
 
 pub returns-clause-refused : goal.returns-clause-refused
 returns-clause-refused g c =
@@ -153,37 +157,30 @@ returns-clause-refused g c =
     let batch = c.args.batch.now in
     let none : has_room store batch ≡ false = search rules in
     let freed = c.in_default.ensures.freed in
-    let e = c.commit-2.ensures in
-    if_err (λ r. IsUncommitted r batch store new) c.commit-2.result
-    (λ r is. record {
-      only = of_commit r (of_if_err OfCommit c.commit-2.result r is e.only);
-      state = of_err c.commit-2.result r is e.same_state ∙ c.free_oldest.ensures.state;
-      marks = omega (arith, ap (λ (l : List Mark). length l) (of_err c.commit-2.result r is e.same_marks), c.free_oldest.ensures.no_more_marks);
+    IfErr-weaker c.commit-2.result (λ r. IsCommitRefused r batch mid new) (λ r. IsUncommitted r batch store new)
+    (λ r left. record {
+      only = of_commit r left.only;
+      state = left.state ∙ c.free_oldest.ensures.state;
+      marks = omega (arith, ap (λ (l : List Mark). length l) left.marks, c.free_oldest.ensures.no_more_marks);
       same_marks = λ room. absurd (false≢true (sym none ∙ room));
       full = λ told.
-          let same = e.untouched (inl (is ∙ ap (λ (x : Refusal). Err x) told)) in (
+          let same = left.unchanged (full_no_fault told) in (
             none,
-            subst (λ (r : Ring). has_room_for r (batch_width batch) ≡ false) (sym same.ring) ((e.full c.in_default.ensures.faults.works).0 (is ∙ ap (λ (x : Refusal). Err x) told)),
+            subst (λ (r : Ring). has_room_for r (batch_width batch) ≡ false) (sym same.ring) (left.full told),
             λ is_open. freed_still store mid new is_open same (freed.now is_open),
           );
-      needed = λ told. absurd (no_needed c.commit-2.result e.only (is ∙ ap (λ (x : Refusal). Err x) told));
+      needed = λ told. absurd (no_needed r left.only told);
       spent = λ told is_open.
-          ⊎_elim
-          (λ full. freed_up store mid (batch_width batch) is_open (freed.now is_open) ((e.full c.in_default.ensures.faults.works).0 (is ∙ ap (λ (x : Refusal). Err x) full)))
-          (λ needed. absurd (no_needed c.commit-2.result e.only (is ∙ ap (λ (x : Refusal). Err x) needed))) told;
-      stranger = λ told. subst (λ (s : State). all_grow s batch ≡ false) c.free_oldest.ensures.state (e.stranger (is ∙ ap (λ (x : Refusal). Err x) told));
+          ⊎_elim (λ full. freed_up store mid (batch_width batch) is_open (freed.now is_open) (left.full full)) (λ needed. absurd (no_needed r left.only needed)) told;
+      stranger = λ told. subst (λ (s : State). all_grow s batch ≡ false) c.free_oldest.ensures.state (left.stranger told);
       memory = λ told. (
         λ room. absurd (false≢true (sym none ∙ room)),
         goes_on c.free_oldest.ensures.goes
-            (subst (λ (s : State). Goes (λ content. FoundAs content s) mid new) c.free_oldest.ensures.state
-            (goes_by c.commit-2.result e.faults (λ works is_open. e.unwritten (is ∙ ap (λ (x : Refusal). Err x) told) is_open) e.done e.kept)),
+            (subst (λ (s : State). Goes (λ content. FoundAs content s) mid new) c.free_oldest.ensures.state (refused_goes (memory_no_fault told) left)),
       );
       unchanged = λ told room. absurd (false≢true (sym none ∙ room));
-      behind = λ told there is_open. inl
-          (freed_still store mid new is_open
-          (⊎_elim (λ strange. e.untouched (inr (is ∙ ap (λ (x : Refusal). Err x) strange))) (λ memory. e.given_up (is ∙ ap (λ (x : Refusal). Err x) memory)) told)
-          (freed.now is_open));
-    })
+      behind = λ told there is_open. inl (freed_still store mid new is_open (left.unchanged (no_fault r told)) (freed.now is_open));
+    }) c.commit-2.ensures.refused
 
 pub returns-clause-plain : goal.returns-clause-plain
 returns-clause-plain g c room =
@@ -191,20 +188,23 @@ returns-clause-plain g c room =
     absurd (false≢true (sym none ∙ room))
 
 pub returns-clause-others : goal.returns-clause-others
-returns-clause-others g c = record {
-  jobs = λ is_open slot segment oldest.
-      spared_then segment c.args.self.now c.free_oldest.new.self c.commit-2.new.self (c.free_oldest.ensures.others.jobs is_open slot segment oldest) c.commit-2.ensures.jobs;
-  no_more = omega (arith, c.free_oldest.ensures.others.no_more, ap (λ (l : List Job). length l) c.commit-2.ensures.jobs);
-}
+returns-clause-others g c =
+    let jobs = (kept_by_commit c.args.batch.now c.free_oldest.new.self c.commit-2.new.self c.commit-2.result c.commit-2.ensures.committed c.commit-2.ensures.refused).0 in
+    record {
+      jobs = λ is_open slot segment oldest.
+          spared_then segment c.args.self.now c.free_oldest.new.self c.commit-2.new.self (c.free_oldest.ensures.others.jobs is_open slot segment oldest) jobs;
+      no_more = omega (arith, c.free_oldest.ensures.others.no_more, ap (λ (l : List Job). length l) jobs);
+    }
 
 pub returns-clause-costs : goal.returns-clause-costs
-returns-clause-costs g c = costs_on 2 8 c.args.self.now c.free_oldest.new.self c.commit-2.new.self c.free_oldest.ensures.costs c.commit-2.ensures.calls
-
-pub returns-clause-syncs : goal.returns-clause-syncs
-returns-clause-syncs g c = syncs_on 2 4 c.args.self.now c.free_oldest.new.self c.commit-2.new.self c.free_oldest.ensures.syncs c.commit-2.ensures.syncs
+returns-clause-costs g c =
+    let most = c.commit-2.ensures.costs.in_all in
+    record {
+      calls = costs_on 2 8 c.args.self.now c.free_oldest.new.self c.commit-2.new.self c.free_oldest.ensures.costs most.calls;
+      syncs = syncs_on 2 4 c.args.self.now c.free_oldest.new.self c.commit-2.new.self c.free_oldest.ensures.syncs most.syncs;
+    }
 
 pub returns-clause-goes : goal.returns-clause-goes
 returns-clause-goes g c =
     goes_on (goes_map (λ content found. inl found) c.free_oldest.ensures.goes)
-    (subst (λ (s : State). Goes (IsWithOrWithout s c.args.batch.now) c.free_oldest.new.self c.commit-2.new.self) c.free_oldest.ensures.state
-    (goes_by c.commit-2.result c.commit-2.ensures.faults c.commit-2.ensures.any_moment c.commit-2.ensures.done c.commit-2.ensures.kept))
+    (subst (λ (s : State). Goes (IsWithOrWithout s c.args.batch.now) c.free_oldest.new.self c.commit-2.new.self) c.free_oldest.ensures.state c.commit-2.ensures.goes)

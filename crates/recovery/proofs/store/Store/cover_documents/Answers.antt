@@ -1,15 +1,13 @@
-use Rattle.std.proofs.Common.{◌≡◌, ◌≢◌, ◌⊎◌, inl, inr, ℕ, ◌≤◌, ◌<◌, ◌+◌, ◌*◌, List, length, take, get_or, refl, sym, ◌∙◌, ap, subst, arith}
+use Rattle.std.proofs.Common.{◌≡◌, ◌≢◌, ◌≤◌, ◌<◌, ◌+◌, List, length, get_or, refl, sym, ◌∙◌, ap, subst, arith}
 use Rattle.std.specs.Prelude.{Ok, Err}
-use Rattle.std.proofs.lemmas.List.{take_all}
-use Rattle.refusal.specs.declared.Refusal.{Refusal}
-use Rattle.refusal.specs.declared.Refusal.TheVariants.{StillNeeded, NoMemory, Fault}
+use Rattle.refusal.specs.declared.Refusal.TheVariants.{Fault}
 use Rattle.revision.specs.State.{State}
 use Rattle.milestone.specs.Job.{Job}
-use Rattle.recovery.specs.Jobs.{jobs_for}
-use Rattle.recovery.specs.Open.{IsOpen, device_of, kept_jobs, state_of}
+use Rattle.recovery.specs.Open.{kept_jobs, state_of}
 use Rattle.recovery.specs.declared.group.Member.{Member}
 use Rattle.recovery.specs.Freed.{most_bytes}
-use Rattle.recovery.specs.steps.Freeing.{bytes_to, bytes_of, AreReached, AreCoveredTo, IsGathered, count_marked}
+use Rattle.recovery.specs.steps.Freeing.{bytes_to, bytes_of, AreReached, AreCoveredTo, IsGathered}
+use Rattle.recovery.proofs.CellsAlone.{cells_still, cells_then, cells_but_jobs}
 use Rattle.recovery.proofs.CoveredDocuments.{covered_none, covered_more, half_covered, jobs_more, jobs_without, count_to}
 use Rattle.recovery.proofs.DroppedJobs.{fewer_outside}
 use Rattle.recovery.proofs.Faults.{faults_none, faults_on, faults_ok, faults_but_jobs, goes_but_jobs}
@@ -26,6 +24,7 @@ loop-from-init g c = record {
   within = omega arith;
   faults = faults_none c.args.self.now (Ok tt) c.requires.working (ok≢err tt Fault);
   keeps = record { state = refl; ring = refl; marks = refl };
+  outside = cells_still c.args.self.now;
   goes = goes_nowhere c.args.self.now;
   covered = covered_none (λ n. get_or c.args.marked.now n 0) c.args.self.now;
   calls = omega arith;
@@ -49,6 +48,7 @@ loop-from-preserved g c =
       within = c.in-Ok.ensures.goes_on.1;
       faults = faults_on tt (Ok tt) before.faults (faults_ok c.in_default.field-0 tt c.in_default.ensures.faults);
       keeps = keeps_on before.keeps c.put_group.ensures.keeps;
+      outside = cells_then start store new before.outside c.put_group.ensures.outside;
       goes = goes_same before.keeps.state before.goes c.put_group.ensures.goes;
       covered = λ is_open.
           covered_more marked from group.end ms start store new is_open (omega (arith, c.in-Ok.ensures.goes_on.0)) (before.covered is_open) gathered before.keeps.state
@@ -97,6 +97,9 @@ returns-in-Err-clause-keeps g c =
     let same = c.drop_job.ensures.same in
     record { state = same.state ∙ before.state; ring = same.ring ∙ before.ring; marks = same.marks ∙ before.marks }
 
+pub returns-in-Err-clause-outside : goal.returns-in-Err-clause-outside
+returns-in-Err-clause-outside g c = cells_but_jobs c.args.self.now c.loop-from.self c.drop_job.new.self c.loop-from.invariant.outside c.drop_job.ensures.same
+
 pub returns-in-Err-clause-jobs : goal.returns-in-Err-clause-jobs
 returns-in-Err-clause-jobs g c document none =
     jobs_without c.in-Err.back.document (λ n. get_or c.args.marked.now n 0) c.loop-from.self c.drop_job.new.self c.in-Err.ensures.needs.1 c.drop_job.ensures.jobs document none
@@ -142,6 +145,9 @@ returns-in-Err-put_group-clause-syncs g c =
 
 pub returns-in-Err-put_group-clause-keeps : goal.returns-in-Err-put_group-clause-keeps
 returns-in-Err-put_group-clause-keeps g c = keeps_on c.loop-from.invariant.keeps c.put_group.ensures.keeps
+
+pub returns-in-Err-put_group-clause-outside : goal.returns-in-Err-put_group-clause-outside
+returns-in-Err-put_group-clause-outside g c = cells_then c.args.self.now c.loop-from.self c.put_group.new.self c.loop-from.invariant.outside c.put_group.ensures.outside
 
 pub returns-in-Err-put_group-clause-jobs : goal.returns-in-Err-put_group-clause-jobs
 returns-in-Err-put_group-clause-jobs g c document none =

@@ -1,13 +1,13 @@
-use Rattle.std.proofs.Common.{◌≡◌, ◌≢◌, ◌⊎◌, inl, inr, ℕ, ◌≤◌, ◌<◌, ◌+◌, ◌*◌, List, length, get_or, refl, sym, ◌∙◌, ap, subst, arith, rules}
+use Rattle.std.proofs.Common.{◌≡◌, ◌≢◌, inr, ℕ, ◌<◌, List, length, get_or, refl, sym, ◌∙◌, ap, arith, rules}
 use Rattle.std.specs.Prelude.{Ok, Err}
 use Rattle.std.proofs.lemmas.List.{get_or_past}
-use Rattle.refusal.specs.declared.Refusal.{Refusal}
-use Rattle.refusal.specs.declared.Refusal.TheVariants.{StillNeeded, NoMemory, Fault}
+use Rattle.refusal.specs.declared.Refusal.TheVariants.{Fault}
 use Rattle.milestone.specs.Job.{Job}
 use Rattle.recovery.specs.Freed.{bytes_below}
-use Rattle.recovery.specs.Marks.{greatest_marked, within_segment}
-use Rattle.recovery.specs.Open.{IsOpen, IsHalfFreed, device_of, kept_jobs, known_marks, state_of}
+use Rattle.recovery.specs.Marks.{greatest_marked}
+use Rattle.recovery.specs.Open.{IsOpen, IsHalfFreed, kept_jobs, known_marks, state_of}
 use Rattle.recovery.specs.steps.Freeing.{IsHalfCovered, count_marked}
+use Rattle.recovery.proofs.CellsAlone.{cells_still, cells_but_jobs}
 use Rattle.recovery.proofs.CoveredDocuments.{covered_none, half_covered, half_freed, all_covered, table_all, jobs_without, fewer_marks, err_map, memory_needs}
 use Rattle.recovery.proofs.Faults.{faults_none, faults_but_jobs, goes_but_jobs}
 use Rattle.recovery.proofs.FullGroups.{bytes_same, by_none, by_same}
@@ -34,6 +34,9 @@ returns-in_default-clause-faults g c = faults_none c.args.self.now (Ok tt) c.req
 
 pub returns-in_default-clause-syncs : goal.returns-in_default-clause-syncs
 returns-in_default-clause-syncs g c = (0, omega arith, by_none c.args.self.now)
+
+pub returns-in_default-clause-outside : goal.returns-in_default-clause-outside
+returns-in_default-clause-outside g c = cells_still c.args.self.now
 
 -- the documents of the table are covered
 pub returns-in-Ok-clause-needed : goal.returns-in-Ok-clause-needed
@@ -108,7 +111,7 @@ returns-in-Ok-clause-jobs g c is_open document none =
 
 -- there was no memory for the table
 pub returns-in-Err-clause-needed : goal.returns-in-Err-clause-needed
-returns-in-Err-clause-needed g c told = absurd (memory_needs c.in-Err.refusal c.in-Err.ensures.only told)
+returns-in-Err-clause-needed g c told = absurd (memory_needs c.into.result c.into.ensures told)
 
 pub returns-in-Err-clause-half : goal.returns-in-Err-clause-half
 returns-in-Err-clause-half g c other is_open =
@@ -131,6 +134,11 @@ returns-in-Err-clause-calls_by_marks g c = omega (arith, ap (λ d. length (g.D.D
 pub returns-in-Err-clause-keeps : goal.returns-in-Err-clause-keeps
 returns-in-Err-clause-keeps g c = let same = c.drop_job.ensures.same in record { state = same.state; ring = same.ring; marks = same.marks }
 
+pub returns-in-Err-clause-outside : goal.returns-in-Err-clause-outside
+returns-in-Err-clause-outside g c =
+    let store = c.args.self.now in
+    cells_but_jobs store store c.drop_job.new.self (cells_still store) c.drop_job.ensures.same
+
 pub returns-in-Err-clause-jobs : goal.returns-in-Err-clause-jobs
 returns-in-Err-clause-jobs g c is_open document none =
     jobs_without c.in-Some.first (λ n. greatest_marked c.args.segment n (known_marks c.args.self.now)) c.args.self.now c.drop_job.new.self c.in-Some.ensures.some c.drop_job.ensures.jobs document none
@@ -142,8 +150,8 @@ returns-in-Err-clause-no_more_jobs g c =
 pub returns-in-Err-clause-faults : goal.returns-in-Err-clause-faults
 returns-in-Err-clause-faults g c =
     let store = c.args.self.now in
-    faults_but_jobs (Err c.in-Err.refusal) store store c.drop_job.new.self c.requires.working c.drop_job.ensures.same
-    (faults_none store (Err c.in-Err.refusal) c.requires.working (told_fault c.in-Err.refusal (inr c.in-Err.ensures.only)))
+    faults_but_jobs (Err c.into.result) store store c.drop_job.new.self c.requires.working c.drop_job.ensures.same
+    (faults_none store (Err c.into.result) c.requires.working (told_fault c.into.result (inr c.into.ensures)))
 
 pub returns-in-Err-clause-goes : goal.returns-in-Err-clause-goes
 returns-in-Err-clause-goes g c = goes_but_jobs c.args.self.now c.drop_job.new.self c.drop_job.ensures.same c.drop_job.ensures.open

@@ -1,5 +1,6 @@
-use Rattle.std.proofs.Common.{◌≡◌, ◌⊎◌, ◌≤◌, ◌/◌, ◌∙◌, inl, inr, List, length, refl, sym, ap, rules, arith}
-use Rattle.std.specs.Prelude.{Err}
+use Rattle.std.proofs.Common.{◌≡◌, ◌≤◌, ◌/◌, ◌∙◌, inl, inr, List, length, refl, sym, ap, rules, arith}
+use Rattle.std.specs.Prelude.{Err, [], ◌∷◌}
+use Rattle.refusal.specs.Refusal.{IsOneOf}
 use Rattle.refusal.specs.declared.Refusal.{Refusal}
 use Rattle.refusal.specs.declared.Refusal.TheVariants.{StillNeeded, NoMemory, Fault}
 use Rattle.segments.specs.Numbers.{open_count}
@@ -9,14 +10,17 @@ use Rattle.recovery.specs.declared.marks.Mark.{Mark}
 use Rattle.recovery.specs.Freed.{HasFew, IsUnfreed, bytes_for, most_bytes}
 use Rattle.recovery.specs.Marks.{within_segment}
 use Rattle.recovery.specs.Open.{known_marks}
+use Rattle.recovery.specs.Retiring.{IsUnretired}
 use Rattle.recovery.proofs.FullGroups.{syncs_none, syncs_half, syncs_all}
 use Rattle.recovery.proofs.Going.{goes_nowhere, goes_same}
-use Rattle.recovery.proofs.Faults.{faults_on, retire_goes}
+use Rattle.recovery.proofs.Faults.{faults_on}
+use Rattle.recovery.proofs.CellsAlone.{cells_still, only_cells, only_then}
 use Rattle.recovery.proofs.Covering.{may_go, freed_by}
 use Rattle.recovery.proofs.Freed.{keeps_others_none, costs_none, unfreed_none, no_memory, needed_or_fault}
 use Rattle.recovery.proofs.Marked.{one_oldest}
+use Rattle.recovery.proofs.PutAtOnce.{retired_now, retired_marks}
 use Rattle.recovery.proofs.Raising.{marks_gone}
-use Rattle.recovery.proofs.Refusals.{refusal_or, if_err, on_ok_by, of_err, of_if_err, of_ok}
+use Rattle.recovery.proofs.Refusals.{if_err, on_ok_by, of_if_err, of_ok}
 use Rattle.recovery.proofs.SparedJobs.{spared_then, spared_oldest}
 use Rattle.recovery.proofs.store.Store.free_oldest.Goals as goal
 
@@ -27,6 +31,9 @@ returns-then-self-clause-refused g c =
 
 pub returns-then-self-clause-others : goal.returns-then-self-clause-others
 returns-then-self-clause-others g c = keeps_others_none c.args.self.now
+
+pub returns-then-self-clause-outside : goal.returns-then-self-clause-outside
+returns-then-self-clause-outside g c = only_cells c.args.self.now c.args.self.now (cells_still c.args.self.now)
 
 pub returns-then-self-clause-costs : goal.returns-then-self-clause-costs
 returns-then-self-clause-costs g c = costs_none 2 c.args.self.now
@@ -45,6 +52,9 @@ returns-in_default-clause-refused g c =
 
 pub returns-in_default-clause-others : goal.returns-in_default-clause-others
 returns-in_default-clause-others g c = keeps_others_none c.args.self.now
+
+pub returns-in_default-clause-outside : goal.returns-in_default-clause-outside
+returns-in_default-clause-outside g c = only_cells c.args.self.now c.args.self.now (cells_still c.args.self.now)
 
 pub returns-in_default-clause-costs : goal.returns-in_default-clause-costs
 returns-in_default-clause-costs g c = costs_none 2 c.args.self.now
@@ -74,6 +84,9 @@ returns-in-Err-clause-others g c =
           spared_oldest store c.cover_segment.new.self found.0 c.in-Some.oldest slot segment found.1 oldest (c.cover_segment.ensures.jobs is_open);
       no_more = c.cover_segment.ensures.no_more_jobs;
     }
+
+pub returns-in-Err-clause-outside : goal.returns-in-Err-clause-outside
+returns-in-Err-clause-outside g c = only_cells c.args.self.now c.cover_segment.new.self c.cover_segment.ensures.outside
 
 pub returns-in-Err-clause-costs : goal.returns-in-Err-clause-costs
 returns-in-Err-clause-costs g c =
@@ -114,8 +127,8 @@ returns-clause-freed g c =
     on_ok_by c.retire.result
     (λ done is. record {
       now = of_ok c.retire.result done is
-          (freed_by store mid new oldest.0 c.in-Some.oldest c.retire.result oldest.1 c.in_default-cover_segment.ensures.covered c.retire.ensures.jobs c.retire.ensures.done);
-      marks = of_ok c.retire.result done is (marks_gone store mid new c.retire.result c.cover_segment.ensures.keeps c.retire.ensures.marks);
+          (freed_by store mid new oldest.0 c.in-Some.oldest c.retire.result oldest.1 c.in_default-cover_segment.ensures.covered c.retire.ensures.stays.jobs (retired_now mid new c.retire.result c.retire.ensures.retired));
+      marks = of_ok c.retire.result done is (marks_gone store mid new c.retire.result c.cover_segment.ensures.keeps (retired_marks mid new c.retire.result c.retire.ensures.retired));
     })
 
 -- so its retirement isn't refused but for the device
@@ -128,14 +141,14 @@ returns-clause-refused g c =
     let two : 2 ≤ open_count (known_numbers store.ring) = search rules in
     if_err (λ e. IsUnfreed e store new) c.retire.result
     (λ e is. record {
-      only = needed_or_fault e (of_if_err (λ e. (e ≡ StillNeeded) ⊎ (e ≡ Fault)) c.retire.result e is c.retire.ensures.only);
-      ring = of_err c.retire.result e is c.retire.ensures.ring ∙ c.cover_segment.ensures.keeps.ring;
-      marks = of_err c.retire.result e is c.retire.ensures.same_marks ∙ c.cover_segment.ensures.keeps.marks;
+      only = needed_or_fault e (of_if_err (λ e. IsOneOf e (StillNeeded ∷ Fault ∷ [])) c.retire.result e is c.retire.ensures.needed.only);
+      ring = (of_if_err (λ e. IsUnretired e mid new) c.retire.result e is c.retire.ensures.left).ring ∙ c.cover_segment.ensures.keeps.ring;
+      marks = (of_if_err (λ e. IsUnretired e mid new) c.retire.result e is c.retire.ensures.left).marks ∙ c.cover_segment.ensures.keeps.marks;
       needed = λ told is_open.
           let over = c.in_default-cover_segment.ensures.covered is_open in
-          absurd (c.retire.ensures.needed (is ∙ ap (λ (r : Refusal). Err r) told) over.goes_on
+          absurd ((c.retire.ensures.needed.exact c.in_default-cover_segment.ensures.faults.works over.goes_on).0 (is ∙ ap (λ (r : Refusal). Err r) told)
           (may_go store mid is_open oldest.0 c.in-Some.oldest c.cover_segment.ensures.keeps oldest.1 two over));
-      half = λ memory. absurd (no_memory c.retire.result c.retire.ensures.only (is ∙ ap (λ (r : Refusal). Err r) memory));
+      half = λ memory. absurd (no_memory c.retire.result c.retire.ensures.needed.only (is ∙ ap (λ (r : Refusal). Err r) memory));
     })
 
 pub returns-clause-others : goal.returns-clause-others
@@ -146,9 +159,13 @@ returns-clause-others g c =
     record {
       jobs = λ is_open slot segment oldest.
           spared_then segment store mid c.retire.new.self
-          (spared_oldest store mid found.0 c.in-Some.oldest slot segment found.1 oldest (c.cover_segment.ensures.jobs is_open)) c.retire.ensures.jobs;
-      no_more = omega (arith, c.cover_segment.ensures.no_more_jobs, ap (λ (l : List Job). length l) c.retire.ensures.jobs);
+          (spared_oldest store mid found.0 c.in-Some.oldest slot segment found.1 oldest (c.cover_segment.ensures.jobs is_open)) c.retire.ensures.stays.jobs;
+      no_more = omega (arith, c.cover_segment.ensures.no_more_jobs, ap (λ (l : List Job). length l) c.retire.ensures.stays.jobs);
     }
+
+pub returns-clause-outside : goal.returns-clause-outside
+returns-clause-outside g c =
+    only_then c.args.self.now c.cover_segment.new.self c.retire.new.self c.cover_segment.ensures.outside c.cover_segment.ensures.keeps c.retire.ensures.outside
 
 pub returns-clause-costs : goal.returns-clause-costs
 returns-clause-costs g c =
@@ -177,12 +194,13 @@ returns-clause-syncs g c =
     }
 
 pub returns-clause-no_more_marks : goal.returns-clause-no_more_marks
-returns-clause-no_more_marks g c = omega (arith, c.retire.ensures.no_more_marks, ap (λ (l : List Mark). length l) c.cover_segment.ensures.keeps.marks)
+returns-clause-no_more_marks g c = omega (arith, c.retire.ensures.stays.no_more_marks, ap (λ (l : List Mark). length l) c.cover_segment.ensures.keeps.marks)
 
 pub returns-clause-faults : goal.returns-clause-faults
 returns-clause-faults g c = faults_on c.in_default-cover_segment.field-0 c.retire.result c.in_default-cover_segment.ensures.faults c.retire.ensures.faults
 
 pub returns-clause-goes : goal.returns-clause-goes
-returns-clause-goes g c =
-    goes_same c.cover_segment.ensures.keeps.state c.cover_segment.ensures.goes
-    (retire_goes c.cover_segment.new.self c.retire.new.self c.retire.result c.retire.ensures.faults c.retire.ensures.any_moment c.retire.ensures.only c.retire.ensures.untouched c.retire.ensures.done)
+returns-clause-goes g c = goes_same c.cover_segment.ensures.keeps.state c.cover_segment.ensures.goes c.retire.ensures.goes
+
+pub returns-clause-state : goal.returns-clause-state
+returns-clause-state g c = c.retire.ensures.stays.state ∙ c.cover_segment.ensures.keeps.state

@@ -1,59 +1,41 @@
-use Rattle.std.proofs.Common.{◌≡◌, ◌≢◌, ◌∙◌, Option, Some, None, Err, false, List, rules, refl, sym, ap, subst}
-use Rattle.std.specs.Prelude.{IsErrOf, slice_get}
+use Rattle.std.proofs.Common.{◌≡◌, ◌∙◌, Option, None, Err, true, List, rules, refl, sym, ap, subst}
+use Rattle.std.specs.Prelude.{slice_get}
 use Rattle.revision.specs.State.{Limits, DocumentRecord}
-use Rattle.refusal.specs.declared.Refusal.{Refusal}
-use Rattle.refusal.specs.declared.Refusal.TheVariants.{NoMemory}
-use Rattle.recovery.specs.Found.{limits_of, commands_of}
-use Rattle.recovery.specs.Open.{IsOpen, has_failed}
 use Rattle.history.specs.Cell.{cells_at}
 use Rattle.milestone.specs.Job.{Job}
-use Rattle.recovery.specs.Cells.{highest_known}
+use Rattle.recovery.specs.Found.{limits_of, commands_of}
 use Rattle.recovery.specs.Jobs.{highest, no_job_for, no_job_of, jobs_of, CanAllBePut, KeepsLimits, with_job}
 use Rattle.recovery.proofs.Going.{open_unchanged}
 use Rattle.recovery.proofs.Retirement.{known_highest}
 use Rattle.recovery.proofs.KeptJobs.{handed_out, kept_with}
-use Rattle.recovery.proofs.HandedOut.{held_here, none≢some, err_of, same_error, keep_after, memory_alone}
+use Rattle.recovery.proofs.HandedOut.{held_here, keep_after}
+use Rattle.recovery.proofs.WhereDue.{due_ok, due_memory, due_failed, due_of, due_as}
 use Rattle.recovery.proofs.store.Store.milestone_job.Goals as goal
 
-pub returns-in_err-job-clause-refused : goal.returns-in_err-job-clause-refused
-returns-in_err-job-clause-refused g c unfailed is_open why is =
-    let store = c.args.self.now in
-    let same : no_job_for (slice_get store.state.documents c.args.document) (highest_known store.cells.items c.args.document) c.args.revision ≡ Some why =
-    ap (λ n. no_job_for (slice_get store.state.documents c.args.document) n c.args.revision) (known_highest store is_open c.args.document) ∙ is in
-    let told : IsErrOf c.job_to.result why = c.job_to.ensures.refused why same in
+-- why there is no job
+pub returns-then-self-clause-due : goal.returns-then-self-clause-due
+returns-then-self-clause-due g c =
+    let failed : c.args.self.now.failed ≡ true = search rules in
+    due_failed c.args.document c.args.revision c.args.self.now failed
+
+pub returns-in_err-job-clause-due : goal.returns-in_err-job-clause-due
+returns-in_err-job-clause-due g c =
     let gives : c.from_residual.result ≡ Err c.in_err-job.field-0.0 = search rules in
-    let one : c.in_err-job.field-0.0 ≡ why = same_error c.job_to.result c.in_err-job.field-0.0 why c.in_err-job.was told in
-    gives ∙ ap (λ (r : Refusal). Err r) one
+    due_as c.args.document c.args.revision c.args.self.now c.from_residual.result c.in_err-job.field-0.0 gives
+    (due_of c.args.document c.args.revision c.args.self.now c.job_to.result c.in_err-job.field-0.0 c.in_err-job.was c.in_err-job.ensures.only c.in_err-job.ensures.refusal
+    c.job_to.ensures.refused)
 
-pub returns-in_err-job-clause-refusal : goal.returns-in_err-job-clause-refusal
-returns-in_err-job-clause-refusal g c =
-    let store = c.args.self.now in
-    let gives : c.from_residual.result ≡ Err c.in_err-job.field-0.0 = search rules in
-    err_of (λ e. e ≢ NoMemory → has_failed store ≡ false → (is_open : IsOpen store)
-    → no_job_for (slice_get store.state.documents c.args.document) (highest (cells_at is_open.cells c.args.document)) c.args.revision ≡ Some e)
-    c.from_residual.result c.in_err-job.field-0.0 gives
-    (λ other unfailed is_open. ap (λ n. no_job_for (slice_get store.state.documents c.args.document) n c.args.revision) (sym (known_highest store is_open c.args.document)) ∙ c.in_err-job.ensures.refusal other)
+-- memory alone is in the way once there is a job
+pub returns-in_err-copy-clause-due : goal.returns-in_err-copy-clause-due
+returns-in_err-copy-clause-due g c =
+    due_memory c.args.document c.args.revision c.args.self.now c.from_residual-in_err-copy.result c.from_residual-in_err-copy.ensures.1 c.in_ok-job.ensures.given
 
-pub returns-in_err-copy-clause-refused : goal.returns-in_err-copy-clause-refused
-returns-in_err-copy-clause-refused g c unfailed is_open why is =
-    let store = c.args.self.now in
-    let none : None ≡ Some why =
-    sym c.in_ok-job.ensures.given ∙ ap (λ n. no_job_for (slice_get store.state.documents c.args.document) n c.args.revision) (known_highest store is_open c.args.document) ∙ is in
-    absurd (none≢some none)
+pub returns-in_err-keep-clause-due : goal.returns-in_err-keep-clause-due
+returns-in_err-keep-clause-due g c =
+    due_memory c.args.document c.args.revision c.args.self.now c.from_residual-in_err-keep.result c.from_residual-in_err-keep.ensures.1 c.in_ok-job.ensures.given
 
-pub returns-in_err-keep-clause-refused : goal.returns-in_err-keep-clause-refused
-returns-in_err-keep-clause-refused g c unfailed is_open why is =
-    let store = c.args.self.now in
-    let none : None ≡ Some why =
-    sym c.in_ok-job.ensures.given ∙ ap (λ n. no_job_for (slice_get store.state.documents c.args.document) n c.args.revision) (known_highest store is_open c.args.document) ∙ is in
-    absurd (none≢some none)
-
-pub returns-clause-refused : goal.returns-clause-refused
-returns-clause-refused g c unfailed is_open why is =
-    let store = c.args.self.now in
-    let none : None ≡ Some why =
-    sym c.in_ok-job.ensures.given ∙ ap (λ n. no_job_for (slice_get store.state.documents c.args.document) n c.args.revision) (known_highest store is_open c.args.document) ∙ is in
-    absurd (none≢some none)
+pub returns-clause-due : goal.returns-clause-due
+returns-clause-due g c = due_ok c.args.document c.args.revision c.args.self.now c.in_ok-job.job c.in_ok-job.ensures.given
 
 pub invariant_of-self-clause-composable : goal.invariant_of-self-clause-composable
 invariant_of-self-clause-composable g c =
@@ -94,32 +76,17 @@ returns-clause-open g c is_open =
       kept = subst (λ (l : List Job). CanAllBePut is_open.order is_open.cells l) (sym now) kept;
     }
 
-pub returns-clause-stays : goal.returns-clause-stays
+-- the job that was handed out is kept
+pub returns-clause-given : goal.returns-clause-given
 unfolding returns-clause-open
-returns-clause-stays g c is_open = record { goes_on = returns-clause-open g c is_open; same_cells = refl; same_table = refl }
-
--- the same by the cells that are known in memory
-pub returns-in_err-job-clause-refused_by : goal.returns-in_err-job-clause-refused_by
-returns-in_err-job-clause-refused_by g c unfailed why is =
-    let gives : c.from_residual.result ≡ Err c.in_err-job.field-0.0 = search rules in
-    let one : c.in_err-job.field-0.0 ≡ why = same_error c.job_to.result c.in_err-job.field-0.0 why c.in_err-job.was (c.job_to.ensures.refused why is) in
-    gives ∙ ap (λ (r : Refusal). Err r) one
-
-pub returns-in_err-copy-clause-refused_by : goal.returns-in_err-copy-clause-refused_by
-returns-in_err-copy-clause-refused_by g c unfailed why is = absurd (none≢some (sym c.in_ok-job.ensures.given ∙ is))
-
-pub returns-in_err-keep-clause-refused_by : goal.returns-in_err-keep-clause-refused_by
-returns-in_err-keep-clause-refused_by g c unfailed why is = absurd (none≢some (sym c.in_ok-job.ensures.given ∙ is))
-
-pub returns-clause-refused_by : goal.returns-clause-refused_by
-returns-clause-refused_by g c unfailed why is = absurd (none≢some (sym c.in_ok-job.ensures.given ∙ is))
-
--- memory alone is in the way once there is a job
-pub returns-in_err-copy-clause-refusal : goal.returns-in_err-copy-clause-refusal
-returns-in_err-copy-clause-refusal g c = memory_alone _ _ (search rules)
-
-pub returns-in_err-keep-clause-refusal : goal.returns-in_err-keep-clause-refusal
-returns-in_err-keep-clause-refusal g c = memory_alone _ _ (search rules)
+returns-clause-given g c =
+    let store = c.args.self.now in
+    record {
+      to = c.in_ok-job.ensures.job;
+      made = c.in_ok-job.ensures.made;
+      kept = c.in_ok-keep.ensures.ok ∙ ap (λ (j : Job). with_job j (jobs_of store.jobs)) c.in_ok-copy.ensures.same;
+      over = λ is_open. record { goes_on = returns-clause-open g c is_open; same_cells = refl; same_table = refl };
+    }
 
 -- where the copy finds no place nothing has changed
 pub returns-in_err-keep-clause-open : goal.returns-in_err-keep-clause-open

@@ -1,11 +1,10 @@
 use Rattle.std.proofs.Common.{◌≡◌, ◌≢◌, ◌≤◌, ◌+◌, ◌∙◌, length, refl, sym, ap, subst, rules}
 use Rattle.std.specs.Prelude.{Err}
-use Rattle.disk.specs.Crash.{LeavesOnly}
-use Rattle.refusal.specs.declared.Refusal.TheVariants.{NoMemory, Fault}
-use Rattle.recovery.specs.Found.{FoundAs}
+use Rattle.refusal.specs.declared.Refusal.TheVariants.{NoMemory}
 use Rattle.recovery.specs.Jobs.{without_job}
-use Rattle.recovery.specs.Open.{device_of, state_of, kept_jobs}
-use Rattle.recovery.proofs.Faults.{faults_but_jobs}
+use Rattle.recovery.specs.Open.{device_of, kept_jobs}
+use Rattle.recovery.proofs.Faults.{faults_but_jobs, goes_but_jobs}
+use Rattle.recovery.proofs.Going.{goes_same}
 use Rattle.recovery.proofs.OtherJobs.{others_without}
 use Rattle.recovery.proofs.PutAtOnce.{refused_unfailed}
 use Rattle.recovery.proofs.Refusals.{memory_no_fault}
@@ -19,46 +18,49 @@ returns-else-ne-clause-faults g c =
     let works = refused_unfailed {A = Unit {0}} c.args.self.now c.put_at_once.new.self c.in-Err.refusal c.in-Err.ensures.faults.failed_before (memory_no_fault memory) in
     faults_but_jobs (Err c.in-Err.refusal) c.args.self.now c.put_at_once.new.self c.drop_job.new.self works c.drop_job.ensures.same c.in-Err.ensures.faults
 
-pub returns-else-ne-clause-refused : goal.returns-else-ne-clause-refused
-returns-else-ne-clause-refused g c other =
+pub returns-else-ne-clause-left : goal.returns-else-ne-clause-left
+returns-else-ne-clause-left g c =
     let memory : c.in-Err.refusal ≡ NoMemory = search rules in
-    absurd (other memory)
+    let before = c.in-Err.ensures.left.memory memory in
+    record {
+      untouched = λ other fault. absurd (other memory);
+      unwritten = λ fault. c.drop_job.ensures.same.device ∙ c.in-Err.ensures.left.unwritten fault;
+      memory = λ told. (
+        before.0,
+        record { same = but_jobs_on before.1 c.drop_job.ensures.same; jobs = c.drop_job.ensures.jobs ∙ c.put_at_once.ensures.stays.jobs },
+      );
+      fault = λ fault. absurd (memory_no_fault memory fault);
+    }
 
-pub returns-else-ne-clause-refused_by : goal.returns-else-ne-clause-refused_by
-returns-else-ne-clause-refused_by g c other =
-    let memory : c.in-Err.refusal ≡ NoMemory = search rules in
-    absurd (other memory)
+pub returns-else-ne-clause-stays : goal.returns-else-ne-clause-stays
+returns-else-ne-clause-stays g c =
+    let stays = c.put_at_once.ensures.stays in
+    let same = c.drop_job.ensures.same in
+    record {
+      state = same.state ∙ stays.state;
+      ring = same.ring ∙ stays.ring;
+      marks = same.marks ∙ stays.marks;
+      jobs = ap (without_job c.args.document) c.drop_job.ensures.jobs
+          ∙ others_without c.args.document c.args.document (kept_jobs c.put_at_once.new.self) refl
+          ∙ stays.jobs;
+    }
 
-pub returns-else-ne-clause-untouched : goal.returns-else-ne-clause-untouched
-returns-else-ne-clause-untouched g c other =
-    let memory : c.in-Err.refusal ≡ NoMemory = search rules in
-    absurd (other memory)
-
-pub returns-else-ne-clause-unwritten : goal.returns-else-ne-clause-unwritten
-returns-else-ne-clause-unwritten g c other = c.drop_job.ensures.same.device ∙ c.in-Err.ensures.unwritten other
-
-pub returns-else-ne-clause-memory : goal.returns-else-ne-clause-memory
-returns-else-ne-clause-memory g c told =
-    let before = c.in-Err.ensures.memory told in
-    (before.0, record { same = but_jobs_on before.1 c.drop_job.ensures.same; jobs = c.drop_job.ensures.jobs ∙ c.put_at_once.ensures.others })
-
-pub returns-else-ne-clause-forgotten : goal.returns-else-ne-clause-forgotten
-returns-else-ne-clause-forgotten g c told = c.drop_job.ensures.jobs ∙ c.put_at_once.ensures.others
-
-pub returns-else-ne-clause-others : goal.returns-else-ne-clause-others
-returns-else-ne-clause-others g c =
-    ap (without_job c.args.document) c.drop_job.ensures.jobs ∙ others_without c.args.document c.args.document (kept_jobs c.put_at_once.new.self) refl
-    ∙ c.put_at_once.ensures.others
-
-pub returns-else-ne-clause-any_moment : goal.returns-else-ne-clause-any_moment
-returns-else-ne-clause-any_moment g c unfailed is_open =
-    let old = c.args.self.now in
-    subst (λ d. LeavesOnly g.D.Disk (λ content. FoundAs content (state_of old)) (device_of old) d) (sym c.drop_job.ensures.same.device)
-    (c.put_at_once.ensures.any_moment unfailed is_open)
-
-pub returns-else-ne-clause-kept : goal.returns-else-ne-clause-kept
-returns-else-ne-clause-kept g c other is_open = c.drop_job.ensures.open (c.in-Err.ensures.kept other is_open)
+pub returns-else-ne-clause-goes : goal.returns-else-ne-clause-goes
+returns-else-ne-clause-goes g c =
+    goes_same c.put_at_once.ensures.stays.state c.put_at_once.ensures.goes
+    (goes_but_jobs c.put_at_once.new.self c.drop_job.new.self c.drop_job.ensures.same c.drop_job.ensures.open)
 
 pub returns-else-ne-clause-calls : goal.returns-else-ne-clause-calls
 returns-else-ne-clause-calls g c =
     subst (λ d. length (g.D.Disk.past d) ≤ length (g.D.Disk.past (device_of c.args.self.now)) + 6) (sym c.drop_job.ensures.same.device) c.put_at_once.ensures.calls
+
+-- any other refusal is given on
+pub returns-then-ne-clause-left : goal.returns-then-ne-clause-left
+returns-then-ne-clause-left g c =
+    let other : c.in-Err.refusal ≢ NoMemory = search rules in
+    record {
+      untouched = c.in-Err.ensures.left.untouched;
+      unwritten = c.in-Err.ensures.left.unwritten;
+      memory = λ memory. absurd (other memory);
+      fault = λ fault. c.in-Err.ensures.left.job;
+    }

@@ -1,10 +1,8 @@
-use Rattle.std.proofs.Common.{◌≡◌, ◌⊎◌, inl, inr, ℕ, ◌≤◌, ◌<◌, ◌+◌, ◌*◌, true, false, Bool, List, [], length, not, refl, sym, ◌∙◌, ap, subst, arith, rules}
-use Rattle.std.specs.Prelude.{Ok, Err}
+use Rattle.std.proofs.Common.{◌≡◌, ◌≤◌, ◌+◌, true, false, List, length, not, refl, sym, ◌∙◌, ap, subst, arith, rules}
 use Rattle.std.proofs.lemmas.Bool.{false≢true}
 use Rattle.std.proofs.lemmas.List.{with_items_is}
-use Rattle.refusal.specs.declared.Refusal.TheVariants.{Fault}
 use Rattle.revision.specs.State.{State}
-use Rattle.history.specs.Cell.{Cell, Pair, cells_at}
+use Rattle.history.specs.Cell.{cells_at}
 use Rattle.history.specs.Running.{Runs}
 use Rattle.milestone.specs.declared.cells.Cells.{Cells}
 use Rattle.milestone.specs.Job.{Job}
@@ -13,15 +11,14 @@ use Rattle.recovery.specs.declared.group.Member.{Member}
 use Rattle.segments.specs.Ring.{size_of}
 use Rattle.recovery.specs.Found.{commands_of, limits_of}
 use Rattle.recovery.specs.Jobs.{AllKeep, KeepsLimits, CanAllBePut}
-use Rattle.recovery.specs.Open.{IsOpen, state_of, kept_jobs}
-use Rattle.recovery.specs.steps.Group.{newest_at, is_in, outside_jobs, HasPlaces, StandTogether, IsGroupPut}
+use Rattle.recovery.specs.Open.{state_of, kept_jobs}
+use Rattle.recovery.specs.steps.Group.{newest_at, is_in, outside_jobs, HasPlaces, StandTogether}
+use Rattle.recovery.proofs.CellsAlone.{cells_still}
 use Rattle.recovery.proofs.DroppedJobs.{outside_none}
-use Rattle.recovery.proofs.Faults.{faults_none}
 use Rattle.recovery.proofs.Going.{goes_nowhere}
 use Rattle.recovery.proofs.KeptJobs.{all_passing}
 use Rattle.recovery.proofs.Mixed.{parts_mixed, ring_mixed, runs_mixed}
 use Rattle.recovery.proofs.PutGroups.{group_places, group_spelled, group_stands, group_found, put_pairs, pairs_other, pairs_own, pairs_may, pairs_fit, pairs_hold, kept_outside, fault_here, good_here, none_in, none_put}
-use Rattle.recovery.proofs.Refusals.{ok≢err}
 use Rattle.recovery.proofs.store.Store.put_group.Goals as goal
 
 pub put_both-requires : goal.put_both-requires
@@ -47,6 +44,9 @@ returns-then-is_empty-clause-goes g c = goes_nowhere c.args.self.now
 pub returns-then-is_empty-clause-syncs : goal.returns-then-is_empty-clause-syncs
 returns-then-is_empty-clause-syncs g c = record { syncs = omega arith; faults = omega arith }
 
+pub returns-then-is_empty-clause-outside : goal.returns-then-is_empty-clause-outside
+returns-then-is_empty-clause-outside g c = cells_still c.args.self.now
+
 -- what the store keeps
 pub invariant_of-self : goal.invariant_of-self
 invariant_of-self g c =
@@ -54,10 +54,10 @@ invariant_of-self g c =
     let are = c.put_both.ensures.writes.placed store.shape (subst (AreCellsOf store.shape) (sym c.deref_mut.ensures.value) store.placed) in
     record {
       within = omega (arith, store.within, c.put_both.ensures.writes.only_written.length);
-      slot = subst (λ (s : State). size_of store.ring ≡ s.limits.width + 19) (sym c.let_go_each.ensures) store.slot;
+      slot = subst (λ (s : State). size_of store.ring ≡ s.limits.width + 19) (sym c.prune_each.ensures) store.slot;
       in_range = store.in_range;
       long = omega (arith, store.long, c.put_both.ensures.writes.only_written.length);
-      bounded = ap (λ (s : State). s.limits) c.let_go_each.ensures ∙ store.bounded;
+      bounded = ap (λ (s : State). s.limits) c.prune_each.ensures ∙ store.bounded;
       placed = subst (AreCellsOf store.shape) (sym (with_items_is store.cells c.put_both.new.cells (omega (arith, are.count, store.placed.count, store.cells.ok.0)))) are;
       composable = subst (AllKeep (limits_of store.shape)) (sym c.drop_jobs.ensures)
           (all_passing (KeepsLimits (limits_of store.shape)) (λ (job : Job). not (is_in c.args.members.now job.document)) (kept_jobs store) store.composable);
@@ -105,8 +105,8 @@ returns-in-Ok-clause-put g c is_open =
         cells_are = subst (AreCellsOf store.shape) (sym back) are;
         cells_fit = subst (λ (l : List Cells). FitEach content l chosen.pairs) (sym back) (pairs_fit store ms group is_open c.put_both.new.cells content are stand);
         marked = is_open.marked;
-        limits = subst (λ (s : State). s.limits ≡ limits_of store.shape) (sym c.let_go_each.ensures) is_open.limits;
-        runs = subst (Runs is_open.order chosen.pairs (commands_of is_open.batches)) (sym c.let_go_each.ensures) (runs_mixed store is_open content chosen.pairs outside chosen.as_many hold may);
+        limits = subst (λ (s : State). s.limits ≡ limits_of store.shape) (sym c.prune_each.ensures) is_open.limits;
+        runs = subst (Runs is_open.order chosen.pairs (commands_of is_open.batches)) (sym c.prune_each.ensures) (runs_mixed store is_open content chosen.pairs outside chosen.as_many hold may);
         kept = subst (CanAllBePut is_open.order chosen.pairs) (sym c.drop_jobs.ensures) (kept_outside store ms group is_open);
       };
       same_table = refl;
@@ -120,7 +120,12 @@ returns-in-Ok-clause-calls g c =
     omega (arith, c.put_both.ensures.writes.costs.calls, some)
 
 pub returns-in-Ok-clause-keeps : goal.returns-in-Ok-clause-keeps
-returns-in-Ok-clause-keeps g c = record { state = c.let_go_each.ensures; ring = refl; marks = refl }
+returns-in-Ok-clause-keeps g c = record { state = c.prune_each.ensures; ring = refl; marks = refl }
+
+pub returns-in-Ok-clause-outside : goal.returns-in-Ok-clause-outside
+returns-in-Ok-clause-outside g c =
+    let store = c.args.self.now in
+    record { shape = refl; outside = c.put_both.ensures.writes.outside store.shape (subst (AreCellsOf store.shape) (sym c.deref_mut.ensures.value) store.placed) }
 
 pub returns-in-Ok-clause-syncs : goal.returns-in-Ok-clause-syncs
 returns-in-Ok-clause-syncs g c = record { syncs = omega (arith, c.put_both.ensures.writes.costs.syncs); faults = c.put_both.ensures.writes.costs.faults }
@@ -147,6 +152,11 @@ pub returns-in-Err-clause-calls : goal.returns-in-Err-clause-calls
 returns-in-Err-clause-calls g c =
     let some : 1 ≤ length c.args.members.now = search rules in
     omega (arith, c.put_both.ensures.writes.costs.calls, some)
+
+pub returns-in-Err-clause-outside : goal.returns-in-Err-clause-outside
+returns-in-Err-clause-outside g c =
+    let store = c.args.self.now in
+    record { shape = refl; outside = c.put_both.ensures.writes.outside store.shape (subst (AreCellsOf store.shape) (sym c.deref_mut.ensures.value) store.placed) }
 
 pub returns-in-Err-clause-syncs : goal.returns-in-Err-clause-syncs
 returns-in-Err-clause-syncs g c = record { syncs = omega (arith, c.put_both.ensures.writes.costs.syncs); faults = c.put_both.ensures.writes.costs.faults }

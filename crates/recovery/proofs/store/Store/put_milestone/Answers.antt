@@ -183,8 +183,8 @@ returns-in-Ok-clause-done g c is_open =
         cells_fit = subst (λ n. FitEach (g.D.Disk.seen c.replace_older.new.disk) (set store.cells.items n c.replace_older.new.self) (with_pair job.document (after store is_open job now_kept inside one its) is_open.cells)) (sym is)
             (fit_now store is_open job now_kept inside one its _ c.replace_older.new.self now);
         marked = is_open.marked;
-        limits = subst (λ (s : State). s.limits ≡ limits_of store.shape) (sym c.let_go_of.ensures) is_open.limits;
-        runs = subst (Runs is_open.order (with_pair job.document (after store is_open job now_kept inside one its) is_open.cells) (commands_of is_open.batches)) (sym c.let_go_of.ensures)
+        limits = subst (λ (s : State). s.limits ≡ limits_of store.shape) (sym c.prune_one.ensures) is_open.limits;
+        runs = subst (Runs is_open.order (with_pair job.document (after store is_open job now_kept inside one its) is_open.cells) (commands_of is_open.batches)) (sym c.prune_one.ensures)
             (runs_after store is_open job now_kept inside one its);
         kept = subst (CanAllBePut is_open.order (with_pair job.document (after store is_open job now_kept inside one its) is_open.cells))
             (ap (λ n. without_job n (kept_jobs store)) (sym is) ∙ sym c.forget.ensures)

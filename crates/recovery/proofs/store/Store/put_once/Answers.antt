@@ -64,10 +64,10 @@ invariant_of-self g c =
     let are = c.put_each.ensures.writes.placed store.shape (subst (AreCellsOf store.shape) (sym c.deref_mut.ensures.value) store.placed) in
     record {
       within = omega (arith, store.within, c.put_each.ensures.writes.only_written.length);
-      slot = subst (λ (s : State). size_of store.ring ≡ s.limits.width + 19) (sym c.let_go_each.ensures) store.slot;
+      slot = subst (λ (s : State). size_of store.ring ≡ s.limits.width + 19) (sym c.prune_each.ensures) store.slot;
       in_range = store.in_range;
       long = omega (arith, store.long, c.put_each.ensures.writes.only_written.length);
-      bounded = ap (λ (s : State). s.limits) c.let_go_each.ensures ∙ store.bounded;
+      bounded = ap (λ (s : State). s.limits) c.prune_each.ensures ∙ store.bounded;
       placed = subst (AreCellsOf store.shape) (sym (with_items_is store.cells c.put_each.new.cells (omega (arith, are.count, store.placed.count, store.cells.ok.0)))) are;
       composable = subst (AllKeep (limits_of store.shape)) (sym c.drop_jobs.ensures)
           (all_passing (KeepsLimits (limits_of store.shape)) (λ (job : Job). not (is_in c.args.members.now job.document)) (kept_jobs store) store.composable);
@@ -119,8 +119,8 @@ returns-in-Ok-clause-put g c composed kept = record {
           cells_are = subst (AreCellsOf store.shape) (sym back) are;
           cells_fit = subst (λ (l : List Cells). FitEach content l pairs) (sym back) (once_fit store is_open ms put are_cells below pairs each c.put_each.new.cells content are stand);
           marked = is_open.marked;
-          limits = subst (λ (s : State). s.limits ≡ limits_of store.shape) (sym c.let_go_each.ensures) is_open.limits;
-          runs = subst (Runs is_open.order pairs (commands_of is_open.batches)) (sym c.let_go_each.ensures) (runs_mixed store is_open content pairs outside count hold may);
+          limits = subst (λ (s : State). s.limits ≡ limits_of store.shape) (sym c.prune_each.ensures) is_open.limits;
+          runs = subst (Runs is_open.order pairs (commands_of is_open.batches)) (sym c.prune_each.ensures) (runs_mixed store is_open content pairs outside count hold may);
           kept = subst (CanAllBePut is_open.order pairs) (sym c.drop_jobs.ensures) (kept_others store composed ms kept is_open pairs (kept_away store composed ms kept is_open));
         };
         same_table = refl;
@@ -129,7 +129,7 @@ returns-in-Ok-clause-put g c composed kept = record {
 }
 
 pub returns-in-Ok-clause-keeps : goal.returns-in-Ok-clause-keeps
-returns-in-Ok-clause-keeps g c = record { state = c.let_go_each.ensures; ring = refl; marks = refl }
+returns-in-Ok-clause-keeps g c = record { state = c.prune_each.ensures; ring = refl; marks = refl }
 
 pub returns-in-Ok-clause-costs : goal.returns-in-Ok-clause-costs
 returns-in-Ok-clause-costs g c composed kept few =

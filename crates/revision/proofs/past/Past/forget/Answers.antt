@@ -1,6 +1,6 @@
 use Rattle.std.proofs.Common.{[], List, sym, ap, ap₂, subst, ◌∙◌}
 use Rattle.delta.specs.Operation.{Operation}
-use Rattle.revision.specs.declared.taker.Taker.{Taker}
+use Rattle.revision.specs.declared.rule.taker.Taker.{Taker}
 use Rattle.revision.specs.Past.{Parts, Prepared, AreParts, seen}
 use Rattle.revision.specs.steps.PastView.{parts_of}
 use Rattle.revision.proofs.Parts.{forget_is, forget_are}

@@ -1,5 +1,5 @@
 use Rattle.std.proofs.Common.{◌≡◌, true, List, drop, sym, ap, subst, ◌∙◌}
-use Rattle.revision.specs.declared.taker.Taker.{Taker}
+use Rattle.revision.specs.declared.rule.taker.Taker.{Taker}
 use Rattle.revision.specs.Past.{Parts, Prepared, is_content, prepared_content}
 use Rattle.revision.specs.steps.PastView.{parts_of}
 use Rattle.revision.specs.steps.Turning.{live_by_last}

@@ -1,7 +1,5 @@
-use Rattle.std.proofs.Common.{◌≡◌, ◌+◌, ◌-◌, List, take, Option, ◌∙◌, subst, arith}
-use Rattle.std.specs.Prelude.{IfSome}
-use Rattle.revision.specs.Sources.{Sources}
-use Rattle.revision.specs.Past.{Change, changes_by, sources_after, newest_sources}
+use Rattle.std.proofs.Common.{◌+◌, ◌-◌, take, ◌∙◌, arith}
+use Rattle.revision.specs.Past.{changes_by, sources_after}
 use Rattle.revision.specs.steps.PastView.{parts_of}
 use Rattle.revision.proofs.Beginnings.{with_kept, newest_there, newest_noted}
 use Rattle.revision.proofs.KeptDocuments.{noted-by}

@@ -1,8 +1,8 @@
-use Rattle.std.proofs.Common.{◌≡◌, ◌-◌, List, take, drop, sym, ap, ap₂, subst, ◌∙◌}
+use Rattle.std.proofs.Common.{◌-◌, List, take, drop, sym, ap, ap₂, subst, ◌∙◌}
 use Rattle.delta.specs.Element.{Element}
 use Rattle.delta.specs.Operation.{Operation}
 use Rattle.compose.specs.Many.{applied}
-use Rattle.revision.specs.declared.taker.Taker.{Taker}
+use Rattle.revision.specs.declared.rule.taker.Taker.{Taker}
 use Rattle.revision.specs.Past.{AreNoted, StandInTurn, sources_after, changes_by}
 use Rattle.revision.specs.steps.PastView.{parts_of}
 use Rattle.revision.proofs.Replaying.{replay_sources}

@@ -1,6 +1,6 @@
 use Rattle.std.proofs.Common.{◌≡◌, ◌<◌, ◌≤◌, ◌-◌, List, length, take, sym, ap, ap₂, subst, ◌∙◌, arith}
 use Rattle.delta.specs.Operation.{Operation}
-use Rattle.revision.specs.declared.taker.Taker.{Taker}
+use Rattle.revision.specs.declared.rule.taker.Taker.{Taker}
 use Rattle.revision.specs.Past.{Parts, Prepared, AreParts, seen, without_last}
 use Rattle.revision.specs.steps.PastView.{parts_of}
 use Rattle.revision.proofs.Parts.{cut_are, last_dropped, none_dropped}

@@ -1,5 +1,4 @@
-use Rattle.std.proofs.Common.{List, sym, subst}
-use Rattle.revision.specs.declared.kept_document.Kept.{Kept}
+use Rattle.std.proofs.Common.{sym, subst}
 use Rattle.revision.specs.Past.{AreKept, AreNoted, changes_by}
 use Rattle.revision.specs.steps.PastView.{parts_of}
 use Rattle.revision.proofs.Beginnings.{with_kept}

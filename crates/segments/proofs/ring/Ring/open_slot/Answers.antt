@@ -32,19 +32,24 @@ returns-clause-any_moment g c table synced fits =
     opening old ring table fits c.requires.within slot number (search rules) (search rules) content (subst (λ place. IsGated place (head_of number) old content) c.place-place.ensures.place (search rules)))
     (c.write_gated.ensures.any_moment synced)
 
-pub returns-clause-done : goal.returns-clause-done
-returns-clause-done g c table fits =
-    let ring = c.args.self.now in
-    let old = g.D.Disk.seen c.args.disk.now in
-    let new = g.D.Disk.seen c.write_gated.new.disk in
-    let slot = c.in-Some.slot in
-    let number = c.in-Some.number in
-    let place = slot_place ring.at ring.size slot in
-    let head : c.head.result ≡ head_of number = search rules in
-    let seen : new ≡ overwritten (overwritten old (place + 1) (head_of number)) place (open_gate ∷ []) =
-    c.in_ok-write_gated.ensures.seen
-    ∙ ap (λ k. overwritten (overwritten old (k + 1) c.head.result) k (open_gate ∷ [])) c.place-place.ensures.place
-    ∙ ap (λ (l : List ℕ). overwritten (overwritten old (place + 1) l) place (open_gate ∷ [])) head in
-    let begins : c.empty.result.at ≡ place + 9 = ap (λ (p : Place). p.at) c.empty.ensures ∙ ap (λ k. k + 9) c.place-place.ensures.place in
-    opened_ring old ring table fits c.requires.within slot number (search rules) (search rules) new _ c.empty.result seen refl refl refl refl
-    begins (ap (λ (p : Place). p.size) c.empty.ensures) (ap (λ (p : Place). p.next) c.empty.ensures)
+pub returns-clause-opened : goal.returns-clause-opened
+returns-clause-opened g c = record {
+  takes = search rules;
+  room = search rules;
+  done = λ table fits.
+      let ring = c.args.self.now in
+      let old = g.D.Disk.seen c.args.disk.now in
+      let new = g.D.Disk.seen c.write_gated.new.disk in
+      let slot = c.in-Some.slot in
+      let number = c.in-Some.number in
+      let place = slot_place ring.at ring.size slot in
+      let head : c.head.result ≡ head_of number = search rules in
+      let seen : new ≡ overwritten (overwritten old (place + 1) (head_of number)) place (open_gate ∷ []) =
+      c.in_ok-write_gated.ensures.seen
+      ∙ ap (λ k. overwritten (overwritten old (k + 1) c.head.result) k (open_gate ∷ [])) c.place-place.ensures.place
+      ∙ ap (λ (l : List ℕ). overwritten (overwritten old (place + 1) l) place (open_gate ∷ [])) head in
+      let begins : c.empty.result.at ≡ place + 9 = ap (λ (p : Place). p.at) c.empty.ensures ∙ ap (λ k. k + 9) c.place-place.ensures.place in
+      opened_ring old ring table fits c.requires.within slot number (search rules) (search rules) new _ c.empty.result seen refl refl refl refl
+      begins (ap (λ (p : Place). p.size) c.empty.ensures) (ap (λ (p : Place). p.next) c.empty.ensures);
+  synced = search rules;
+}

@@ -19,8 +19,14 @@ returns-clause-any_moment g c table synced fits =
     let full : fits_newest c.args.self.now c.args.len ≡ false = search rules in
     leaves_map (opening_ready _ c.args.self.now c.args.len table full) (c.open_slot.ensures.any_moment table synced fits)
 
-pub returns-clause-done : goal.returns-clause-done
-returns-clause-done g c table fits =
+pub returns-clause-ready : goal.returns-clause-ready
+returns-clause-ready g c =
     let full : fits_newest c.args.self.now c.args.len ≡ false = search rules in
-    let opened = c.in_ok-open_slot.ensures.done table fits in
-    (opened.0, inr (full, opened.1), opened.2)
+    let opened = c.in_ok-open_slot.ensures.opened in
+    record {
+      newest = search rules;
+      room = search rules;
+      takes = inr opened.takes;
+      done = λ table fits. let now = opened.done table fits in (now.0, inr (full, now.1), now.2);
+      synced = λ synced. opened.synced;
+    }

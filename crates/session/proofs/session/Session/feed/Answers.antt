@@ -7,7 +7,7 @@ use Rattle.session.specs.Ahead.{commands_of, Ahead}
 use Rattle.session.proofs.Later.{fits_later}
 use Rattle.session.proofs.Writes.{on_err}
 use Rattle.session.proofs.Feeding.{stops-longer, piece_parted, piece_taken}
-use Rattle.session.proofs.Sending.{ahead_of_nothing, ahead_through, settles_map, settled, stops_settling}
+use Rattle.session.proofs.Sending.{ahead_of_nothing, ahead_through, answers_map, answered_all, stops_answering}
 use Rattle.session.proofs.session.Session.feed.Goals as goal
 
 pub loop-byte-init : goal.loop-byte-init
@@ -19,7 +19,7 @@ loop-byte-init g c =
       ahead = (
         [],
         refl,
-        subst (λ (l : List Sent). Ahead g.D.Desk.does c.args.self.now [] (commands_of l) c.args.self.now c.args.desk.now c.args.desk.now out out) (sym c.new-sent.ensures.items)
+        subst (λ (l : List Sent). Ahead g.D.Desk.does c.args.self.now [] (commands_of l) c.args.self.now c.args.desk.now c.args.desk.now out out) (sym c.new-pending.ensures.items)
             (ahead_of_nothing g.D.Desk.does c.args.self.now c.args.desk.now out),
       );
     }
@@ -55,16 +55,16 @@ returns-in_err-take-clause-stopped g c =
     (piece_parted c.args.piece.now front _ taken.text _ _ _ so_far.ahead.1 taken.whole c.in-Some.ensures.cases.0)
     (c.in_err-take.ensures.stopped c.args.self.now (front ++ taken.text) c.args.desk.now (contents c.args.out.now) on))
 
-pub returns-in_err-settle-clause-fits : goal.returns-in_err-settle-clause-fits
-returns-in_err-settle-clause-fits g c =
-    fits_later (g.D.Desk.reached c.loop-byte.desk) (g.D.Desk.reached c.settle.new.desk) c.loop-byte.shelf c.settle.ensures.later c.loop-byte.invariant.fits
+pub returns-in_err-answer_pending-clause-fits : goal.returns-in_err-answer_pending-clause-fits
+returns-in_err-answer_pending-clause-fits g c =
+    fits_later (g.D.Desk.reached c.loop-byte.desk) (g.D.Desk.reached c.answer_pending.new.desk) c.loop-byte.shelf c.answer_pending.ensures.later c.loop-byte.invariant.fits
 
 pub returns-clause-fits : goal.returns-clause-fits
 returns-clause-fits g c =
-    fits_later (g.D.Desk.reached c.loop-byte.desk) (g.D.Desk.reached c.settle.new.desk) c.loop-byte.shelf c.settle.ensures.later c.loop-byte.invariant.fits
+    fits_later (g.D.Desk.reached c.loop-byte.desk) (g.D.Desk.reached c.answer_pending.new.desk) c.loop-byte.shelf c.answer_pending.ensures.later c.loop-byte.invariant.fits
 
-pub returns-in_err-settle-clause-stopped : goal.returns-in_err-settle-clause-stopped
-returns-in_err-settle-clause-stopped g c =
+pub returns-in_err-answer_pending-clause-stopped : goal.returns-in_err-answer_pending-clause-stopped
+returns-in_err-answer_pending-clause-stopped g c =
     let contents = g.O.Output.contents in
     let so_far = c.loop-byte.invariant in
     let front = so_far.ahead.0 in
@@ -73,11 +73,11 @@ returns-in_err-settle-clause-stopped g c =
     c.take_text.new.self _ _ taken c.take_text.ensures.others in
     let whole : (front ++ taken.text) ++ [] ≡ c.args.piece.now = append-nil (front ++ taken.text)
     ∙ piece_taken c.args.piece.now front _ taken.text _ so_far.ahead.1 taken.whole (search rules) in
-    on_err c.from_residual-in_err-settle.result (λ works.
-    subst (λ (l : List ℕ). Stops g.D.Desk.does c.args.self.now l c.settle.new.self c.args.desk.now c.settle.new.desk (contents c.args.out.now) (contents c.settle.new.out)) whole
-    (stops_settling g.D.Desk.does c.args.self.now c.take_text.new.self (front ++ taken.text) _ c.args.desk.now c.loop-byte.desk (contents c.args.out.now) (contents c.loop-byte.out) on
-    c.settle.new.self c.settle.new.desk (contents c.settle.new.out) []
-    (settles_map g.D.Desk.does _ _ _ _ (AppendsFront (contents c.loop-byte.out) (contents c.settle.new.out)) (λ t h. h.1) c.in_err-settle.ensures.settled) c.in_err-settle.ensures.err))
+    on_err c.from_residual-in_err-answer_pending.result (λ works.
+    subst (λ (l : List ℕ). Stops g.D.Desk.does c.args.self.now l c.answer_pending.new.self c.args.desk.now c.answer_pending.new.desk (contents c.args.out.now) (contents c.answer_pending.new.out)) whole
+    (stops_answering g.D.Desk.does c.args.self.now c.take_text.new.self (front ++ taken.text) _ c.args.desk.now c.loop-byte.desk (contents c.args.out.now) (contents c.loop-byte.out) on
+    c.answer_pending.new.self c.answer_pending.new.desk (contents c.answer_pending.new.out) []
+    (answers_map g.D.Desk.does _ _ _ _ (AppendsFront (contents c.loop-byte.out) (contents c.answer_pending.new.out)) (λ t h. h.1) c.in_err-answer_pending.ensures.answered) c.in_err-answer_pending.ensures.err))
 
 pub returns-clause-fed : goal.returns-clause-fed
 returns-clause-fed g c =
@@ -87,10 +87,10 @@ returns-clause-fed g c =
     let taken = c.take_text.ensures.text in
     let on = ahead_through g.D.Desk.does c.args.self.now c.loop-byte.self front _ c.args.desk.now c.loop-byte.desk (contents c.args.out.now) (contents c.loop-byte.out) so_far.ahead.2
     c.take_text.new.self _ _ taken c.take_text.ensures.others in
-    let fed = settled g.D.Desk.does c.args.self.now c.take_text.new.self (front ++ taken.text) _ c.args.desk.now c.loop-byte.desk (contents c.args.out.now) (contents c.loop-byte.out) on
-    c.settle.new.desk (contents c.settle.new.out)
-    (settles_map g.D.Desk.does _ _ _ _ (Appends (contents c.loop-byte.out) (contents c.settle.new.out)) (λ t h. h.0) c.in_ok-settle.ensures.settled) in
-    subst (λ (l : List ℕ). Feeds g.D.Desk.does c.args.self.now l c.settle.new.self c.args.desk.now c.settle.new.desk (contents c.args.out.now) (contents c.settle.new.out))
+    let fed = answered_all g.D.Desk.does c.args.self.now c.take_text.new.self (front ++ taken.text) _ c.args.desk.now c.loop-byte.desk (contents c.args.out.now) (contents c.loop-byte.out) on
+    c.answer_pending.new.desk (contents c.answer_pending.new.out)
+    (answers_map g.D.Desk.does _ _ _ _ (Appends (contents c.loop-byte.out) (contents c.answer_pending.new.out)) (λ t h. h.0) c.in_ok-answer_pending.ensures.answered) in
+    subst (λ (l : List ℕ). Feeds g.D.Desk.does c.args.self.now l c.answer_pending.new.self c.args.desk.now c.answer_pending.new.desk (contents c.args.out.now) (contents c.answer_pending.new.out))
     (piece_taken c.args.piece.now front _ taken.text _ so_far.ahead.1 taken.whole (search rules))
-    (subst (λ s. Feeds g.D.Desk.does c.args.self.now (front ++ taken.text) s c.args.desk.now c.settle.new.desk (contents c.args.out.now) (contents c.settle.new.out))
-    (sym c.in_ok-settle.ensures.ok) fed)
+    (subst (λ s. Feeds g.D.Desk.does c.args.self.now (front ++ taken.text) s c.args.desk.now c.answer_pending.new.desk (contents c.args.out.now) (contents c.answer_pending.new.out))
+    (sym c.in_ok-answer_pending.ensures.ok) fed)

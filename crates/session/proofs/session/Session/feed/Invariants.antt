@@ -11,7 +11,7 @@ invariant-loop-byte g l =
       works : l.self.ended ≡ false;
       fits : Fits (g.D.Desk.reached l.desk) l.shelf;
       ahead : (front : List ℕ) × (l.piece ≡ front ++ l.rest)
-          × Ahead g.D.Desk.does l.fn.self front (commands_of l.sent.items) l.self l.fn.desk l.desk (contents l.fn.out) (contents l.out);
+          × Ahead g.D.Desk.does l.fn.self front (commands_of l.pending.items) l.self l.fn.desk l.desk (contents l.fn.out) (contents l.out);
     }
 
 abbrev pub decreases-loop-byte : goal.decreases-loop-byte

@@ -1,7 +1,6 @@
 use Rattle.std.proofs.Common.{◌≡◌, ◌∷◌, refl, arith}
 use Rattle.json.specs.Token as token
 use Rattle.serde_json.specs.Data.{null}
-use Rattle.session.specs.steps.Tokened.{Reads}
 use Rattle.session.proofs.OneToken.{reads_null}
 use Rattle.session.proofs.tokened.attribute_maps.new_value.Goals as goal
 

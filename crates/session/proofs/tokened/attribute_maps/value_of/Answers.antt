@@ -3,13 +3,14 @@ use Rattle.std.proofs.lemmas.Int.{to_z-of_z}
 use Rattle.json.specs.Token as token
 use Rattle.json.specs.Reads.{token_of}
 use Rattle.attributes.specs.Scalar.{Scalar, IsExact, text_scalar, whole_scalar}
-use Rattle.session.proofs.ScalarTokens.{kept, some_kept, some_so, both_ok, ok_both, scalar_text, scalar_flag, scalar_whole}
+use Rattle.attributes.proofs.CallerLemmas.{IfSome-map}
+use Rattle.session.proofs.ScalarTokens.{kept, some_kept, both_ok, ok_both, scalar_text, scalar_flag, scalar_whole}
 use Rattle.session.proofs.tokened.attribute_maps.value_of.Goals as goal
 
 pub returns-in-String : goal.returns-in-String
 returns-in-String c =
     let first : token_of c.args.token.now ≡ token.string c.in-String.text.now = ap token_of c.in-String.is in
-    rw first (some_so _ _ c.ok.result (scalar_text c.in-String.text.now) (some_kept (λ (x : Scalar). x ≡ text_scalar c.in-String.text.now) c.text.result c.ok.result c.ok.ensures.value c.text.ensures.text))
+    rw first (IfSome-map _ _ c.ok.result (scalar_text c.in-String.text.now) (some_kept (λ (x : Scalar). x ≡ text_scalar c.in-String.text.now) c.text.result c.ok.result c.ok.ensures.value c.text.ensures.text))
 
 pub returns-in_ok-ok-in-Number : goal.returns-in_ok-ok-in-Number
 returns-in_ok-ok-in-Number c =
@@ -20,7 +21,7 @@ returns-in_ok-ok-in-Number c =
     let same : to_z w64 (of_z w64 z) ≡ pos n = to_z-of_z w64 z (subst (SFits w64) (sym both.1) both.0) ∙ both.1 in
     let y = to_z w64 (of_z w64 z) in
     rw first
-    (some_so (λ (x : Scalar). IsExact y × (x ≡ whole_scalar y)) _ c.ok-in-Number-2.result (λ x exact. scalar_whole c.in-Number.text.now n y x c.in_ok-digits-in-Number.ensures same exact.0 exact.1)
+    (IfSome-map (λ (x : Scalar). IsExact y × (x ≡ whole_scalar y)) _ c.ok-in-Number-2.result (λ x exact. scalar_whole c.in-Number.text.now n y x c.in_ok-digits-in-Number.ensures same exact.0 exact.1)
     (some_kept (λ (x : Scalar). IsExact y × (x ≡ whole_scalar y)) c.whole.result c.ok-in-Number-2.result c.ok-in-Number-2.ensures.value
     (both_ok (λ _. IsExact y) (λ (x : Scalar). x ≡ whole_scalar y) c.whole.result c.whole.ensures.kept c.whole.ensures.number)))
 

@@ -1,5 +1,4 @@
 use Rattle.session.proofs.Operators.{spells_delete}
-use Rattle.std.proofs.Common.{◌≡◌, ◌∙◌, sym, ap, arith}
 use Rattle.session.proofs.tokened.operations.deletion.Goals as goal
 
 pub returns : goal.returns

@@ -1,11 +1,12 @@
-use Rattle.std.proofs.Common.{◌≡◌, List, ◌++◌, [], ◌∷◌, Some, None, sym, ap, subst, ◌∙◌, arith}
+use Rattle.std.proofs.Common.{◌≡◌, List, ◌++◌, [], ◌∷◌, Some, None, sym, subst, arith}
 use Rattle.json.specs.Json.{after_end_array}
 use Rattle.refusal.specs.declared.Refusal.TheVariants.{BadOps}
 use Rattle.delta.specs.Operation.{Operation, IsBounded}
 use Rattle.delta.specs.Normal.{built}
 use Rattle.optext.proofs.Deltas.{bounded_from}
 use Rattle.session.proofs.Arrays.{Completes, no_item_yet, item_more, items_end}
-use Rattle.session.proofs.ScalarTokens.{kept, some_kept, some_so, not_refused}
+use Rattle.attributes.proofs.CallerLemmas.{IfSome-map}
+use Rattle.session.proofs.ScalarTokens.{kept, some_kept, not_refused}
 use Rattle.session.proofs.tokened.operations.delta.Goals as goal
 
 pub loop-init : goal.loop-init
@@ -19,7 +20,7 @@ pub returns-then-take_end_array : goal.returns-then-take_end_array
 returns-then-take_end_array c =
     let ends : after_end_array c.loop.reader ≡ Some c.take_end_array.new.self = grind arith in
     let built = items_end 2 c.begin_array.new.reader c.loop.reader c.take_end_array.new.self c.loop.builder c.loop.counter c.loop.invariant.completes (omega (arith, c.loop.auto.counter-end)) c.loop.invariant.bounded ends in
-    some_so (λ (d : List Operation). d ≡ c.finish.result) _ c.ok.result
+    IfSome-map (λ (d : List Operation). d ≡ c.finish.result) _ c.ok.result
     (λ d is. rw (is, c.finish.ensures, c.in_ok-begin_array.ensures) built)
     (some_kept (λ (d : List Operation). d ≡ c.finish.result) c.share.result c.ok.result c.ok.ensures.value c.share.ensures.same)
 

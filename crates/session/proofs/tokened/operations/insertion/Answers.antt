@@ -1,4 +1,4 @@
-use Rattle.std.proofs.Common.{◌≡◌, ◌∙◌, List, ℕ, String, Global, string_bytes, ap, subst, sym, arith}
+use Rattle.std.proofs.Common.{◌≡◌, List, ℕ, String, Global, string_bytes, subst, sym}
 use Rattle.serde_json.specs.Data.{string}
 use Rattle.session.specs.steps.Tokened.{Reads}
 use Rattle.session.proofs.Operators.{spells_insert}

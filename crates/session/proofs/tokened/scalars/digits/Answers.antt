@@ -1,6 +1,6 @@
-use Rattle.std.proofs.Common.{◌≡◌, ◌∙◌, ap, IfSome, Option, Some, None, ℕ, List, SomeIff, ◌<◌, ◌^◌, arith, rules}
+use Rattle.std.proofs.Common.{◌≡◌, ◌∙◌, ap, IfSome, Option, Some, None, ℕ, List, SomeIff, ◌<◌, ◌^◌}
 use Rattle.std.specs.Prelude.{◌≢◌, slice_index}
-use Rattle.fast_float.specs.Text.{scan, digits_of, IsInteger, Parts}
+use Rattle.fast_float.specs.Text.{scan, digits_of, IsInteger}
 use Rattle.serde_json.specs.Data.{unsigned}
 use Rattle.serde_json.specs.Read.{number_of}
 use Rattle.session.proofs.OneToken.{number_of-digits}

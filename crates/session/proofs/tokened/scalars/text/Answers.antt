@@ -1,7 +1,6 @@
-use Rattle.std.proofs.Common.{◌≡◌, ◌∷◌, sym, subst, arith}
+use Rattle.std.proofs.Common.{◌≡◌, ◌∷◌, arith}
 use Rattle.json.specs.Token as token
 use Rattle.serde_json.specs.Data.{string}
-use Rattle.session.specs.steps.Tokened.{Reads}
 use Rattle.session.proofs.OneToken.{reads_string}
 use Rattle.session.proofs.tokened.scalars.text.Goals as goal
 

@@ -2,13 +2,13 @@ use Rattle.std.proofs.Common.{◌≤◌, inl, List, length, drop, sym, ◌∙◌
 use Rattle.milestone.specs.Job.{Job}
 use Rattle.flusher.specs.Holding.{store_of}
 use Rattle.turns.specs.Exchanging.{ArePutFirst}
-use Rattle.turns.proofs.Writing.{keeps_call, upkeep_done}
+use Rattle.turns.proofs.Writing.{upkeep_done}
 use Rattle.turns.proofs.exchange.Exchange.put_first.Goals as goal
 
 pub returns-in-Ok-clause-upkeep : goal.returns-in-Ok-clause-upkeep
 returns-in-Ok-clause-upkeep g c =
     let e = c.put_milestones.ensures in
-    upkeep_done c.in-Ok.count _ c.args.flusher.now c.put_milestones.new.self (keeps_call c.args.flusher.now c.put_milestones.new.self e.goes e.state e.told e.committed e.waiting)
+    upkeep_done c.in-Ok.count _ c.args.flusher.now c.put_milestones.new.self e.keeps
     c.in-Ok.ensures.faults.fails
 
 -- a prefix is put

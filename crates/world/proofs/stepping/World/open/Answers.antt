@@ -1,4 +1,4 @@
-use Rattle.std.proofs.Common.{◌≡◌, ℕ, Bool, true, false, List, map, sym, ap, ap₂, ◌∙◌, subst, take, arith}
+use Rattle.std.proofs.Common.{◌≡◌, Bool, true, false, List, map, sym, ap, ap₂, ◌∙◌, subst, take, arith}
 use Rattle.std.specs.Prelude.{if◌then◌else◌}
 use Rattle.revision.specs.Floors.{raised_each}
 use Rattle.revision.specs.Pending.{record_of}
@@ -40,7 +40,7 @@ returns-then-not-are_reached-clause-ok c =
     let all = (goal.at.returns-then-not-are_reached-clause-ok c).After-are_reached in
     sym c.self.view_is
     ∙ (closed-steps (world_of c.self.inside) c.self.inside.limits c.args.kept c.args.milestones.now c.in_ok-state.state c.self.invariant.start
-    (omega (arith, c.docs.ensures.limits.keep)) (may all) (state_is all) (reached all false c.if-not-are_reached.true)
+    (omega (arith, c.facts.ensures.limits.keep)) (may all) (state_is all) (reached all false c.if-not-are_reached.true)
     ∙ ap (λ (w : World). if can_open w c.args.kept (floors_left w c.args.kept c.args.milestones.now) then opened w c.args.kept (floors_left w c.args.kept c.args.milestones.now) else w) c.self.view_is)
 
 pub invariant_of-self : goal.invariant_of-self
@@ -64,5 +64,5 @@ returns-clause-ok c =
       crashed = false;
     })
     ∙ (open-steps (world_of c.self.inside) c.self.inside.limits c.args.kept c.args.milestones.now c.in_ok-state.state c.self.invariant.start
-    (omega (arith, c.docs.ensures.limits.keep)) (may all) (state_is all) (reached all true c.if-not-are_reached.false)
+    (omega (arith, c.facts.ensures.limits.keep)) (may all) (state_is all) (reached all true c.if-not-are_reached.false)
     ∙ ap (λ (w : World). if can_open w c.args.kept (floors_left w c.args.kept c.args.milestones.now) then opened w c.args.kept (floors_left w c.args.kept c.args.milestones.now) else w) c.self.view_is)

@@ -23,7 +23,7 @@ invariant_of-self-in-Ok c =
     subst (λ b. AreStepped c.self.inside.limits b c.add.new.order.items c.self.inside.published c.self.inside.without c.self.inside.with_batch) (sym c.in-Ok.ensures.ok)
     (subst (λ o. AreStepped c.self.inside.limits (submitted (entry_of c.args.command.now) c.self.inside.board c.args.command.now) o c.self.inside.published c.self.inside.without c.self.inside.with_batch) (sym (order_is c))
     (stepped-submitted c.self.inside.limits c.self.inside.board c.self.inside.order.items c.self.inside.published c.self.inside.without c.self.inside.with_batch c.self.invariant
-    c.args.command.now (omega (arith, c.number.ensures.first, c.number.ensures.number)) (omega (arith, c.number.ensures.last, c.number.ensures.number))))
+    c.args.command.now c.facts.ensures.first c.facts.ensures.last))
 
 tickets_are : (c : goal.After-add) → c.push.new.self.items ≡ c.self.inside.tickets.items ++ c.in-Ok.ticket ∷ []
 tickets_are c =
@@ -43,7 +43,7 @@ returns-in_ok-push-in-Ok-2-clause-ok c =
       tickets = tickets_are c i;
       sent = sent_are c i;
     })
-    ∙ (submit-steps (world_of c.self.inside) c.args.command.now (omega (arith, c.number.ensures.first, c.number.ensures.number))
-    (omega (arith, c.number.ensures.last, c.number.ensures.number)) c.self.inside.published c.in-Ok.ticket
+    ∙ (submit-steps (world_of c.self.inside) c.args.command.now c.facts.ensures.first
+    c.facts.ensures.last c.self.inside.published c.in-Ok.ticket
     (omega (arith, c.self.invariant.shown_taken, c.self.invariant.taken_long)) refl c.in-Ok.ensures.ticket
     ∙ ap (λ (w : World). running_step w (Submit c.args.command.now)) c.self.view_is)

@@ -1,0 +1,372 @@
+//! What lies under the hub's lock, and the two rights to change it that a session doesn't have.
+ghost use Rattle.std.specs.Prelude.{◌≡◌, ◌⊎◌, ◌↔◌, ◌<◌, ◌≤◌, ◌+◌, ◌++◌, ◌∷◌, true, false, [], Some, None, Ok, length, map, set, get_or, replicate, IfOk, IfErr, IfSome, IsOk, IsTrue, IsErrOf, OnOk, OnErr};
+ghost use Rattle.std.specs.Vec.{vec_len, vec_capacity};
+ghost use mathlib.Core.List.{IsPrefix};
+ghost use Rattle.recovery.specs.Found.{commands_of};
+ghost use Rattle.revision.specs.Acceptance.{answer, Refuses};
+ghost use Rattle.world.specs.Board.{can_ack, next_run, settled_more, submitted, taken_more};
+ghost use Rattle.world.specs.World.{entry_of, takens};
+ghost use Rattle.hub.specs.Found.{AreSubmittedAfter, IsGivenAt, IsSubmittedAfter};
+ghost use Rattle.hub.specs.Given.{IsStopped, refusal_of, WasGiven};
+ghost use Rattle.hub.specs.Legal.{counted};
+ghost use Rattle.hub.specs.Placed.{StandsFirst};
+ghost use Rattle.hub.specs.Runs.{IsLongest, untaken, MaySettle};
+ghost use Rattle.hub.specs.Submitted.{counted_all, counted_by};
+ghost use Rattle.hub.specs.Waiting.{AreWoken, NobodyIsForgotten, StillRightly, WaitsRightly, WakesAll, nobody, and_for};
+
+use crate::board::Board;
+use crate::found::Found;
+use crate::run::Run;
+use crate::seat::{Seat, Ticket};
+use crate::settle_error::SettleError;
+use crate::submit_error::SubmitError;
+use crate::tokens::{Ended, Failed, Settled, Stopped};
+use crate::waiting::{Awaited, Turns, Woken, covered};
+use published::{Life, Ordered, Told};
+use recovery::Receipt;
+use refusal::Refusal;
+use revision::Command;
+use std::alloc::{AllocError, Global};
+use std::marker::{Model, PhantomData};
+use std::snapshot::Snapshot;
+
+/// The right to write what a hub's board orders: to wait for work, to take runs off, to settle them, and to say that the store has failed.
+/// `Hub::new` makes the only one of its hub, and it can't be copied, so whoever isn't lent it can do none of that.
+#[derive(Drop)]
+pub struct Writer<L: Life> {
+    of: PhantomData<L>,
+}
+
+/// The right to end a hub, and to give its seats out. `Hub::new` makes the only one of its hub, and it can't be copied.
+#[derive(Drop)]
+pub struct Closer<L: Life> {
+    of: PhantomData<L>,
+}
+
+// What lies under the lock: the board; for each place the lengths of the order that seats wait there to be settled; the turns of batches;
+// and whether the end was called. Other modules have nothing of it but its calls: these lend the board for reading alone, and ask for the
+// `Writer` or the `Closer` for whatever isn't a session's.
+#[derive(Drop)]
+pub(crate) struct Locked<D, L: Life> {
+    board: Board<D, L>,
+    awaited: [Awaited; 64],
+    turns: Turns,
+    ended: bool,
+}
+
+impl<D, L: Life> Model for Locked<D, L> {
+    ghost use Rattle.hub.specs.Waiting as spec;
+
+    ghost Value = { spec.Locked };
+
+    ghost view = { λ k. record { board = k.board; awaited = k.awaited; turns = k.turns; ended = k.ended } };
+}
+
+impl<D, L: Life> Locked<D, L> {
+    // A board at which nobody waits yet, and whose end wasn't called, with the two rights to it. Nothing else makes them.
+    pub(crate) fn new(board: Board<D, L>) -> (Locked<D, L>, Writer<L>, Closer<L>)
+        ensures board { result.0.board ≡ board }
+        ensures nobody { result.0.awaited ≡ replicate 64 nobody }
+        ensures ended { result.0.ended ≡ false }
+    {
+        let kept = Locked {
+            board,
+            awaited: [Awaited::nobody(); 64],
+            turns: Turns::new(),
+            ended: false,
+        };
+        (kept, Writer { of: PhantomData }, Closer { of: PhantomData })
+    }
+
+    // gives the board back
+    pub(crate) fn into_board(self) -> Board<D, L>
+        ensures { result ≡ self.board }
+    {
+        let Locked {
+            board,
+            awaited: _,
+            turns: _turns,
+            ended: _,
+        } = self;
+        board
+    }
+
+    // the board, to be read
+    pub(crate) fn board(&self) -> &Board<D, L>
+        ensures { result.now ≡ self.now.board }
+    {
+        &self.board
+    }
+
+    // whether the end was called
+    pub(crate) fn has_ended(&self) -> bool
+        ensures { result ≡ self.now.ended }
+    {
+        self.ended
+    }
+
+    // notes that the store has failed, for this reason
+    pub(crate) fn fail(&mut self, writer: &mut Writer<L>, why: Refusal) -> Failed<L>
+        ensures kept { self.new ≡ record self.old { board = record self.old.board { failed = true } } }
+        ensures why { result ≡ why }
+    {
+        let _ = writer;
+        self.board.fail();
+        Failed::by_board(&self.board, why)
+    }
+
+    // notes that the end was called
+    pub(crate) fn end(&mut self, closer: &mut Closer<L>) -> Ended<L>
+        ensures { self.new ≡ record self.old { ended = true } }
+    {
+        let _ = closer;
+        self.ended = true;
+        Ended::by_locked(self)
+    }
+
+    // a seat more, as `Board::seat` gives it
+    pub(crate) fn seat(&mut self, closer: &mut Closer<L>) -> Result<Seat<L>, Refusal>
+        ensures ok { OnOk result (self.old.board ≡ record self.new.board { left = self.new.board.left + 1 }) }
+        ensures new { IfOk result (λ seat. seat ≡ 0) }
+        ensures none { (self.old.board.left ≡ 0) ↔ IsErrOf result Refusal.NoSeat }
+        ensures only { IfErr result (λ e. e ≡ Refusal.NoSeat) }
+        ensures unchanged { OnErr result (self.new ≡ self.old) }
+    {
+        let _ = closer;
+        self.board.seat()
+    }
+
+    // what `Board::ack` gives
+    pub(crate) fn ack(&self, ticket: &Ticket<L>) -> Result<Option<Told<D, L>>, Stopped<L>>
+        ensures settled { (can_ack self.now.board.board ticket.now ≡ true) ↔ (result ≡ Ok (Some self.now.board.told)) }
+        ensures waits { (result ≡ Ok None) ↔ ((can_ack self.now.board.board ticket.now ≡ false) × (self.now.board.failed ≡ false)) }
+        ensures holds { IfOk result (λ told. IfSome told (λ t. ticket.now.length ≤ length (commands_of t))) }
+        ensures stands { IfOk result (λ told. IfSome told (λ t. StandsFirst L.start ticket.now (commands_of t))) }
+    {
+        match self.board.ack(ticket) {
+            Ok(answer) => Ok(answer),
+            Err(_) => Err(Stopped::by_board(&self.board)),
+        }
+    }
+
+    // The token of what is settled, where that holds the ticket of a submission already, as a retry's may be; else what was given before.
+    pub(crate) fn told_of(
+        &self,
+        submitted: &Result<Ticket<L>, SubmitError<L>>,
+        before: Option<Told<D, L>>,
+    ) -> Option<Told<D, L>>
+        ensures settled { IfOk submitted.now (λ ticket. can_ack self.now.board.board ticket ≡ true → result ≡ Some self.now.board.told) }
+        ensures waits { IfOk submitted.now (λ ticket. can_ack self.now.board.board ticket ≡ false → result ≡ before) }
+        ensures refused { OnErr submitted.now (result ≡ before) }
+    {
+        if let Ok(ticket) = submitted {
+            if ticket.length() <= self.board.settled() {
+                return Some(self.board.told().copy());
+            }
+        }
+        before
+    }
+
+    // submits a command to the board, unless the end was called, and notes that its seat waits
+    pub(crate) fn submit(
+        &mut self,
+        alloc: Global,
+        seat: &mut Seat<L>,
+        command: &Command,
+    ) -> Result<Ticket<L>, SubmitError<L>>
+        ensures ok { OnOk result (self.new
+            ≡ record self.old {
+              board = record
+                  self.old.board { board = submitted (entry_of command.now) self.old.board.board command.now };
+              awaited = self.new.awaited;
+            }) }
+        ensures unchanged { OnErr result (self.new ≡ self.old) }
+        ensures given { WasGiven L.start command.now result }
+        ensures there { IsGivenAt L.start self.new.board.board.order command.now result }
+        ensures command { IfOk result (λ ticket. ticket.command ≡ command.now) }
+        ensures counts { IfOk result (λ ticket. seat.new ≡ counted seat.old ticket.reply) }
+        ensures uncounted { OnErr result (seat.new ≡ seat.old) }
+        ensures ended { self.old.ended ≡ true → IsStopped result }
+        ensures failed { self.old.board.failed ≡ true → IsStopped result }
+        ensures refused { self.old.ended ≡ false → self.old.board.failed ≡ false
+            → IfErr result (λ e. (refusal_of e ≡ Refusal.NoMemory) ⊎ (answer self.old.board.board.state command.now ≡ Refuses (refusal_of e))) }
+    {
+        if self.ended {
+            return Err(SubmitError::Stopped(Stopped::by_locked(self)));
+        }
+        match self.board.submit(alloc, seat, command) {
+            Ok(ticket) => Ok(self.awaiting(ticket)),
+            Err(refusal) => Err(SubmitError::by_board(&self.board, refusal)),
+        }
+    }
+
+    // Submits a command, as `submit` does, and finds the order that has it then, which begins with what was found before and what was
+    // told.
+    pub(crate) fn submit_after(
+        &mut self,
+        alloc: Global,
+        seat: &mut Seat<L>,
+        command: &Command,
+        told: &Told<D, L>,
+        found: &mut Found<L>,
+    ) -> Result<Ticket<L>, SubmitError<L>>
+        ensures after { IsSubmittedAfter L.start told.now found.old command.now result found.new }
+        ensures whole { found.new ≡ self.new.board.board.order }
+        ensures counts { seat.new ≡ counted_by seat.old result }
+        ensures others { self.new
+            ≡ record self.old {
+              board = record self.old.board { board = self.new.board.board };
+              awaited = self.new.awaited;
+            } }
+    {
+        let answer = self.submit(alloc, seat, command);
+        self.board.find(told, found);
+        answer
+    }
+
+    // Submits commands one after another, each as `submit_after` does, and puts what comes of them into a list, which has room for them. It
+    // gives the token of what is settled, where that holds one of the tickets already.
+    pub(crate) fn submit_all_after(
+        &mut self,
+        alloc: Global,
+        seat: &mut Seat<L>,
+        commands: &[&Command],
+        told: &Told<D, L>,
+        found: &mut Found<L>,
+        answers: &mut Vec<Result<Ticket<L>, SubmitError<L>>>,
+    ) -> Option<Told<D, L>>
+        requires empty { answers.old.items ≡ [] }
+        requires room { length commands.now ≤ vec_capacity answers.old }
+        ensures after { AreSubmittedAfter L.start told.now found.old (map (λ command. command.now) commands.now) answers.new.items found.new }
+        ensures as_many { vec_len answers.new ≡ length commands.now }
+        ensures counts { seat.new ≡ counted_all seat.old answers.new.items }
+        ensures others { self.new
+            ≡ record self.old {
+              board = record self.old.board { board = self.new.board.board };
+              awaited = self.new.awaited;
+            } }
+    {
+        let mut settled = None;
+        for i in 0..commands.len() {
+            let answer = self.submit_after(alloc, seat, commands[i], told, found);
+            settled = self.told_of(&answer, settled);
+            push_in_room(answers, answer);
+        }
+        settled
+    }
+
+    // as `Board::join` does
+    pub(crate) fn join(&mut self, found: &Found<L>, ordered: &mut Ordered<L>)
+        ensures same { self.new ≡ self.old }
+        ensures found { IsPrefix found.now ordered.new }
+        ensures before { IsPrefix ordered.old ordered.new }
+    {
+        self.board.join(found, ordered);
+    }
+
+    // notes that the seat of a ticket waits, and gives the ticket with the turn at which it is woken
+    fn awaiting(&mut self, ticket: Ticket<L>) -> Ticket<L>
+        ensures kept { self.new ≡ record self.old { awaited = self.new.awaited } }
+        ensures same { result ≡ ticket }
+    {
+        self.await_at(ticket.place(), ticket.length());
+        let turn = self.turn_of(ticket.length());
+        ticket.at_turn(turn)
+    }
+
+    // the turn at which a seat waits for so many commands to be settled
+    fn turn_of(&self, length: usize) -> usize
+        ensures rightly { WaitsRightly self.now.turns self.now.board.board.settled self.now.board.board.taken result length }
+        ensures range { result < 8 }
+    {
+        self.turns.of(length, self.board.taken())
+    }
+
+    // notes that a seat waits at a place for so many commands to be settled
+    fn await_at(&mut self, place: usize, length: usize)
+        requires { place < 64 }
+        ensures { self.new
+            ≡ record self.old { awaited = set self.old.awaited place (and_for (get_or self.old.awaited place nobody) length) } }
+    {
+        self.awaited[place] = self.awaited[place].and_for(length);
+    }
+
+    // takes the next run off the board, as `Board::take` does
+    pub(crate) fn take(
+        &mut self,
+        alloc: Global,
+        writer: &mut Writer<L>,
+        cap: u32,
+    ) -> Result<Run<D, L>, AllocError>
+        ensures longest { IfOk result (λ run. IsLongest cap (untaken self.old.board.board) (length run.commands)) }
+        ensures run { IfOk result
+            (λ run. run.commands ≡ takens (next_run self.old.board.board (length run.commands))) }
+        ensures cap { IfOk result (λ run. run.cap ≡ cap) }
+        ensures kept { IfOk result (λ run. self.new
+            ≡ record self.old {
+              board = record
+                  self.old.board { board = taken_more self.old.board.board (length run.commands) };
+              turns = self.new.turns;
+            }) }
+        ensures turns { OnOk result (StillRightly self.old.turns self.new.turns self.old.board.board.settled
+            self.old.board.board.taken self.new.board.board.taken (length self.old.board.board.order)) }
+        ensures unchanged { OnErr result (self.new ≡ self.old) }
+    {
+        let _ = writer;
+        let busy = self.board.settled() < self.board.taken();
+        let run = self.board.take(alloc, cap)?;
+        if run.len() > 0 {
+            let rest = self.board.taken() < self.board.ordered();
+            self.turns.take(busy, rest);
+        }
+        Ok(run)
+    }
+
+    // settles a batch, and gives the token of that, with the places where somebody waits for what is settled now, and the turns that are to
+    // be woken; or what shows that it can't be settled
+    pub(crate) fn settle(
+        &mut self,
+        writer: &mut Writer<L>,
+        receipt: &Receipt<D>,
+        told: Told<D, L>,
+    ) -> Result<(Settled<D, L>, Woken), SettleError<D, L>>
+        ensures board { OnOk result (self.new.board
+            ≡ record self.old.board { board = settled_more self.old.board.board (length receipt.now.batch); told = told }) }
+        ensures turns { self.new.turns ≡ self.old.turns }
+        ensures others { self.new.ended ≡ self.old.ended }
+        ensures settled { IfOk result (λ both. both.0 ≡ told) }
+        ensures told { IfOk result (λ both. AreWoken self.new.board.board.settled self.old.awaited self.new.awaited both.1.places) }
+        ensures nobody { IfOk result (λ both. NobodyIsForgotten self.new.board.board.settled self.old.awaited self.new.awaited both.1.places) }
+        ensures wakes { IfOk result (λ both. WakesAll self.old.turns both.1.turns) }
+        ensures stranger { MaySettle self.old.board.board receipt.now.batch (length (commands_of told)) → IsOk result }
+        ensures asked { IfErr result (λ e. e
+            ≡ record { board = self.old.board.board; batch = receipt.now.batch; told = told }) }
+        ensures unchanged { OnErr result (self.new ≡ self.old) }
+    {
+        let _ = writer;
+        let shown = Snapshot::of(&told);
+        if self.board.settle(receipt, told).is_err() {
+            return Err(SettleError::by_board(&self.board, receipt, shown));
+        }
+        let woken = Woken {
+            places: covered(&mut self.awaited, self.board.settled()),
+            turns: self.turns.woken(),
+        };
+        Ok((Settled::by_board(&self.board), woken))
+    }
+}
+
+// Puts the answer to a submission behind others; there is room for it.
+fn push_in_room<L: Life>(
+    answers: &mut Vec<Result<Ticket<L>, SubmitError<L>>>,
+    submitted: Result<Ticket<L>, SubmitError<L>>,
+)
+    requires { vec_len answers.old < vec_capacity answers.old }
+    ensures items { answers.new.items ≡ answers.old.items ++ submitted ∷ [] }
+    ensures len { vec_len answers.new ≡ vec_len answers.old + 1 }
+    ensures room { vec_capacity answers.old ≤ vec_capacity answers.new }
+{
+    if let Err(_) = answers.push(submitted) {
+        unreachable!()
+    }
+}
