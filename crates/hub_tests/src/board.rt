@@ -4,7 +4,7 @@ ghost use Rattle.recovery.specs.Open.{state_of};
 
 use crate::publishing::Publishing;
 use crate::rows::Step::{Ack, Behind, Fail, Order, Settle, Submit, Take, Wide};
-use crate::rows::{Gives, Life, Row, SHAPE, SMALL, given, stands};
+use crate::rows::{BoardLife, Gives, Row, SHAPE, SMALL, given, stands};
 use disk::{Disk, MemDisk};
 use fixtures::{new_store, open_store};
 use hub::Board;
@@ -114,7 +114,7 @@ fn lived<L: Life, R: Abort + AllocGlobal>(
     let (log, told, order) = opened.named::<MemDisk, L>(store.state());
     let mut board = Board::new(alloc, &store, state, told.copy(), order, blank, 1);
     let seat = board.seat().expect(rt, "a seat");
-    let mut life = Life::new(rt, board, seat, Publishing::new(store, log, told));
+    let mut life = BoardLife::new(rt, board, seat, Publishing::new(store, log, told));
     for row in rows {
         assert_eq!(rt; given(rt, &mut life, &row.0), row.1);
     }

@@ -75,7 +75,7 @@ pub type Row = (Step, Gives);
 
 /// A board with its one seat, the store of its batches with what is published of it, and what was given out so far.
 #[derive(Drop)]
-pub struct Life<L: Life> {
+pub struct BoardLife<L: Life> {
     board: Board<MemDisk, L>,
     seat: Seat<L>,
     publishing: Publishing<L>,
@@ -84,17 +84,17 @@ pub struct Life<L: Life> {
     tokens: Vec<Told<MemDisk, L>>,
 }
 
-impl<L: Life> Life<L> {
+impl<L: Life> BoardLife<L> {
     /// A board with a seat, and the store under it with what is published of it.
     pub fn new(
         rt: &(impl Abort + AllocGlobal),
         board: Board<MemDisk, L>,
         seat: Seat<L>,
         publishing: Publishing<L>,
-    ) -> Life<L> {
+    ) -> BoardLife<L> {
         let mut tokens = Vec::new(rt.alloc());
         assert!(rt; tokens.push(publishing.told().copy()).is_ok());
-        Life {
+        BoardLife {
             board,
             seat,
             publishing,
@@ -106,7 +106,7 @@ impl<L: Life> Life<L> {
 
     /// Gives the store back.
     pub fn into_store(self) -> Store<MemDisk> {
-        let Life {
+        let BoardLife {
             board: _,
             seat: _,
             publishing,
@@ -120,7 +120,7 @@ impl<L: Life> Life<L> {
 
 fn submitted<L: Life>(
     rt: &(impl Abort + AllocGlobal),
-    life: &mut Life<L>,
+    life: &mut BoardLife<L>,
     command: Result<Command, Refusal>,
 ) -> Gives {
     let command = command.expect(rt, "a command");
@@ -142,7 +142,7 @@ pub fn stands(state: &State) -> Gives {
     }
 }
 
-fn committed<L: Life>(rt: &(impl Abort + AllocGlobal), life: &mut Life<L>) -> Gives {
+fn committed<L: Life>(rt: &(impl Abort + AllocGlobal), life: &mut BoardLife<L>) -> Gives {
     let run = life.board.take(rt.alloc(), CAP).expect(rt, "memory");
     let count = run.len();
     if count == 0 {
@@ -159,7 +159,7 @@ fn committed<L: Life>(rt: &(impl Abort + AllocGlobal), life: &mut Life<L>) -> Gi
     Gives::Committed(count)
 }
 
-fn settled<L: Life>(life: &mut Life<L>, batch: usize, token: usize) -> Gives {
+fn settled<L: Life>(life: &mut BoardLife<L>, batch: usize, token: usize) -> Gives {
     let Some(receipt) = life.batches.get(batch) else {
         return Gives::Nothing;
     };
@@ -172,7 +172,7 @@ fn settled<L: Life>(life: &mut Life<L>, batch: usize, token: usize) -> Gives {
     }
 }
 
-fn acknowledged<L: Life>(life: &Life<L>, at: usize) -> Gives {
+fn acknowledged<L: Life>(life: &BoardLife<L>, at: usize) -> Gives {
     let Some(ticket) = life.tickets.get(at) else {
         return Gives::Nothing;
     };
@@ -184,7 +184,11 @@ fn acknowledged<L: Life>(life: &Life<L>, at: usize) -> Gives {
 }
 
 /// Does a step.
-pub fn given<L: Life>(rt: &(impl Abort + AllocGlobal), life: &mut Life<L>, step: &Step) -> Gives {
+pub fn given<L: Life>(
+    rt: &(impl Abort + AllocGlobal),
+    life: &mut BoardLife<L>,
+    step: &Step,
+) -> Gives {
     match *step {
         Step::Submit(number, letters) => {
             submitted(rt, life, command(rt.alloc(), number, letters))
