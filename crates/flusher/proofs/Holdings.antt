@@ -29,7 +29,7 @@ use Rattle.view.specs.Stages.{IsNext}
 use Rattle.hub.specs.Runs.{Run}
 use Rattle.flusher.specs.declared.flusher.Flusher.{Flusher}
 use Rattle.flusher.specs.Flushers.{IsCommittedTo, IsLeftWithout, IsHeldCommitted, IsGivenUp}
-use Rattle.flusher.specs.Holding.{store_of, told_of, committed_of, waiting_of}
+use Rattle.flusher.specs.Holding.{store_of, told_of, committed_of, waiting_of, opened_of}
 use Rattle.flusher.specs.Upkeep.{KeepsUp}
 use Rattle.flusher.proofs.Beginnings.{commands-append, fold-append}
 
@@ -111,10 +111,11 @@ module _ {D : Type 0} {disk : Ghosts D} (old new : Store D disk) where
 module _ {D L : Type 0} {disk : Ghosts D} where
   -- a call of its store that leaves the state, and changes no more of the flusher
   pub keeps_by : {old new : Flusher D L disk} → Goes (λ content. FoundAs content (state_of (store_of old))) (store_of old) (store_of new)
-      → state_of (store_of new) ≡ state_of (store_of old) → told_of new ≡ told_of old → committed_of new ≡ committed_of old → waiting_of new ≡ waiting_of old → KeepsUp old new
-  keeps_by goes state told committed waiting = record {
+      → state_of (store_of new) ≡ state_of (store_of old) → told_of new ≡ told_of old → committed_of new ≡ committed_of old → waiting_of new ≡ waiting_of old
+      → opened_of new ≡ opened_of old → KeepsUp old new
+  keeps_by goes state told committed waiting opened = record {
     kept_up = record { goes = goes; state = state };
-    batches = record { told = told; committed = committed; waiting = waiting };
+    batches = record { told = told; committed = committed; waiting = waiting; opened = opened };
   }
 
 -- all that a publisher was given is published
@@ -241,3 +242,13 @@ pub few_moved : (old new : Published) → (new ≡ old) ⊎ (new ≡ all_publish
     → length old.unpublished ≤ 1 → length new.unpublished ≤ 1
 few_moved old new (inl same) few = omega (arith, few, ap (λ (p : Published). length p.unpublished) same)
 few_moved old new (inr is) few = omega (arith, ap (λ (p : Published). length p.unpublished) is)
+
+-- the moments stay
+pub moments_moved : (old new : Published) → (new ≡ old) ⊎ (new ≡ all_published old) → new.moments ≡ old.moments
+moments_moved old new (inl same) = ap (λ (p : Published). p.moments) same
+moments_moved old new (inr is) = ap (λ (p : Published). p.moments) is
+
+-- and so do all batches that are published or to be
+pub batches_moved : (old new : Published) → (new ≡ old) ⊎ (new ≡ all_published old) → new.told ++ new.unpublished ≡ old.told ++ old.unpublished
+batches_moved old new (inl same) = ap (λ (p : Published). p.told ++ p.unpublished) same
+batches_moved old new (inr is) = ap (λ (p : Published). p.told ++ p.unpublished) is ∙ append-nil (old.told ++ old.unpublished)

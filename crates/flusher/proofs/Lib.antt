@@ -3,4 +3,5 @@ pub mod Holdings
 pub mod Retirement
 pub mod Writes
 pub mod Fitting
+pub mod Lasting
 pub mod CallerLemmas

@@ -13,7 +13,7 @@ use Rattle.recovery.specs.Open.{IsOpen, IsCommittedNow, has_failed, has_room}
 use Rattle.view.specs.Published.{Published}
 use Rattle.flusher.specs.declared.flusher.Flusher.{Flusher}
 use Rattle.flusher.specs.Flushers.{IsWritten, IsHeldCommitted}
-use Rattle.flusher.specs.Holding.{HasNoRoom, store_of, told_of, committed_of, waiting_of, under_way}
+use Rattle.flusher.specs.Holding.{HasNoRoom, store_of, told_of, committed_of, waiting_of, under_way, opened_of}
 use Rattle.flusher.specs.Writing.{HasCommitted, HasPublished, LeavesHeld, IsUnpublished, IsWriteRefused, TellsFaults}
 use Rattle.flusher.proofs.Holdings.{no_error, no_batch, same_batch, same_refusal, told_of_error}
 
@@ -88,18 +88,20 @@ module _ {D L : Type 0} {disk : Ghosts D} where
   unpublished_held {refusal} {old} {new} left = record {
     told = left.still.batches.told;
     held = ap (λ (l : List (List Taken)). l ++ waiting_of new) left.still.batches.committed ∙ ap (λ (l : List (List Taken)). committed_of old ++ l) left.still.batches.waiting;
+    opened = left.still.batches.opened;
     still = λ other. left.still;
     memory = λ is. inl (left.still.batches.waiting, left.memory is);
   }
 
   -- memory ran out for the publish
   pub unpublished_behind : {refusal : Refusal} {old mid new : Flusher D L disk} → refusal ≡ NoMemory → HasCommitted old mid → store_of new ≡ store_of mid → waiting_of new ≡ waiting_of mid
-      → new.publisher ≡ mid.publisher → IsUnpublished refusal old new
-  unpublished_behind {refusal} {old} {mid} {new} memory done same waits publisher =
+      → opened_of new ≡ opened_of mid → new.publisher ≡ mid.publisher → IsUnpublished refusal old new
+  unpublished_behind {refusal} {old} {mid} {new} memory done same waits opened publisher =
       let nothing : waiting_of new ≡ [] = waits ∙ done.waiting in
       record {
         told = ap (λ (p : Published). p.told) publisher ∙ done.told;
         held = ap (λ (l : List (List Taken)). committed_of new ++ l) nothing ∙ append-nil (committed_of new) ∙ ap (λ (p : Published). p.unpublished) publisher ∙ done.committed;
+        opened = opened ∙ done.opened;
         still = λ other. absurd (other memory);
         memory = λ is. inr (nothing, subst (λ (s : Store D disk). IsHeldCommitted (waiting_of old) (store_of old) s) (sym same) done.store);
       }
@@ -118,10 +120,10 @@ module _ {D L : Type 0} {disk : Ghosts D} where
 
   -- what a publish gave, of what was committed
   pub published_behind : (given : Option (Receipt D × List (List Taken))) {old mid new : Flusher D L disk} → HasCommitted old mid → store_of new ≡ store_of mid → waiting_of new ≡ waiting_of mid
-      → IfSome given (λ p. mid.publisher.unpublished ≡ p.0.batch ∷ []) → IfSome given (λ p. p.1 ≡ mid.publisher.told ++ p.0.batch ∷ [])
+      → opened_of new ≡ opened_of mid → IfSome given (λ p. mid.publisher.unpublished ≡ p.0.batch ∷ []) → IfSome given (λ p. p.1 ≡ mid.publisher.told ++ p.0.batch ∷ [])
       → IfSome given (λ p. new.publisher ≡ record { told = p.1; unpublished = []; moments = mid.publisher.moments })
       → IfNone given ((mid.publisher.unpublished ≡ []) × (new.publisher ≡ mid.publisher)) → HasPublished given old new
-  published_behind (Some p) {old} {mid} {new} done same waits batch told shown none =
+  published_behind (Some p) {old} {mid} {new} done same waits opened batch told shown none =
       let one : under_way old ≡ p.0.batch ∷ [] = sym done.committed ∙ batch in
       let shows : told_of new ≡ p.1 = ap (λ (q : Published). q.told) shown in
       let written : IsWritten (told_of old) (under_way old) (told_of new) p.0.batch p.1 = record {
@@ -136,14 +138,16 @@ module _ {D L : Type 0} {disk : Ghosts D} where
         waiting = waits ∙ done.waiting;
         state = ap (λ (s : Store D disk). s.state) same ∙ done.state;
         store = subst (λ (s : Store D disk). IsHeldCommitted (waiting_of old) (store_of old) s) (sym same) done.store;
+        opened = opened ∙ done.opened;
       }
-  published_behind None {old} {mid} {new} done same waits batch told shown none = record {
+  published_behind None {old} {mid} {new} done same waits opened batch told shown none = record {
     some = tt;
     none = (sym done.committed ∙ none.0, ap (λ (q : Published). q.told) none.1 ∙ done.told);
     committed = ap (λ (q : Published). q.unpublished) none.1 ∙ none.0;
     waiting = waits ∙ done.waiting;
     state = ap (λ (s : Store D disk). s.state) same ∙ done.state;
     store = subst (λ (s : Store D disk). IsHeldCommitted (waiting_of old) (store_of old) s) (sym same) done.store;
+    opened = opened ∙ done.opened;
   }
 
   -- what is given on

@@ -3,10 +3,15 @@ use Rattle.std.specs.Prelude.{◌≡◌, false, List, [], ◌∷◌, ◌++◌, o
 use Rattle.std.specs.Option.{option_map}
 use Rattle.disk.specs.declared.device.Disk.{Ghosts}
 use Rattle.revision.specs.Command.{Taken}
+use Rattle.revision.specs.State.{State}
 use Rattle.recovery.specs.declared.store.Store.{Store}
+use Rattle.recovery.specs.Goes.{Goes}
 use Rattle.recovery.specs.Moment.{Moment}
 use Rattle.recovery.specs.Open.{has_room}
+use Rattle.published.specs.Moments.{AreMoments}
 use Rattle.flusher.specs.declared.flusher.Flusher.{Flusher}
+use Rattle.flusher.specs.Batches.{IsBeginning}
+use Rattle.flusher.specs.Lasting.{EachLasts}
 
 module _ {D L : Type 0} {disk : Ghosts D} where
   abbrev pub store_of : Flusher D L disk → Store D disk
@@ -32,11 +37,27 @@ module _ {D L : Type 0} {disk : Ghosts D} where
   abbrev pub under_way : Flusher D L disk → List (List Taken)
   under_way flusher = committed_of flusher ++ waiting_of flusher
 
-  -- What is published, what is committed and what is held stays.
+  -- the store that it began with
+  abbrev pub opened_of : Flusher D L disk → Store D disk
+  opened_of flusher = flusher.opened.value
+
+  -- all batches that it was given so far, in order: what is published, what is committed, and what is held
+  abbrev pub given_to : Flusher D L disk → List (List Taken)
+  given_to flusher = told_of flusher ++ (committed_of flusher ++ waiting_of flusher)
+
+  -- A crash at any moment from its beginning on leaves a prefix of the batches that it was given; and each batch that it published or committed
+  -- lasts from its moment on.
+  pub record LastsSince (start : State) (opened : Store D disk) (flusher : Flusher D L disk) : Type 0 where
+    pub timed : AreMoments start (told_of flusher ++ committed_of flusher) (moments_of flusher)
+    pub goes : Goes (IsBeginning 0 start (given_to flusher)) opened (store_of flusher)
+    pub each : EachLasts start opened (given_to flusher) (store_of flusher) [] (told_of flusher ++ committed_of flusher) (moments_of flusher)
+
+  -- What is published, what is committed and what is held stays, as does the store that the flusher began with.
   pub record KeepsBatches (old new : Flusher D L disk) : Type 0 where
     pub told : told_of new ≡ told_of old
     pub committed : committed_of new ≡ committed_of old
     pub waiting : waiting_of new ≡ waiting_of old
+    pub opened : opened_of new ≡ opened_of old
 
   -- a batch is held that finds no room in the journal
   abbrev pub HasNoRoom : Flusher D L disk → Type 0

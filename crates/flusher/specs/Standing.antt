@@ -11,7 +11,7 @@ use Rattle.recovery.specs.Open.{state_of}
 use Rattle.hub.specs.Legal.{Board as HubBoard}
 use Rattle.flusher.specs.declared.flusher.Flusher.{Flusher}
 use Rattle.flusher.specs.Batches.{AreParts}
-use Rattle.flusher.specs.Holding.{store_of, told_of, committed_of, waiting_of}
+use Rattle.flusher.specs.Holding.{store_of, told_of, committed_of, waiting_of, opened_of}
 
 -- What the board has, and the batches that it was told of; the batches that were published; the batch that is committed and not
 -- published yet, and the one that isn't committed yet, each a list of one batch or of none; and the store.
@@ -53,6 +53,7 @@ module _ {D L : Type 0} {disk : Ghosts D} where
   -- way.
   pub record HaveBegun (start : State) (store : Store D disk) (seats : ℕ) (flusher : Flusher D L disk) (board : HubBoard) : Type 0 where
     pub over : store_of flusher ≡ store
+    pub opened : opened_of flusher ≡ store_of flusher
     pub fresh : board ≡ record { board = begun_board start; failed = false; told = []; left = seats }
     pub told : told_of flusher ≡ []
     pub calm : IsCalm start (standing board flusher)

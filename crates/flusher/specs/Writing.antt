@@ -12,9 +12,17 @@ use Rattle.recovery.specs.Moment.{Receipt}
 use Rattle.recovery.specs.Open.{IsOpen, IsUnchanged, IsFreedNow, state_of, has_failed}
 use Rattle.flusher.specs.declared.flusher.Flusher.{Flusher}
 use Rattle.flusher.specs.Flushers.{IsWritten, IsUsedUp, IsHeldCommitted, IsGivenUp}
-use Rattle.flusher.specs.Holding.{KeepsBatches, HasNoRoom, store_of, told_of, committed_of, waiting_of, under_way}
+use Rattle.flusher.specs.Holding.{KeepsBatches, HasNoRoom, store_of, told_of, committed_of, waiting_of, under_way, opened_of}
 
 module _ {D L : Type 0} {disk : Ghosts D} where
+  -- This batch is held, and nothing else has changed.
+  pub record HoldsNow (batch : List Taken) (old new : Flusher D L disk) : Type 0 where
+    pub store : store_of new ≡ store_of old
+    pub told : told_of new ≡ told_of old
+    pub committed : committed_of new ≡ committed_of old
+    pub waiting : waiting_of new ≡ batch ∷ []
+    pub opened : opened_of new ≡ opened_of old
+
   -- What was held, one batch or none, is committed, and nothing is held any more. Readers are shown nothing new.
   pub record HasCommitted (old new : Flusher D L disk) : Type 0 where
     pub told : told_of new ≡ told_of old
@@ -22,6 +30,7 @@ module _ {D L : Type 0} {disk : Ghosts D} where
     pub waiting : waiting_of new ≡ []
     pub state : state_of (store_of new) ≡ fold (state_of (store_of old)) (commands_of (waiting_of old))
     pub store : IsHeldCommitted (waiting_of old) (store_of old) (store_of new)
+    pub opened : opened_of new ≡ opened_of old
 
   -- What was under way, one batch or none, is committed and published, and nothing is under way any more. What is given is the receipt of
   -- the batch and the token that ends with it, or nothing, where there was none.
@@ -32,6 +41,7 @@ module _ {D L : Type 0} {disk : Ghosts D} where
     pub waiting : waiting_of new ≡ []
     pub state : state_of (store_of new) ≡ fold (state_of (store_of old)) (commands_of (waiting_of old))
     pub store : IsHeldCommitted (waiting_of old) (store_of old) (store_of new)
+    pub opened : opened_of new ≡ opened_of old
 
   -- The batch that was held is held still, and isn't committed.
   pub record IsHeldStill (old new : Flusher D L disk) : Type 0 where
@@ -50,6 +60,7 @@ module _ {D L : Type 0} {disk : Ghosts D} where
   pub record IsUnpublished (refusal : Refusal) (old new : Flusher D L disk) : Type 0 where
     pub told : told_of new ≡ told_of old
     pub held : under_way new ≡ under_way old
+    pub opened : opened_of new ≡ opened_of old
     pub still : refusal ≢ NoMemory → IsHeldStill old new
     pub memory : refusal ≡ NoMemory
         → ((waiting_of new ≡ waiting_of old) × IsGivenUp (waiting_of old) (store_of old) (store_of new))

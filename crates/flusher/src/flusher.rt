@@ -8,6 +8,7 @@ ghost use Rattle.recovery.specs.Open.{FitsSlot, device_of, state_of};
 ghost use Rattle.world.specs.World.{takens};
 ghost use Rattle.published.specs.Order.{IsLegal};
 ghost use Rattle.flusher.specs.Flushers.{MayCommit};
+ghost use Rattle.flusher.specs.Lasting.{Lasts, Surely};
 
 use crate::begun::Begun;
 use crate::gate::{Gate, Moment};
@@ -19,19 +20,24 @@ use recovery::Store;
 use refusal::Refusal;
 use revision::State;
 use std::alloc::Global;
+use std::snapshot::Snapshot;
 use std::sync::Wait;
 use view::{Publisher, Viewer};
 
 /// The store, what publishes its batches to readers, and at most one run that is to be written as a batch, which follows what is published.
+/// Of the store that it began with it has what contracts see, which takes no memory: between any two calls its type keeps, of each batch that is
+/// published or committed, the moment from which on no crash takes it back.
 pub struct Flusher<D: Disk, L: Life> {
     pub(crate) store: Store<D>,
     publisher: Publisher<D, L>,
     waiting: Option<Run<D, L>>,
     begun: Begun<L>,
+    opened: Snapshot<Store<D>>,
     ghost kept: { state_of store ≡ fold begun (commands_of (publisher.told ++ publisher.unpublished)) },
     ghost few: { length publisher.unpublished ≤ 1 },
     ghost fits: { ForSome waiting (λ run. MayCommit (state_of store) run.commands publisher.unpublished) },
     ghost placed: { ForSome waiting (λ run. run.place ≡ length (commands_of publisher.told)) },
+    ghost lasts: { Surely (Lasts begun opened.value publisher waiting store) },
 }
 
 impl<D: Disk, L: Life> Flusher<D, L> {
@@ -39,21 +45,25 @@ impl<D: Disk, L: Life> Flusher<D, L> {
     ghost use Rattle.flusher.specs.Flushers.{cap_of};
     ghost use Rattle.recovery.specs.Freed.{HasFew, SyncsAtMost};
     ghost use Rattle.recovery.specs.Goes.{Goes};
-    ghost use Rattle.flusher.specs.Holding.{KeepsBatches, HasNoRoom, store_of, told_of, committed_of, waiting_of, moments_of};
-    ghost use Rattle.flusher.specs.Writing.{HasCommitted, HasPublished, LeavesHeld, IsUnpublished, IsWriteRefused, IsHeldBack, TellsFaults};
+    ghost use Rattle.flusher.specs.Holding.{KeepsBatches, HasNoRoom, LastsSince, store_of, told_of, committed_of, waiting_of, moments_of, opened_of};
+    ghost use Rattle.flusher.specs.Writing.{HoldsNow, HasCommitted, HasPublished, LeavesHeld, IsUnpublished, IsWriteRefused, IsHeldBack, TellsFaults};
 
     // A flusher that has published nothing yet.
+    #[tactic(auto, using(crate::proofs::Lasting::surely_begun))]
     pub(crate) fn of(store: Store<D>, publisher: Publisher<D, L>, begun: Begun<L>) -> Flusher<D, L>
         requires nothing { publisher ≡ record { told = []; unpublished = []; moments = [] } }
         requires begin { state_of store ≡ begun }
         ensures store { store_of result ≡ store }
+        ensures opened { opened_of result ≡ store_of result }
         ensures nothing { (told_of result ≡ []) × (committed_of result ≡ []) × (waiting_of result ≡ []) }
     {
+        let opened = Snapshot::of(&store);
         Flusher {
             store,
             publisher,
             waiting: None,
             begun,
+            opened,
         }
     }
 
@@ -63,6 +73,15 @@ impl<D: Disk, L: Life> Flusher<D, L> {
             ≡ fold L.start (commands_of (told_of self.now ++ committed_of self.now)) }
     {
         self.begun.facts();
+    }
+
+    /// Of each batch that is published, or committed and not published yet, there is the moment at which its commit had ended: the store held
+    /// exactly what the batches up to it make then, and a crash from there on takes none of them back.
+    pub fn lasts(&self)
+        ensures { Surely (LastsSince L.start (opened_of self.now) self.now) }
+    {
+        self.begun.facts();
+        self.publisher.facts();
     }
 
     /// The order, a legal history from the start, with what is published first, then what is committed, and then what is held. It takes no
@@ -123,10 +142,7 @@ impl<D: Disk, L: Life> Flusher<D, L> {
         requires fits { FitsSlot (state_of (store_of self.old)) run.commands }
         requires cap { run.cap ≡ cap_of (state_of (store_of self.old)) }
         requires next { run.place ≡ length (commands_of (told_of self.old)) }
-        ensures store { store_of self.new ≡ store_of self.old }
-        ensures told { told_of self.new ≡ told_of self.old }
-        ensures committed { committed_of self.new ≡ committed_of self.old }
-        ensures waiting { waiting_of self.new ≡ run.commands ∷ [] }
+        ensures { HoldsNow run.commands self.old self.new }
     {
         fill(&mut self.waiting, run);
     }
@@ -257,6 +273,7 @@ impl<D: Disk, L: Life> Flusher<D, L> {
             publisher,
             waiting,
             begun: _,
+            opened: _,
         } = self;
         publisher.end(rt);
         match waiting {

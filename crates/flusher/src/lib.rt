@@ -4,6 +4,8 @@
 //! publishes it, between the moments of a `Gate`; what was stopped continues in the next call. What it gives is a `Written`, which isn't `Drop`: it
 //! has to be settled, at a hub or on a board of the same thread. `start` makes a flusher and its board over a store, where nothing is
 //! under way, as `IsCalm` of specs/Standing.antt says. The crate `lives` says what runs of one thread over both keep.
+//! Between any two of its calls the type of a `Flusher` keeps from which moment on no crash takes a batch back, as `Lasts` of specs/Lasting.antt
+//! says: its commit had ended then. `lasts` tells it.
 //!
 //! Where the journal is full, a write frees its oldest segment first, by milestones of that segment's documents; `commit_held` frees nothing.
 //! `job_due` tells to which revision a milestone of a document is due. `milestone_job` and `put_milestones` let another thread compose it, and

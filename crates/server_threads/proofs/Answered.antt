@@ -3,6 +3,7 @@ use Rattle.std.proofs.Common.{◌≡◌, ◌≤◌, ◌⊎◌, inl, inr, ℕ, tr
 use Rattle.std.specs.Prelude.{◌<◌, Bool, Option, Result, Ok, Err, OnOk, OnErr}
 use Rattle.std.specs.Io.KnownBytes.{IsAtEnd}
 use Rattle.std.proofs.lemmas.Bool.{cases_lt}
+use Rattle.std.proofs.Math.Logic.{∥∥₁_map}
 use mathlib.Core.List.{IsPrefix}
 use Rattle.disk.specs.declared.device.Disk.{Ghosts}
 use Rattle.disk.proofs.CallerLemmas.{leaves_map}
@@ -10,11 +11,14 @@ use Rattle.revision.specs.Command.{Taken}
 use Rattle.revision.specs.State.{State, all_grow, fold}
 use Rattle.recovery.specs.declared.store.Store.{Store}
 use Rattle.recovery.specs.Found.{commands_of, FoundAs}
+use Rattle.recovery.specs.Moment.{Moment}
 use Rattle.recovery.specs.Open.{state_of}
 use Rattle.world.specs.World.{Entry}
 use Rattle.published.proofs.CallerLemmas.{prefix_self, prefix_trans, prefix_shorter, begun_grows, grow_first as grow_front}
 use Rattle.flusher.specs.Batches.{IsBeginning}
+use Rattle.flusher.specs.Lasting.{Surely}
 use Rattle.flusher.proofs.CallerLemmas.{commands-append}
+use Rattle.turns.specs.Writing.{WasAt}
 use Rattle.session.specs.Session.{Session}
 use Rattle.session.specs.Exchange.{Exchange}
 use Rattle.session.specs.Replies.{Asks}
@@ -24,8 +28,9 @@ use Rattle.hub_desk.specs.AtHub.{Desk, PassesAtHub}
 use Rattle.hub_desk.specs.Standing.{AllStand}
 use Rattle.hub_desk.proofs.CallerLemmas.{all_stand, found_through, told_through}
 use Rattle.server_threads.specs.Answers.{HoldsAll, first_desk}
-use Rattle.server_threads.specs.Served.{IsWritten, KeepsAnswers}
+use Rattle.server_threads.specs.Served.{AreLasting, IsKeptFrom, IsWritten, KeepsAnswers}
 use Rattle.server_threads.specs.Streams.{IsAnsweredAtHub, StopsAtHub}
+use Rattle.server_threads.proofs.AtCommits.{was_kept}
 use Rattle.server_threads.proofs.Places.{all_have_causes, all_have_places, counts_all}
 
 -- a prefix that is no shorter than the whole is the whole
@@ -112,9 +117,9 @@ stops_there start old new desk desk' input input' output output' failed (Err fai
 
 module _ {D : Type 0} {disk : Ghosts D} where
   -- a desk that was told of a prefix of the batches that are written, and found a prefix of the order
-  pub keeps_answers : (order : List Entry) (written waiting : List (List Taken)) (old new : Store D disk) (last : Desk) → IsWritten order written waiting old new
-      → IsPrefix last.told written → IsPrefix last.found order → KeepsAnswers order written waiting old new last
-  keeps_answers order written waiting old new last is told found = record {
+  pub keeps_answers : (order : List Entry) (written waiting : List (List Taken)) (moments : List Moment) (old new : Store D disk) (last : Desk) → IsWritten order written waiting old new
+      → Surely (AreLasting written waiting moments old new) → IsPrefix last.told written → IsPrefix last.found order → KeepsAnswers order written waiting moments old new last
+  keeps_answers order written waiting moments old new last is kept told found = record {
     told = told;
     places = λ asked asks. all_have_places (state_of old) first_desk last asked (commands_of last.told) asks (prefix_self (commands_of last.told));
     counts = λ asked asks. counts_all (state_of old) first_desk last asked asks;
@@ -123,15 +128,12 @@ module _ {D : Type 0} {disk : Ghosts D} where
     causes = λ asked asks. all_have_causes (state_of old) first_desk last asked order asks found;
     each_answer = λ answered others mid before after.
         let within : IsPrefix mid.told written = prefix_trans mid.told last.told written (told_through (state_of old) others mid last after) told in
-        let was = is.each mid.told within in
-        record {
-          was = was;
-          stand = all_stand (state_of old) first_desk mid answered mid.told before (prefix_self mid.told) (grow_first (state_of old) mid.told written within grow);
-          lasts = λ works is_open.
-              leaves_map (λ content begins. holds_all (state_of old) answered mid (written ++ waiting) content before
-              (prefix_trans mid.told written (written ++ waiting) within (waiting, refl)) grow_all begins)
-              (was.behind.any_moment (was.works works) (was.before.opens (was.works works) is_open));
-        };
+        kept_from answered mid before within (is.each mid.told within);
+    since_commit = λ answered others mid before after.
+        let within : IsPrefix mid.told written = prefix_trans mid.told last.told written (told_through (state_of old) others mid last after) told in
+        ∥∥₁_map kept (λ all.
+        let there = was_kept written waiting moments old new is.goes all.each mid.told within in
+        record { from = kept_from answered mid before within there.0; at = there.1 });
   }
     where
       grow_all : all_grow (state_of old) (commands_of (written ++ waiting)) ≡ true
@@ -139,3 +141,14 @@ module _ {D : Type 0} {disk : Ghosts D} where
 
       grow : all_grow (state_of old) (commands_of written) ≡ true
       grow = grow_first (state_of old) written (written ++ waiting) (waiting, refl) grow_all
+
+      kept_from : (answered : List Exchange) (mid : Desk) → Asks (PassesAtHub (state_of old)) first_desk answered mid → IsPrefix mid.told written
+          → WasAt (state_of old) 0 mid.told (written ++ waiting) old new → IsKeptFrom (state_of old) answered mid.told (written ++ waiting) old new
+      kept_from answered mid before within was = record {
+        was = was;
+        stand = all_stand (state_of old) first_desk mid answered mid.told before (prefix_self mid.told) (grow_first (state_of old) mid.told written within grow);
+        lasts = λ works is_open.
+            leaves_map (λ content begins. holds_all (state_of old) answered mid (written ++ waiting) content before
+            (prefix_trans mid.told written (written ++ waiting) within (waiting, refl)) grow_all begins)
+            (was.behind.any_moment (was.works works) (was.before.opens (was.works works) is_open));
+      }

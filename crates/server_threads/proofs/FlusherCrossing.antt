@@ -76,7 +76,10 @@ flusher_fields D T d s l a b c =
       search (cells_send, job_send, state_send, sendable, crosses) depth 60 fits 20000,
       (
         publisher_send D T d s l _ a b c,
-        (search (commands_send, document_send, sendable, crosses) depth 60 fits 20000, (search (sendable, crosses) depth 60 fits 20000, tt)),
+        (
+          search (commands_send, document_send, sendable, crosses) depth 60 fits 20000,
+          (search (sendable, crosses) depth 60 fits 20000, (search (sendable, crosses) depth 60 fits 20000, tt)),
+        ),
       ),
     )
 

@@ -1,6 +1,7 @@
 pub mod Crossing
 pub mod FlusherCrossing
 mod Places
+mod AtCommits
 mod Answered
 mod Served
 mod Ended

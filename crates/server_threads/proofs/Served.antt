@@ -20,16 +20,18 @@ use Rattle.published.specs.Order.{IsLegal}
 use Rattle.published.proofs.CallerLemmas.{prefix_self, prefix_trans, prefix_shorter, prefix_whole, takens_long, takens_begin}
 use Rattle.flusher.specs.declared.flusher.Flusher.{Flusher}
 use Rattle.flusher.specs.Batches.{IsBeginning}
-use Rattle.flusher.specs.Holding.{store_of, told_of, committed_of, waiting_of}
-use Rattle.turns.specs.Writing.{WasAt, Writes, given_to, told_count}
+use Rattle.flusher.specs.Holding.{LastsSince, store_of, told_of, committed_of, waiting_of, moments_of, opened_of, given_to}
+use Rattle.flusher.specs.Lasting.{Surely}
+use Rattle.turns.specs.Writing.{WasAt, Writes, told_count}
 use Rattle.hub.specs.Legal.{IsOfRun}
 use Rattle.world.specs.Board.{Board as Inner}
 use Rattle.hub_desk.specs.AtHub.{Desk}
 use Rattle.server_threads.specs.Answers.{first_desk}
 use Rattle.server_threads.specs.Held.{HasHeld, IsCounted}
-use Rattle.server_threads.specs.Served.{IsWritten, IsWhole, KeepsAnswers, WasServed, HasLived, IsStarted}
+use Rattle.server_threads.specs.Served.{AreLasting, IsWritten, IsWhole, KeepsAnswers, WasServed, HasLived, IsStarted}
 use Rattle.server_threads.specs.Written.{HasWritten, HasRun, StartedOverWrites}
 use Rattle.server_threads.proofs.Answered.{found_whole, keeps_answers}
+use Rattle.server_threads.proofs.AtCommits.{all_kept, none_kept}
 
 -- what begins a state's batches begins those of a state that is the same, where no less was asked for
 within : (least less : ℕ) (start other : State) (batches : List (List Taken)) (content : List ℕ) → least ≡ less → start ≡ other
@@ -154,6 +156,7 @@ module _ {D L : Type 0} {disk : Ghosts D} where
     goes = goes_none (store_of here) (λ is_open. shown _ (found_as _ _ (found_open (store_of here) is_open)));
     each = λ first shorter begins. absurd (omega (arith, shorter.1, ap (λ (l : List (List Taken)). length l) begins.1, length-append first begins.0));
     lasts = λ works is_open content left. shown content (found_now (store_of here) is_open content left);
+    opened = refl;
   }
     where
       shown : (content : List ℕ) → FoundAs content (state_of (store_of here)) → IsBeginning (told_count here) start (given_to here) content
@@ -204,6 +207,7 @@ module _ {D L : Type 0} {disk : Ghosts D} where
         held = moment (told_of here) (told_of old) told store (told_of new ++ committed_of new) writes.held;
         lasts = λ works is_open content left.
             writes.lasts (subst (λ (s : Store D disk). has_failed s ≡ false) (sym store) works) (subst (λ (s : Store D disk). IsOpen s) (sym store) is_open) content left;
+        opened = writes.opened ∙ begun.opened ∙ store ∙ sym started.opened;
       }
     where
       none_given : (flusher : Flusher D L disk) → IsStarted flusher → given_to flusher ≡ []
@@ -271,25 +275,27 @@ module _ {D L : Type 0} {disk : Ghosts D} where
 
   -- the whole life
   pub lived_by : (Sessions : List Desk → Type 0) (start : State) (order : List Entry) (desks : List Desk) (old new : Flusher D L disk) (written answer : Result (Unit {0}) Refusal) (store : Store D disk)
-      → store ≡ store_of new → IsStarted old → Kept start old → Kept start new → length (committed_of new) ≤ 1 → length (waiting_of new) ≤ 1
+      → store ≡ store_of new → IsStarted old → Kept start old → Kept start new → Surely (LastsSince start (opened_of new) new) → length (committed_of new) ≤ 1 → length (waiting_of new) ≤ 1
       → HasWritten start old new written → IsLegal start order → IsPrefix (commands_of (told_of new ++ (committed_of new ++ waiting_of new))) (takens order)
       → All (λ (desk : Desk). IsPrefix desk.told (told_of new ++ committed_of new)) desks → All (λ (desk : Desk). IsPrefix desk.found order) desks → length order ≡ sum_by (λ (desk : Desk). desk.counted) desks
       → OnOk answer ((written ≡ Ok tt) × (length order ≡ length (commands_of (told_of new)))) → (IsErrOf answer Fault ↔ IsErrOf written Fault)
       → Sessions desks → HasLived Sessions answer (store_of old) store
-  lived_by Sessions start order desks old new written answer store is started before kept few_committed few_waiting wrote legal begins told found long all fault sessions =
+  lived_by Sessions start order desks old new written answer store is started before kept lasts few_committed few_waiting wrote legal begins told found long all fault sessions =
       subst (λ (s : Store D disk). HasLived Sessions answer (store_of old) s) (sym is)
       (record {
         served = record {
           order = order;
           written = told_of new ++ committed_of new;
           waiting = waiting_of new;
+          moments = moments_of new;
           desks = desks;
           is_written = is_written;
+          kept = are_kept;
           whole = λ well. whole (well_of answer well all);
           sessions = sessions;
           answers = All-weaker (λ (desk : Desk). IsPrefix desk.told (told_of new ++ committed_of new) × IsPrefix desk.found order)
-              (KeepsAnswers order (told_of new ++ committed_of new) (waiting_of new) (store_of old) (store_of new))
-              (λ desk both. keeps_answers order (told_of new ++ committed_of new) (waiting_of new) (store_of old) (store_of new) desk is_written both.0 both.1) desks
+              (KeepsAnswers order (told_of new ++ committed_of new) (waiting_of new) (moments_of new) (store_of old) (store_of new))
+              (λ desk both. keeps_answers order (told_of new ++ committed_of new) (waiting_of new) (moments_of new) (store_of old) (store_of new) desk is_written are_kept both.0 both.1) desks
               (λ k d within. (told k d within, found k d within));
           nothing_else = long;
         };
@@ -300,6 +306,9 @@ module _ {D L : Type 0} {disk : Ghosts D} where
     where
       is_written : IsWritten order (told_of new ++ committed_of new) (waiting_of new) (store_of old) (store_of new)
       is_written = written_by start order old new started before kept few_committed few_waiting wrote.writes legal begins
+
+      are_kept : Surely (AreLasting (told_of new ++ committed_of new) (waiting_of new) (moments_of new) (store_of old) (store_of new))
+      are_kept = all_kept start old new started (held_start start old started before) wrote.writes.opened lasts
 
       whole : (written ≡ Ok tt) × (length order ≡ length (commands_of (told_of new)))
           → IsWhole order (told_of new ++ committed_of new) (waiting_of new) (store_of old) (store_of new)
@@ -315,7 +324,7 @@ module _ {D L : Type 0} {disk : Ghosts D} where
       → HasHeld Sessions start old ordered published counted written new → IsCounted start ordered published counted written answer
       → HasLived Sessions answer (store_of old) store
   lived_from Sessions start old ordered published counted written answer new store is started held counts =
-      lived_by Sessions start counts.board.order held.desks old held.last written answer store (is ∙ held.tallied.store) started held.before.state held.tallied.kept.state
+      lived_by Sessions start counts.board.order held.desks old held.last written answer store (is ∙ held.tallied.store) started held.before.state held.tallied.kept.state held.tallied.lasts
       held.tallied.few_committed held.tallied.few_waiting held.wrote (order_legal start counts.board counts.run)
       (order_begins (commands_of (told_of held.last ++ (committed_of held.last ++ waiting_of held.last))) ordered counts.board.order held.tallied.begins counts.begins)
       held.tallied.told
@@ -345,11 +354,13 @@ module _ {D : Type 0} {disk : Ghosts D} where
     order = [];
     written = [];
     waiting = [];
+    moments = [];
     desks = [];
     is_written = none_written store;
+    kept = none_kept store;
     whole = λ well. absurd (false≢true well);
     sessions = sessions;
-    answers = All-nil (KeepsAnswers [] [] [] store store);
+    answers = All-nil (KeepsAnswers [] [] [] [] store store);
     nothing_else = refl;
   }
 
@@ -359,12 +370,14 @@ module _ {D : Type 0} {disk : Ghosts D} where
     order = [];
     written = [];
     waiting = [];
+    moments = [];
     desks = first_desk ∷ [];
     is_written = none_written store;
+    kept = none_kept store;
     whole = λ well. absurd (false≢true well);
     sessions = sessions;
-    answers = All-cons (KeepsAnswers [] [] [] store store) first_desk []
-        (keeps_answers [] [] [] store store first_desk (none_written store) ([], refl) ([], refl)) (All-nil (KeepsAnswers [] [] [] store store));
+    answers = All-cons (KeepsAnswers [] [] [] [] store store) first_desk []
+        (keeps_answers [] [] [] [] store store first_desk (none_written store) (none_kept store) ([], refl) ([], refl)) (All-nil (KeepsAnswers [] [] [] [] store store));
     nothing_else = refl;
   }
 
@@ -375,8 +388,10 @@ module _ {D : Type 0} {disk : Ghosts D} where
     order = served.order;
     written = served.written;
     waiting = served.waiting;
+    moments = served.moments;
     desks = served.desks;
     is_written = served.is_written;
+    kept = served.kept;
     whole = λ is. served.whole (fewer is);
     sessions = others served.desks served.sessions;
     answers = served.answers;

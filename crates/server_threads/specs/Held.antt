@@ -11,7 +11,8 @@ use Rattle.recovery.specs.Open.{state_of}
 use Rattle.world.specs.Board as world
 use Rattle.world.specs.World.{Entry, takens}
 use Rattle.flusher.specs.declared.flusher.Flusher.{Flusher}
-use Rattle.flusher.specs.Holding.{store_of, told_of, committed_of, waiting_of}
+use Rattle.flusher.specs.Holding.{LastsSince, store_of, told_of, committed_of, waiting_of, opened_of}
+use Rattle.flusher.specs.Lasting.{Surely}
 use Rattle.hub.specs.Legal.{IsOfRun}
 use Rattle.hub_desk.specs.AtHub.{Desk}
 use Rattle.server_threads.specs.Written.{HasWritten}
@@ -21,11 +22,13 @@ module _ {D L : Type 0} {disk : Ghosts D} where
   pub record IsKept (start : State) (flusher : Flusher D L disk) : Type 0 where
     pub state : state_of (store_of flusher) ≡ fold start (commands_of (told_of flusher ++ committed_of flusher))
 
-  -- The desks of a flusher that has written are tallied. The order begins with all that it was given and all that the desks found of it, so
-  -- much of it was published, no desk was told of more than it committed, and the seats' count is that of the desks.
+  -- The desks of a flusher that has written are tallied, and each batch that it committed lasts from its moment on. The order begins with all that
+  -- it was given and all that the desks found of it, so much of it was published, no desk was told of more than it committed, and the seats' count
+  -- is that of the desks.
   pub record IsTallied (start : State) (desks : List Desk) (last : Flusher D L disk) (ordered : List Entry) (published counted : ℕ) (new : Store D disk) : Type 0 where
     pub store : new ≡ store_of last
     pub kept : IsKept start last
+    pub lasts : Surely (LastsSince start (opened_of last) last)
     pub few_committed : length (committed_of last) ≤ 1
     pub few_waiting : length (waiting_of last) ≤ 1
     pub begins : IsPrefix (commands_of (told_of last ++ (committed_of last ++ waiting_of last))) (takens ordered)

@@ -5,7 +5,7 @@
 //! prefix of it makes, which is all of it after an `Ok`, and a crash at any moment leaves what a prefix makes, at the end of a batch. Each command
 //! that a desk answered as taken has its place in the order, with its revision, and what stands there is what the rule of acceptance takes for
 //! just this command; for each point in a desk's exchanges there was a moment from which on no crash takes away what was acknowledged by
-//! then. And nothing else was ordered: the order is as long as what the seats of the desks counted. A seat counts each command that its desk
+//! then: that at which a commit had ended, of the last batch that the desk was told of. And nothing else was ordered: the order is as long as what the seats of the desks counted. A seat counts each command that its desk
 //! answered as taken, perhaps some of those that it answered `StoreFailed`, and nothing else.
 //!
 //! A server begins (`begin` in `life.rt`) with a flusher and a board from `start`, a hub of that board, and all seats. It has a desk at the hub

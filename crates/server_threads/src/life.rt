@@ -98,6 +98,7 @@ pub(crate) fn tally_all<L: Life, R: Wait, D: Disk>(
     let mut flusher = flusher;
     let mut tally = tally;
     flusher.kept();
+    flusher.lasts();
     flusher.few();
     let mut ordered = flusher.ordered();
     let published = flusher.told().len();

@@ -19,11 +19,11 @@ use Rattle.recovery.specs.Moment.{Receipt}
 use Rattle.recovery.proofs.CallerLemmas.{goes_none, goes_map, goes_on, found_now, found_as, found_open}
 use Rattle.flusher.specs.declared.flusher.Flusher.{Flusher}
 use Rattle.flusher.specs.Batches.{IsBeginning}
-use Rattle.flusher.specs.Holding.{store_of, told_of, committed_of, waiting_of}
+use Rattle.flusher.specs.Holding.{store_of, told_of, committed_of, waiting_of, opened_of, given_to}
 use Rattle.flusher.specs.Upkeep.{IsKeptUp, KeepsUp}
 use Rattle.flusher.specs.Writing.{HasPublished, IsUnpublished, IsWriteRefused}
 use Rattle.flusher.proofs.CallerLemmas.{commands-append, fewer, longer, within_write, no_error}
-use Rattle.turns.specs.Writing.{WasAt, IsUpkeep, IsFullFor, IsOneMore, IsTurnFailed, IsUntouched, given_to, told_count, Writes}
+use Rattle.turns.specs.Writing.{WasAt, IsUpkeep, IsFullFor, IsOneMore, IsTurnFailed, IsUntouched, told_count, Writes}
 use Rattle.turns.specs.Turning.{HasTurned}
 use Rattle.turns.specs.declared.turned.Turned.{Turned}
 use Rattle.turns.specs.declared.turned.Turned.TheVariants.{Settled, Nothing}
@@ -114,6 +114,7 @@ module _ {D L : Type 0} {disk : Ghosts D} where
               behind = was.behind;
             };
         lasts = λ worked is_open. second.lasts (works worked) (first.goes.opens (works worked) is_open);
+        opened = second.opened ∙ first.opened;
         each = λ front further begins. by_moment front further (compare front (told_of mid) (told_of new) begins (second.told.0, sym second.told.1)) begins;
       }
     where
@@ -180,11 +181,11 @@ module _ {D L : Type 0} {disk : Ghosts D} where
   }
 
   -- what was given is the same, and no more is published
-  pub writes_same : (start : State) (old new : Flusher D L disk) → Kept start (state_of (store_of old)) (told_of old) (committed_of old)
+  pub writes_same : (start : State) (old new : Flusher D L disk) → opened_of new ≡ opened_of old → Kept start (state_of (store_of old)) (told_of old) (committed_of old)
       → Goes (IsWithOrWithout (state_of (store_of old)) (commands_of (waiting_of old))) (store_of old) (store_of new)
       → told_of new ≡ told_of old → given_to new ≡ given_to old
       → WasAt start (told_count old) (told_of new ++ committed_of new) (given_to new) (store_of old) (store_of new) → Writes start old new
-  writes_same start old new kept goes tells same was =
+  writes_same start old new opened kept goes tells same was =
       let mapped : Goes (IsBeginning (told_count old) start (given_to new)) (store_of old) (store_of new) =
       goes_map (λ content found. subst (λ (b : List (List Taken)). IsBeginning (told_count old) start b content) (sym same)
       (held_found start (state_of (store_of old)) (told_of old) (committed_of old) (waiting_of old) content kept found)) goes in
@@ -193,6 +194,7 @@ module _ {D L : Type 0} {disk : Ghosts D} where
         told = ([], tells ∙ sym (append-nil (told_of old)));
         more = ([], same ∙ sym (append-nil (given_to old)));
         goes = mapped;
+        opened = opened;
         held = was;
         lasts = λ works is_open content left.
             fewer (told_count old) (told_count new) start (given_to new) content (omega (arith, count)) ((mapped.any_moment works is_open).last content left);
@@ -200,25 +202,25 @@ module _ {D L : Type 0} {disk : Ghosts D} where
       }
 
   -- the store alone changes, and represents the same state
-  pub writes_still : (start : State) (old new : Flusher D L disk) → Kept start (state_of (store_of old)) (told_of old) (committed_of old)
+  pub writes_still : (start : State) (old new : Flusher D L disk) → opened_of new ≡ opened_of old → Kept start (state_of (store_of old)) (told_of old) (committed_of old)
       → Goes (λ content. FoundAs content (state_of (store_of old))) (store_of old) (store_of new)
       → told_of new ≡ told_of old → committed_of new ≡ committed_of old → waiting_of new ≡ waiting_of old → Writes start old new
-  writes_still start old new kept goes tells commits waits =
+  writes_still start old new opened kept goes tells commits waits =
       let same : given_to new ≡ given_to old =
       ap (λ (t : List (List Taken)). t ++ (committed_of new ++ waiting_of new)) tells ∙ ap (λ (l : List (List Taken)). told_of old ++ (l ++ waiting_of new)) commits
       ∙ ap (λ (l : List (List Taken)). told_of old ++ (committed_of old ++ l)) waits in
       let written : Goes (IsWithOrWithout (state_of (store_of old)) (commands_of (waiting_of old))) (store_of old) (store_of new) = goes_map (λ content found. inl found) goes in
       let holds : told_of new ++ committed_of new ≡ told_of old ++ committed_of old =
       ap (λ (t : List (List Taken)). t ++ committed_of new) tells ∙ ap (λ (l : List (List Taken)). told_of old ++ l) commits in
-      writes_same start old new kept written tells same (was_before start old new kept written holds same)
+      writes_same start old new opened kept written tells same (was_before start old new kept written holds same)
 
   -- what was held is written and published, as one batch
-  pub writes_published : (start : State) (old new : Flusher D L disk) (batch : List Taken) → committed_of old ++ waiting_of old ≡ batch ∷ [] → Kept start (state_of (store_of old)) (told_of old) (committed_of old)
+  pub writes_published : (start : State) (old new : Flusher D L disk) (batch : List Taken) → committed_of old ++ waiting_of old ≡ batch ∷ [] → opened_of new ≡ opened_of old → Kept start (state_of (store_of old)) (told_of old) (committed_of old)
       → Kept start (state_of (store_of new)) (told_of new) (committed_of new)
       → Goes (IsWithOrWithout (state_of (store_of old)) (commands_of (waiting_of old))) (store_of old) (store_of new)
       → (has_failed (store_of old) ≡ false → has_failed (store_of new) ≡ false)
       → told_of new ≡ told_of old ++ (committed_of old ++ waiting_of old) → committed_of new ≡ [] → waiting_of new ≡ [] → Writes start old new
-  writes_published start old new batch one kept after goes works tells none nothing =
+  writes_published start old new batch one opened kept after goes works tells none nothing =
       let same : given_to new ≡ given_to old =
       ap (λ (l : List (List Taken)). told_of new ++ (l ++ waiting_of new)) none ∙ ap (λ (l : List (List Taken)). told_of new ++ l) nothing ∙ append-nil (told_of new) ∙ tells in
       let mapped : Goes (IsBeginning (told_count old) start (given_to new)) (store_of old) (store_of new) =
@@ -228,6 +230,7 @@ module _ {D L : Type 0} {disk : Ghosts D} where
         told = (committed_of old ++ waiting_of old, tells);
         more = ([], same ∙ sym (append-nil (given_to old)));
         goes = mapped;
+        opened = opened;
         held =
             subst (λ (l : List (List Taken)). WasAt start (told_count old) l (given_to new) (store_of old) (store_of new))
             (sym (ap (λ (l : List (List Taken)). told_of new ++ l) none ∙ append-nil (told_of new))) (now_published (told_of new) mapped refl);
@@ -254,9 +257,9 @@ module _ {D L : Type 0} {disk : Ghosts D} where
       }
 
   -- a batch more is held
-  pub writes_held : (start : State) (old new : Flusher D L disk) (batch : List Taken) → Kept start (state_of (store_of old)) (told_of old) (committed_of old)
+  pub writes_held : (start : State) (old new : Flusher D L disk) (batch : List Taken) → opened_of new ≡ opened_of old → Kept start (state_of (store_of old)) (told_of old) (committed_of old)
       → store_of new ≡ store_of old → told_of new ≡ told_of old → committed_of new ≡ committed_of old → waiting_of old ≡ [] → waiting_of new ≡ batch ∷ [] → Writes start old new
-  writes_held start old new batch kept store tells commits nothing waits =
+  writes_held start old new batch opened kept store tells commits nothing waits =
       let more : given_to new ≡ given_to old ++ batch ∷ [] =
       ap (λ (t : List (List Taken)). t ++ (committed_of new ++ waiting_of new)) tells ∙ ap (λ (l : List (List Taken)). told_of old ++ (l ++ waiting_of new)) commits
       ∙ ap (λ (l : List (List Taken)). told_of old ++ (committed_of old ++ l)) (waits ∙ ap (λ (l : List (List Taken)). l ++ batch ∷ []) (sym nothing))
@@ -273,6 +276,7 @@ module _ {D L : Type 0} {disk : Ghosts D} where
         told = ([], tells ∙ sym (append-nil (told_of old)));
         more = (batch ∷ [], more);
         goes = still;
+        opened = opened;
         held =
             let holds : told_of new ++ committed_of new ≡ told_of old ++ committed_of old =
             ap (λ (t : List (List Taken)). t ++ committed_of new) tells ∙ ap (λ (l : List (List Taken)). told_of old ++ l) commits in
@@ -294,7 +298,7 @@ module _ {D L : Type 0} {disk : Ghosts D} where
   -- no call at all
   pub writes_none : (start : State) (here : Flusher D L disk) → Kept start (state_of (store_of here)) (told_of here) (committed_of here) → Writes start here here
   writes_none start here kept =
-      writes_still start here here kept (goes_none (store_of here) (λ is_open. found_as _ _ (found_open (store_of here) is_open))) refl refl refl
+      writes_still start here here refl kept (goes_none (store_of here) (λ is_open. found_as _ _ (found_open (store_of here) is_open))) refl refl refl
 
 -- the refusal of an answer, or this one where there is none
 abbrev refusal_in : {T : Type 0} → Refusal → Result T Refusal → Refusal
@@ -358,7 +362,7 @@ module _ {D : Type 0} {disk : Ghosts D} where
 module _ {D L : Type 0} {disk : Ghosts D} where
   -- a flusher that is kept up, by no call, and by one call and then others
   pub keeps_none : (flusher : Flusher D L disk) → KeepsUp flusher flusher
-  keeps_none flusher = record { kept_up = kept_up_none (store_of flusher); batches = record { told = refl; committed = refl; waiting = refl } }
+  keeps_none flusher = record { kept_up = kept_up_none (store_of flusher); batches = record { told = refl; committed = refl; waiting = refl; opened = refl } }
 
   pub keeps_on : (old mid new : Flusher D L disk) → KeepsUp old mid → KeepsUp mid new → KeepsUp old new
   keeps_on old mid new first second = record {
@@ -367,6 +371,7 @@ module _ {D L : Type 0} {disk : Ghosts D} where
       told = second.batches.told ∙ first.batches.told;
       committed = second.batches.committed ∙ first.batches.committed;
       waiting = second.batches.waiting ∙ first.batches.waiting;
+      opened = second.batches.opened ∙ first.batches.opened;
     };
   }
 
@@ -423,7 +428,7 @@ module _ {D L : Type 0} {disk : Ghosts D} where
 
   -- a store that was kept up, and nothing else
   pub writes_kept_up : (start : State) (old new : Flusher D L disk) → Kept start (state_of (store_of old)) (told_of old) (committed_of old) → KeepsUp old new → Writes start old new
-  writes_kept_up start old new kept keeps = writes_still start old new kept keeps.kept_up.goes keeps.batches.told keeps.batches.committed keeps.batches.waiting
+  writes_kept_up start old new kept keeps = writes_still start old new keeps.batches.opened kept keeps.kept_up.goes keeps.batches.told keeps.batches.committed keeps.batches.waiting
 
   -- a write that was refused
   pub writes_refused : {A : Type 0} (start : State) (old new : Flusher D L disk) (refusal : Refusal) → Kept start (state_of (store_of old)) (told_of old) (committed_of old)
@@ -431,7 +436,7 @@ module _ {D L : Type 0} {disk : Ghosts D} where
       → Kept start (state_of (store_of new)) (told_of new) (committed_of new) → IsUnpublished refusal old new → IsWriteRefused refusal old new
       → (has_failed (store_of old) ≡ false → (has_failed (store_of new) ≡ true ↔ IsErrOf {T = A} (Err refusal) Fault)) → Writes start old new
   writes_refused {A} start old new refusal kept goes after left why fails =
-      writes_same start old new kept goes left.told same (by_reason why.only)
+      writes_same start old new left.opened kept goes left.told same (by_reason why.only)
     where
       same : given_to new ≡ given_to old
       same = ap (λ (t : List (List Taken)). t ++ (committed_of new ++ waiting_of new)) left.told ∙ ap (λ (l : List (List Taken)). told_of old ++ l) left.held
@@ -457,7 +462,7 @@ module _ {D L : Type 0} {disk : Ghosts D} where
       → Goes (IsWithOrWithout (state_of (store_of old)) (commands_of (waiting_of old))) (store_of old) (store_of new)
       → (has_failed (store_of old) ≡ false → has_failed (store_of new) ≡ false) → HasPublished (Some both) old new → Writes start old new
   writes_written start old new both kept after goes works done =
-      writes_published start old new both.0.batch done.some.batch kept after goes works done.some.published done.committed done.waiting
+      writes_published start old new both.0.batch done.some.batch done.opened kept after goes works done.some.published done.committed done.waiting
 
   pub one_written : (old new : Flusher D L disk) (both : Receipt D × List (List Taken)) → HasPublished (Some both) old new → IsOneMore old new
   one_written old new both done =

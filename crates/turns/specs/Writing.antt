@@ -15,7 +15,7 @@ use Rattle.recovery.specs.Goes.{Goes}
 use Rattle.flusher.specs.declared.flusher.Flusher.{Flusher}
 use Rattle.flusher.specs.Batches.{IsBeginning}
 use Rattle.flusher.specs.Flushers.{IsUsedUp}
-use Rattle.flusher.specs.Holding.{store_of, told_of, committed_of, waiting_of}
+use Rattle.flusher.specs.Holding.{store_of, told_of, committed_of, waiting_of, opened_of, given_to}
 use Rattle.flusher.specs.Upkeep.{IsKeptUp, KeepsUp}
 
 module _ {D : Type 0} {disk : Ghosts D} where
@@ -37,10 +37,6 @@ module _ {D : Type 0} {disk : Ghosts D} where
     pub behind : Goes (IsBeginning (length (commands_of first)) start all) between new
 
 module _ {D L : Type 0} {disk : Ghosts D} where
-  -- all batches that the flusher was given so far, in order: what is published, what is committed, and what is held
-  abbrev pub given_to : Flusher D L disk → List (List Taken)
-  given_to flusher = told_of flusher ++ (committed_of flusher ++ waiting_of flusher)
-
   -- how many commands are published
   abbrev pub told_count : Flusher D L disk → ℕ
   told_count flusher = length (commands_of (told_of flusher))
@@ -48,7 +44,7 @@ module _ {D L : Type 0} {disk : Ghosts D} where
   -- Nothing that was published is taken back, and no batch that was given is dropped. A crash at any moment between leaves a prefix
   -- of the batches that were given by the end, and no fewer commands than were published at the beginning; a crash at any moment from
   -- a batch's publishing on no fewer than were published with it; and a crash at the end no fewer than are published then. And there was a
-  -- moment from which on it leaves no fewer than are published and committed at the end.
+  -- moment from which on it leaves no fewer than are published and committed at the end. The store that the flusher began with stays.
   pub record Writes (start : State) (old new : Flusher D L disk) : Type 0 where
     pub told : (l : List (List Taken)) × (told_of new ≡ told_of old ++ l)
     pub more : (l : List (List Taken)) × (given_to new ≡ given_to old ++ l)
@@ -58,6 +54,7 @@ module _ {D L : Type 0} {disk : Ghosts D} where
     pub held : WasAt start (told_count old) (told_of new ++ committed_of new) (given_to new) (store_of old) (store_of new)
     pub lasts : has_failed (store_of old) ≡ false → IsOpen (store_of old)
         → (content : List ℕ) → MayLeaveNow disk (device_of (store_of new)) content → IsBeginning (told_count new) start (given_to new) content
+    pub opened : opened_of new ≡ opened_of old
 
   -- What a step of the upkeep comes to, whatever it answers: the store was kept up. It fails exactly where `Fault` is told, and nothing else
   -- refuses the step.

@@ -10,6 +10,7 @@ pub returns-clause-tallied : goal.returns-clause-tallied
 returns-clause-tallied g c = record {
   store = c.tally_desks.ensures.store;
   kept = record { state = c.kept.ensures };
+  lasts = c.lasts.ensures;
   few_committed = c.few.ensures.committed;
   few_waiting = c.few.ensures.waiting;
   begins = begins_longer (commands_of (told_of c.args.flusher ++ (committed_of c.args.flusher ++ waiting_of c.args.flusher))) c.ordered-ordered.result c.tally_desks.new.ordered

@@ -15,4 +15,4 @@ pub returns-in-Ok-taken-clause-writes : goal.returns-in-Ok-taken-clause-writes
 returns-in-Ok-taken-clause-writes g c =
     let none : c.holds.result ≡ false = search rules in
     let e = c.hold.ensures in
-    writes_held g.L.Life.start c.args.flusher.now c.hold.new.self c.in-Ok-taken.run'.commands c.kept.ensures e.store e.told e.committed (c.holds.ensures.held none).1 e.waiting
+    writes_held g.L.Life.start c.args.flusher.now c.hold.new.self c.in-Ok-taken.run'.commands e.opened c.kept.ensures e.store e.told e.committed (c.holds.ensures.held none).1 e.waiting

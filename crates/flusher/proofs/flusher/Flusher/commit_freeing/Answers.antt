@@ -3,9 +3,11 @@ use Rattle.revision.specs.Command.{Taken}
 use Rattle.revision.specs.State.{fold}
 use Rattle.world.specs.World.{takens}
 use Rattle.recovery.specs.Found.{commands_of}
+use Rattle.recovery.specs.Moment.{moment_of}
 use Rattle.refusal.specs.declared.Refusal.TheVariants.{StillNeeded}
 use Rattle.view.specs.Published.{Published}
 use Rattle.flusher.proofs.Holdings.{held_in, goes_not, goes_batch, committed_none, committed_one, given_up_one, kept_more, moment_by, next_by, held_made, made_on, no_batch, no_error, held_continues, no_stranger, same_refusal}
+use Rattle.flusher.proofs.Lasting.{surely_refused, surely_committed}
 use Rattle.flusher.proofs.Writes.{faults_ok, faults_err, faults_none, no_room_of}
 use Rattle.flusher.proofs.flusher.Flusher.commit_freeing.Goals as goal
 
@@ -40,13 +42,30 @@ returns-in-Err-clause-goes g c =
 
 pub invariant_of-self-in-Ok : goal.invariant_of-self-in-Ok
 invariant_of-self-in-Ok g c =
-    let held : c.args.self.now.waiting ≡ Some c.in-Some.batch = cc in
+    let before = c.args.self.now in
+    let held : before.waiting ≡ Some c.in-Some.batch = cc in
+    let same : c.batch.result.now ≡ c.in-Some.batch.commands = cc in
+    let alone = (before.fits c.in-Some.batch held).alone in
+    let names = c.in-Ok.ensures.receipt.names in
+    let kept = kept_more _ _ _ before.publisher c.accept.new.self _ _ c.batch.result.now before.kept alone c.accept.ensures names c.in-Ok.ensures.committed.state in
     record {
-      kept = kept_more _ _ _ c.args.self.now.publisher c.accept.new.self _ _ c.batch.result.now c.args.self.now.kept (c.args.self.now.fits c.in-Some.batch held).alone c.accept.ensures c.in-Ok.ensures.receipt.names c.in-Ok.ensures.committed.state;
+      kept = kept;
       few = omega (arith, ap (λ (p : Published). length p.unpublished) c.accept.ensures);
       fits = λ x is. absurd (let none : ⊥ = cc in none);
       placed = λ x is. absurd (let none : ⊥ = cc in none);
+      lasts = surely_committed before.begun before.opened.value before.publisher c.accept.new.self before.waiting _ c.in-Some.batch c.batch.result.now c.in-Ok.receipt.batch _ before.store
+          c.commit_freeing.new.self held c.in-Some.ensures.after same names before.kept alone c.accept.ensures (ap (moment_of g.D.Disk) c.in-Ok.ensures.receipt.at) c.in-Ok.ensures.faults.works kept
+          c.commit_freeing.ensures.goes before.lasts;
     }
+
+-- what was committed before lasts on
+pub invariant_of-self-in-Err-clause-lasts : goal.invariant_of-self-in-Err-clause-lasts
+invariant_of-self-in-Err-clause-lasts g c =
+    let before = c.args.self.now in
+    let held : before.waiting ≡ Some c.in-Some.batch = cc in
+    let same : c.batch.result.now ≡ c.in-Some.batch.commands = cc in
+    surely_refused before.begun before.opened.value before.publisher before.waiting _ c.in-Some.batch c.batch.result.now before.store c.commit_freeing.new.self held c.fill.ensures.some same before.kept
+    c.commit_freeing.ensures.goes before.lasts
 
 -- the documents beside the batch
 pub made-made-requires : goal.made-made-requires
@@ -100,6 +119,7 @@ returns-in-None-clause-committed g c =
       waiting = ap held_in c.in-None.ensures.after;
       state = sym (ap (λ (l : List (List Taken)). fold c.args.self.now.store.state (commands_of l)) empty);
       store = committed_none c.args.self.now.store (held_in c.args.self.now.waiting) empty;
+      opened = refl;
     }
 
 pub returns-in-Ok-clause-committed : goal.returns-in-Ok-clause-committed
@@ -115,6 +135,7 @@ returns-in-Ok-clause-committed g c =
       waiting = ap held_in c.in-Some.ensures.after;
       state = c.in-Ok.ensures.committed.state ∙ ap (fold c.args.self.now.store.state) (sym (ap commands_of one ∙ append-nil _));
       store = committed_one _ _ c.batch.result.now _ one c.in-Ok.ensures.committed.now c.in-Ok.ensures.committed.behind;
+      opened = refl;
     }
 
 -- it is held still
@@ -126,7 +147,7 @@ returns-in-Err-clause-refused g c =
     record {
       some = λ none. no_batch c.in-Some.batch.commands (held_in c.args.self.now.waiting) none (ap held_in held);
       still = record {
-        batches = record { told = refl; committed = refl; waiting = ap held_in c.fill.ensures.some ∙ sym (ap held_in held) };
+        batches = record { told = refl; committed = refl; waiting = ap held_in c.fill.ensures.some ∙ sym (ap held_in held); opened = refl };
         state = e.state;
       };
       memory = λ is. given_up_one _ _ c.batch.result.now _ (ap held_in held ∙ ap (λ (b : List Taken). b ∷ []) (sym same)) (λ room. e.unchanged (inr is) room)

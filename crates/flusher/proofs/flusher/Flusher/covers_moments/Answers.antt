@@ -4,6 +4,7 @@ use Rattle.recovery.specs.Found.{commands_of}
 use Rattle.recovery.specs.Open.{state_of}
 use Rattle.view.specs.Published.{Published}
 use Rattle.flusher.specs.Flushers.{MayCommit}
+use Rattle.flusher.specs.Lasting.{Lasts, Surely}
 use Rattle.flusher.proofs.flusher.Flusher.covers_moments.Goals as goal
 
 pub invariant_of-self : goal.invariant_of-self
@@ -15,9 +16,10 @@ invariant_of-self g c =
       few = omega (arith, before.few, ap (λ (p : Published). length p.unpublished) same);
       fits = λ run is. subst (λ (p : Published). MayCommit (state_of before.store) run.commands p.unpublished) (sym same) (before.fits run is);
       placed = λ run is. before.placed run is ∙ ap (λ (p : Published). length (commands_of p.told)) (sym same);
+      lasts = subst (λ (p : Published). Surely (Lasts before.begun before.opened.value p before.waiting before.store)) (sym same) before.lasts;
     }
 
 pub returns-clause-batches : goal.returns-clause-batches
 returns-clause-batches g c =
     let same = c.covers_moments.ensures.same in
-    record { told = ap (λ (p : Published). p.told) same; committed = ap (λ (p : Published). p.unpublished) same; waiting = refl }
+    record { told = ap (λ (p : Published). p.told) same; committed = ap (λ (p : Published). p.unpublished) same; waiting = refl; opened = refl }

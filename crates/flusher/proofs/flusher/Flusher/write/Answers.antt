@@ -1,6 +1,7 @@
 use Rattle.std.proofs.Common.{◌≡◌, None, refl}
 use Rattle.refusal.specs.declared.Refusal.TheVariants.{StillNeeded}
-use Rattle.flusher.proofs.Holdings.{no_error, same_refusal, none_of_held, published_or_not, kept_moved, few_moved}
+use Rattle.flusher.proofs.Holdings.{no_error, same_refusal, none_of_held, published_or_not, kept_moved, few_moved, batches_moved, moments_moved}
+use Rattle.flusher.proofs.Lasting.{surely_moved}
 use Rattle.flusher.proofs.Writes.{faults_refused, faults_behind, unpublished_held, unpublished_behind, refused_by_memory, published_behind, published_as, memory_no_fault}
 use Rattle.flusher.proofs.flusher.Flusher.write.Goals as goal
 
@@ -16,6 +17,8 @@ invariant_of-self g c =
       few = few_moved before.publisher c.publish.new.self moved before.few;
       fits = λ run is. absurd (let no : ⊥ = cc in no);
       placed = λ run is. absurd (let no : ⊥ = cc in no);
+      lasts = surely_moved before.begun before.opened.value before.publisher c.publish.new.self before.waiting before.store (batches_moved before.publisher c.publish.new.self moved)
+          (moments_moved before.publisher c.publish.new.self moved) before.lasts;
     }
 
 -- its commit is refused
@@ -33,7 +36,7 @@ pub returns-in-Ok-clause-published : goal.returns-in-Ok-clause-published
 returns-in-Ok-clause-published g c =
     let e = c.in-Ok.ensures in
     published_as c.to_settle.result c.in-Ok.published c.to_settle.ensures
-    (published_behind c.in-Ok.published c.in_default.ensures.committed refl refl e.batch e.told e.shown e.none)
+    (published_behind c.in-Ok.published c.in_default.ensures.committed refl refl refl e.batch e.told e.shown e.none)
 
 -- a commit that was Ok had no batch that finds no room where too few slots are open
 pub returns-in-Ok-clause-few : goal.returns-in-Ok-clause-few
@@ -45,7 +48,7 @@ returns-in-Ok-clause-faults g c = faults_behind c.in_default.field-0 _ c.in_defa
 -- it is committed, and memory ran out for the publish
 pub returns-in-Err-publish-clause-refused : goal.returns-in-Err-publish-clause-refused
 returns-in-Err-publish-clause-refused g c =
-    unpublished_behind c.into.ensures c.in_default.ensures.committed refl refl c.in-Err-publish.ensures.unchanged
+    unpublished_behind c.into.ensures c.in_default.ensures.committed refl refl refl c.in-Err-publish.ensures.unchanged
 
 pub returns-in-Err-publish-clause-why : goal.returns-in-Err-publish-clause-why
 returns-in-Err-publish-clause-why g c = refused_by_memory c.into.ensures
