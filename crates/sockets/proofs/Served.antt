@@ -1,82 +1,200 @@
 -- What desks exchange in conversations, one after another.
-use Rattle.std.proofs.Common.{◌++◌, ℕ, List, [], ◌∷◌, Option, Result, Ok, Err, OnOk, OnErr, refl, sym, subst, append_assoc, append-nil}
+use Rattle.std.proofs.Common.{◌≡◌, ◌∙◌, ◌++◌, ℕ, List, [], ◌∷◌, true, take, drop, Option, Some, Result, Ok, Err, OnOk, OnErr, refl, sym, ap, subst, append_assoc, append-nil, inl}
+use Rattle.std.proofs.lemmas.List.{take-append-drop}
+use mathlib.Core.List.{IsPrefix}
 use Rattle.session.specs.Session.{Session}
 use Rattle.session.specs.Exchange.{Exchange, Shown}
 use Rattle.session.specs.Calls.{Call, Fed, Told, OfPiece, OfNews, with_subscriptions, Calls}
 use Rattle.session.specs.Replies.{Asks}
 use Rattle.session.specs.News.{news_shown, subscriptions_shown}
-use Rattle.session.proofs.CallerLemmas.{asks-joined, calls-joined, calls-one}
-use Rattle.sockets.specs.Conversation.{beginning, IsConversation, StopsIn, InReplies, InNews, InSending, StopsConversing}
-use Rattle.sockets.specs.Desks.{AreAskedInOne, AreAskedInTurn, in_none, in_one_more, HasServed}
+use Rattle.session.specs.Output.{AppendsFront}
+use Rattle.session.proofs.CallerLemmas.{asks-joined, calls-joined, calls-one, front-of, front-behind}
+use Rattle.sockets.specs.declared.parting.Parting.{Parting}
+use Rattle.sockets.specs.declared.parting.Parting.TheVariants.{NoMemory}
+use Rattle.sockets.specs.declared.raw.Visit.{Visit}
+use Rattle.sockets.specs.Socket as socket
+use Rattle.sockets.specs.Socket.{Event, pieces_of, bytes_of}
+use Rattle.sockets.specs.Host.{reads_in, writes_in}
+use Rattle.sockets.specs.Conversation.{beginning, AreTurns, no_turn, turn, Answers, IsAnswered, StopsIn, InReplies, InNews, InSending, StopsConversing}
+use Rattle.sockets.specs.Ends.{EndsBetween, ends_in_write}
+use Rattle.sockets.specs.Desks.{AreTurnsSoFar, no_turn as none_so_far, in_piece, turn_before, IsConversation, Whole, Cut, AreConversations, in_none, in_one_more, Talks, ServesVisits}
 
-asked_joined : (a b : List Exchange) → AreAskedInTurn a → AreAskedInTurn b → AreAskedInTurn (a ++ b)
-asked_joined a b in_none second = second
-asked_joined a b (in_one_more asked others one more) second =
-    subst AreAskedInTurn (sym (append_assoc asked others b)) (in_one_more asked (others ++ b) one (asked_joined others b more second))
+-- turns that were not broken off, and such turns before others
+so_far : (pieces : List (List ℕ)) (calls : List Call) → AreTurns pieces calls → AreTurnsSoFar pieces calls
+so_far pieces calls no_turn = none_so_far
+so_far pieces calls (turn piece others news more for_news rest) = turn_before piece others news more for_news (so_far others more rest)
 
-asked_once : (asked : List Exchange) → AreAskedInOne asked → AreAskedInTurn asked
-asked_once asked one = subst AreAskedInTurn (append-nil asked) (in_one_more asked [] one in_none)
+so_far_behind : (front back : List (List ℕ)) (a b : List Call) → AreTurns front a → AreTurnsSoFar back b → AreTurnsSoFar (front ++ back) (a ++ b)
+so_far_behind front back a b no_turn second = second
+so_far_behind front back a b (turn piece others news more for_news rest) second =
+    turn_before piece (others ++ back) news (more ++ b) for_news (so_far_behind others back more b rest second)
+
+-- a prefix of what was written, where that is a prefix of a text
+prefix_of_front : (sent rest old new text : List ℕ) → old ≡ [] → new ≡ sent ++ rest → AppendsFront (Some old) (Some new) text → IsPrefix sent text
+prefix_of_front sent rest old new text none whole (count, within, front) = (
+  rest ++ drop count text,
+  sym (append_assoc sent rest (drop count text)) ∙ (ap (λ l. l ++ drop count text) (sym whole ∙ (front ∙ ap (λ l. l ++ take count text) none))
+      ∙ take-append-drop count text),
+)
+
+-- conversations, and then others
+conversations_joined : (hall : ℕ) (visits others : List Visit) (a b : List Exchange) → AreConversations hall visits a → AreConversations hall others b
+    → AreConversations hall (visits ++ others) (a ++ b)
+conversations_joined hall visits others a b in_none second = second
+conversations_joined hall visits others a b (in_one_more visit more asked rest one before) second =
+    subst (AreConversations hall (visit ∷ (more ++ others))) (sym (append_assoc asked rest b))
+    (in_one_more visit (more ++ others) asked (rest ++ b) one (conversations_joined hall more others rest b before second))
 
 module _ {D : Type 0} (does : D → Exchange → D → Type 0) where
-  pub served_nobody : (d : D) → HasServed does d d
-  served_nobody d = record { asked = []; asks = refl; conversations = in_none }
+  -- Turns of a session were taken, the last of which was perhaps broken off, and a prefix of what comes of them was written.
+  record Broken (pieces : List (List ℕ)) (old : Session) (d e : D) (o p : Option (List ℕ)) : Type 0 where
+    pub calls : List Call
+    pub asked : List Exchange
+    pub last : Session
+    pub text : List ℕ
+    pub turns : AreTurnsSoFar pieces calls
+    pub comes : Calls old calls asked last text
+    pub asks : Asks does d asked e
+    pub front : AppendsFront o p text
 
-  pub served_more : (d e f : D) → HasServed does d e → HasServed does e f → HasServed does d f
-  served_more d e f first second = record {
-    asked = first.asked ++ second.asked;
-    asks = asks-joined does first.asked second.asked d e f first.asks second.asks;
-    conversations = asked_joined first.asked second.asked first.conversations second.conversations;
+  -- turns whose text wasn't sent on
+  broken_unsent : (pieces : List (List ℕ)) (old new : Session) (d e : D) (o p : Option (List ℕ)) → Answers does old pieces new d e o p
+      → Broken pieces old d e o p
+  broken_unsent pieces old new d e o p answers = record {
+    calls = answers.calls;
+    asked = answers.asked;
+    last = new;
+    text = answers.text;
+    turns = so_far pieces answers.calls answers.turns;
+    comes = answers.comes;
+    asks = answers.asks;
+    front = front-of o p answers.text [] answers.text (append-nil answers.text) answers.written;
   }
 
-  -- what is asked by calls of a session, from its beginning on
-  served_calls : (calls : List Call) (asked : List Exchange) (last : Session) (text : List ℕ) (d e : D) → Calls beginning calls asked last text
-      → Asks does d asked e → HasServed does d e
-  served_calls calls asked last text d e comes asks = record {
-    asked = asked;
-    asks = asks;
-    conversations = asked_once asked (record { calls = calls; last = last; text = text; comes = comes });
-  }
-
-  -- and by further ones after them
-  served_further : (front back : List Call) (a b : List Exchange) (mid last : Session) (t u : List ℕ) (d e f : D) → Calls beginning front a mid t
-      → Asks does d a e → Calls mid back b last u → Asks does e b f → HasServed does d f
-  served_further front back a b mid last t u d e f comes asks more others =
-      served_calls (front ++ back) (a ++ b) last (t ++ u) d f (calls-joined front back beginning mid last a b t u comes more) (asks-joined does a b d e f asks others)
-
-  pub served_whole : (d e : D) (i j o p : Option (List ℕ)) → IsConversation does d e i j o p → HasServed does d e
-  served_whole d e i j o p (last, converses) =
-      let answers = converses.answers in
-      served_calls answers.calls answers.asked last answers.text d e answers.comes answers.asks
-
-  -- of a turn in which a write failed
-  served_stopped : (calls : List Call) (a : List Exchange) (mid : Session) (t : List ℕ) (d e f : D) (o p : Option (List ℕ)) (piece : List ℕ)
-      → Calls beginning calls a mid t → Asks does d a e → StopsIn does mid e o piece f p → HasServed does d f
-  served_stopped calls a mid t d e f o p piece comes asks (InReplies part new g q stops) =
+  -- a turn in which a write failed
+  broken_in : (piece : List ℕ) (old : Session) (d e : D) (o p : Option (List ℕ)) → StopsIn does old d o piece e p → Broken (piece ∷ []) old d e o p
+  broken_in piece old d e o p (InReplies part new g q stops) =
       let fed = stops.fed in
-      served_further calls (Fed stops.front ∷ Fed stops.part ∷ []) a (fed.asked ++ stops.asked) mid stops.next t (fed.text ++ stops.text) d e g comes asks
-      (calls-joined (Fed stops.front ∷ []) (Fed stops.part ∷ []) mid stops.mid stops.next fed.asked stops.asked fed.text stops.text
-      (calls-one mid stops.mid (Fed stops.front) fed.asked fed.text (OfPiece stops.front fed.asked stops.mid fed.text fed.replies))
-      (calls-one stops.mid stops.next (Fed stops.part) stops.asked stops.text (OfPiece stops.part stops.asked stops.next stops.text stops.replies)))
-      (asks-joined does fed.asked stops.asked e stops.desk_mid g fed.asks stops.asks)
-  served_stopped calls a mid t d e f o p piece comes asks (InNews part told new between g replied q fed stops) =
+      record {
+        calls = Fed stops.front ∷ Fed stops.part ∷ [];
+        asked = fed.asked ++ stops.asked;
+        last = stops.next;
+        text = fed.text ++ stops.text;
+        turns = subst (λ (l : List ℕ). AreTurnsSoFar (l ∷ []) (Fed stops.front ∷ Fed stops.part ∷ [])) (sym stops.whole) (in_piece stops.front stops.part stops.rest);
+        comes = calls-joined (Fed stops.front ∷ []) (Fed stops.part ∷ []) old stops.mid stops.next fed.asked stops.asked fed.text stops.text
+            (calls-one old stops.mid (Fed stops.front) fed.asked fed.text (OfPiece stops.front fed.asked stops.mid fed.text fed.replies))
+            (calls-one stops.mid stops.next (Fed stops.part) stops.asked stops.text (OfPiece stops.part stops.asked stops.next stops.text stops.replies));
+        asks = asks-joined does fed.asked stops.asked d stops.desk_mid g fed.asks stops.asks;
+        front = front-behind o stops.out_mid q fed.text stops.text fed.written stops.written;
+      }
+  broken_in piece old d e o p (InNews part told new between g replied q fed stops) =
       let followed = told.peer.subscriptions in
       let news = news_shown followed stops.shown in
       let after = with_subscriptions told (subscriptions_shown followed stops.shown) in
-      served_further calls (Fed part ∷ Told ∷ []) a (fed.asked ++ (Shown stops.shown ∷ [])) mid after t (fed.text ++ news) d e g comes asks
-      (calls-joined (Fed part ∷ []) (Told ∷ []) mid told after fed.asked (Shown stops.shown ∷ []) fed.text news
-      (calls-one mid told (Fed part) fed.asked fed.text (OfPiece part fed.asked told fed.text fed.replies))
-      (calls-one told after Told (Shown stops.shown ∷ []) news (OfNews stops.shown)))
-      (asks-joined does fed.asked (Shown stops.shown ∷ []) e between g fed.asks (g, stops.shows, refl))
-  served_stopped calls a mid t d e f o p piece comes asks (InSending part new g q answers) =
-      served_further calls answers.calls a answers.asked mid new t answers.text d e g comes asks answers.comes answers.asks
+      record {
+        calls = Fed part ∷ Told ∷ [];
+        asked = fed.asked ++ (Shown stops.shown ∷ []);
+        last = after;
+        text = fed.text ++ news;
+        turns = turn_before part [] Told [] (inl refl) none_so_far;
+        comes = calls-joined (Fed part ∷ []) (Told ∷ []) old told after fed.asked (Shown stops.shown ∷ []) fed.text news
+            (calls-one old told (Fed part) fed.asked fed.text (OfPiece part fed.asked told fed.text fed.replies))
+            (calls-one told after Told (Shown stops.shown ∷ []) news (OfNews stops.shown));
+        asks = asks-joined does fed.asked (Shown stops.shown ∷ []) d between g fed.asks (g, stops.shows, refl);
+        front = front-behind o replied q fed.text news fed.written stops.written;
+      }
+  broken_in piece old d e o p (InSending part new g q answers) = broken_unsent (part ∷ []) old new d g o q answers
 
-  pub served_part : (d e : D) (i j o p : Option (List ℕ)) → StopsConversing does beginning d e i j o p → HasServed does d e
-  served_part d e i j o p stops =
-      let answers = stops.answers in
-      served_stopped answers.calls answers.asked stops.mid answers.text d stops.desk_mid e stops.output_mid p stops.piece answers.comes answers.asks stops.stops
+  -- and after others
+  broken_behind : (front back : List (List ℕ)) (old mid : Session) (d e f : D) (o p q : Option (List ℕ)) → Answers does old front mid d e o p
+      → Broken back mid e f p q → Broken (front ++ back) old d f o q
+  broken_behind front back old mid d e f o p q answers broken = record {
+    calls = answers.calls ++ broken.calls;
+    asked = answers.asked ++ broken.asked;
+    last = broken.last;
+    text = answers.text ++ broken.text;
+    turns = so_far_behind front back answers.calls broken.calls answers.turns broken.turns;
+    comes = calls-joined answers.calls broken.calls old mid broken.last answers.asked broken.asked answers.text broken.text answers.comes broken.comes;
+    asks = asks-joined does answers.asked broken.asked d e f answers.asks broken.asks;
+    front = front-behind o p q answers.text broken.text answers.written broken.front;
+  }
 
-  -- a conversation, however it ended
-  pub served_one : {T E : Type 0} (r : Result T E) (d e : D) (i j o p : Option (List ℕ)) → OnOk r (IsConversation does d e i j o p)
-      → OnErr r (StopsConversing does beginning d e i j o p) → HasServed does d e
-  served_one (Ok x) d e i j o p whole part = served_whole d e i j o p whole
-  served_one (Err x) d e i j o p whole part = served_part d e i j o p part
+  module _ (hall : ℕ) where
+    -- with a peer for whom there was no memory
+    pub talks_with_nobody : (visit : Visit) (d : D) → (reads_in visit ≡ []) × (writes_in visit ≡ []) → Talks does hall visit d d
+    talks_with_nobody visit d (reads, writes) = record {
+      asked = [];
+      asks = refl;
+      conversation = Whole NoMemory [] beginning reads (subst (λ l. AreTurns (pieces_of l) []) (sym reads) no_turn) (refl, refl, ap bytes_of writes);
+    }
+
+    -- a conversation that ended between two turns
+    pub talks_whole : (visit : Visit) (why : Parting) (d e : D) (start reads : List Event) (old new : List ℕ) → start ≡ [] → old ≡ []
+        → reads_in visit ≡ reads → bytes_of (writes_in visit) ≡ new → EndsBetween hall why reads
+        → IsAnswered does d e start reads (Some old) (Some new) → Talks does hall visit d e
+    talks_whole visit why d e start reads old new begins none same sent ends (last, converses) =
+        let answers = converses.answers in
+        let read : pieces_of (reads_in visit) ≡ converses.pieces =
+        ap pieces_of same ∙ (converses.read ∙ ap (λ l. pieces_of l ++ converses.pieces) begins) in
+        let text : bytes_of (writes_in visit) ≡ answers.text = sent ∙ (answers.written ∙ ap (λ l. l ++ answers.text) none) in
+        record {
+          asked = answers.asked;
+          asks = answers.asks;
+          conversation = Whole why answers.calls last (subst (EndsBetween hall why) (sym same) ends)
+              (subst (λ l. AreTurns l answers.calls) (sym read) answers.turns)
+              (subst (Calls beginning answers.calls answers.asked last) (sym text) answers.comes);
+        }
+
+    talks_broken : (visit : Visit) (why : Parting) (d e : D) (pieces : List (List ℕ)) (writes : List Event) (old new rest : List ℕ) → old ≡ []
+        → pieces_of (reads_in visit) ≡ pieces → writes_in visit ≡ socket.Closed ∷ writes → new ≡ bytes_of writes ++ rest
+        → ends_in_write why writes ≡ true → Broken pieces beginning d e (Some old) (Some new) → Talks does hall visit d e
+    talks_broken visit why d e pieces writes old new rest none read closed sent ends broken =
+        record {
+          asked = broken.asked;
+          asks = broken.asks;
+          conversation = Cut why writes broken.calls broken.last broken.text closed ends
+              (subst (λ l. AreTurnsSoFar l broken.calls) (sym read) broken.turns) broken.comes
+              (prefix_of_front (bytes_of writes) rest old new broken.text none sent broken.front);
+        }
+
+    -- a conversation in which a write failed
+    talks_cut : (visit : Visit) (why : Parting) (d e : D) (start reads writes : List Event) (old new rest : List ℕ) → start ≡ [] → old ≡ []
+        → reads_in visit ≡ reads → writes_in visit ≡ socket.Closed ∷ writes → new ≡ bytes_of writes ++ rest → ends_in_write why writes ≡ true
+        → StopsConversing does beginning d e start reads (Some old) (Some new) → Talks does hall visit d e
+    talks_cut visit why d e start reads writes old new rest begins none same closed sent ends stops =
+        talks_broken visit why d e (stops.front ++ (stops.piece ∷ [])) writes old new rest none
+        (ap pieces_of same ∙ (stops.read ∙ ap (λ l. pieces_of l ++ (stops.front ++ (stops.piece ∷ []))) begins)) closed sent ends
+        (broken_behind stops.front (stops.piece ∷ []) beginning stops.mid d stops.desk_mid e (Some old) stops.output_mid (Some new) stops.answers
+        (broken_in stops.piece stops.mid stops.desk_mid e stops.output_mid (Some new) stops.stops))
+
+    -- one that had ended, and whose last bytes weren't sent on
+    talks_unsent : (visit : Visit) (why : Parting) (d e : D) (start reads writes : List Event) (old new rest : List ℕ) → start ≡ [] → old ≡ []
+        → reads_in visit ≡ reads → writes_in visit ≡ socket.Closed ∷ writes → new ≡ bytes_of writes ++ rest → ends_in_write why writes ≡ true
+        → IsAnswered does d e start reads (Some old) (Some new) → Talks does hall visit d e
+    talks_unsent visit why d e start reads writes old new rest begins none same closed sent ends (last, converses) =
+        talks_broken visit why d e converses.pieces writes old new rest none
+        (ap pieces_of same ∙ (converses.read ∙ ap (λ l. pieces_of l ++ converses.pieces) begins)) closed sent ends
+        (broken_unsent converses.pieces beginning last d e (Some old) (Some new) converses.answers)
+
+    -- a conversation, however it had ended, where a write failed by its end
+    pub talks_broken_off : {T E : Type 0} (r : Result T E) (visit : Visit) (why : Parting) (d e : D) (start reads writes : List Event) (old new rest : List ℕ)
+        → start ≡ [] → old ≡ [] → reads_in visit ≡ reads → writes_in visit ≡ socket.Closed ∷ writes → new ≡ bytes_of writes ++ rest
+        → ends_in_write why writes ≡ true → OnOk r (IsAnswered does d e start reads (Some old) (Some new))
+        → OnErr r (StopsConversing does beginning d e start reads (Some old) (Some new)) → Talks does hall visit d e
+    talks_broken_off (Ok x) visit why d e start reads writes old new rest begins none same closed sent ends whole part =
+        talks_unsent visit why d e start reads writes old new rest begins none same closed sent ends whole
+    talks_broken_off (Err x) visit why d e start reads writes old new rest begins none same closed sent ends whole part =
+        talks_cut visit why d e start reads writes old new rest begins none same closed sent ends part
+
+    pub served_nobody : (d : D) → ServesVisits does hall [] d d
+    served_nobody d = record { asked = []; asks = refl; conversations = in_none }
+
+    -- one visit more
+    pub served_more : (visits : List Visit) (visit : Visit) (d e f : D) → ServesVisits does hall visits d e → Talks does hall visit e f
+        → ServesVisits does hall (visits ++ (visit ∷ [])) d f
+    served_more visits visit d e f serves talks = record {
+      asked = serves.asked ++ talks.asked;
+      asks = asks-joined does serves.asked talks.asked d e f serves.asks talks.asks;
+      conversations = conversations_joined hall visits (visit ∷ []) serves.asked talks.asked serves.conversations
+          (subst (AreConversations hall (visit ∷ [])) (append-nil talks.asked) (in_one_more visit [] talks.asked [] talks.conversation in_none));
+    }

@@ -1,29 +1,56 @@
 -- What desks exchange with the sessions of those whom they serve.
-use Rattle.std.specs.Prelude.{ℕ, List, [], ◌∷◌, ◌++◌}
+use Rattle.std.specs.Prelude.{◌≡◌, ℕ, true, List, [], ◌∷◌, ◌++◌}
+use mathlib.Core.List.{IsPrefix}
 use Rattle.session.specs.Session.{Session}
 use Rattle.session.specs.Exchange.{Exchange}
-use Rattle.session.specs.Calls.{Call, Calls}
+use Rattle.session.specs.Calls.{Call, Fed, IsForNews, Calls}
 use Rattle.session.specs.Replies.{Asks}
-use Rattle.sockets.specs.Conversation.{beginning}
+use Rattle.sockets.specs.declared.parting.Parting.{Parting}
+use Rattle.sockets.specs.declared.raw.Visit.{Visit}
+use Rattle.sockets.specs.Socket as socket
+use Rattle.sockets.specs.Socket.{Event, pieces_of, bytes_of}
+use Rattle.sockets.specs.Host.{reads_in, writes_in}
+use Rattle.sockets.specs.Conversation.{beginning, AreTurns}
+use Rattle.sockets.specs.Ends.{EndsBetween, ends_in_write}
 
--- These are asked in a conversation: they come of calls of a session, from its beginning on.
-pub record AreAskedInOne (asked : List Exchange) : Type 0 where
-  pub calls : List Call
-  pub last : Session
-  pub text : List ℕ
-  pub comes : Calls beginning calls asked last text
+-- These are turns, the last of which may have been broken off: a part of its piece was fed, and then one part more.
+pub data AreTurnsSoFar : List (List ℕ) → List Call → Type 0 where
+  no_turn : AreTurnsSoFar [] []
+  in_piece : (front part rest : List ℕ) → AreTurnsSoFar ((front ++ (part ++ rest)) ∷ []) (Fed front ∷ Fed part ∷ [])
+  turn_before : (piece : List ℕ) (pieces : List (List ℕ)) (news : Call) (calls : List Call) → IsForNews news → AreTurnsSoFar pieces calls
+      → AreTurnsSoFar (piece ∷ pieces) (Fed piece ∷ news ∷ calls)
 
--- these in conversations, one after another
-pub data AreAskedInTurn : List Exchange → Type 0 where
-  in_none : AreAskedInTurn []
-  in_one_more : (asked others : List Exchange) → AreAskedInOne asked → AreAskedInTurn others → AreAskedInTurn (asked ++ others)
+-- What a peer was sent in a conversation is the replies to what was got of it, in order, and the news, told after each read and each wait,
+-- where these were asked; and it ended for a cause. Where a write failed it was a prefix of that.
+pub data IsConversation (hall : ℕ) (visit : Visit) (asked : List Exchange) : Type 0 where
+  Whole : (why : Parting) (calls : List Call) (last : Session) → EndsBetween hall why (reads_in visit) → AreTurns (pieces_of (reads_in visit)) calls
+      → Calls beginning calls asked last (bytes_of (writes_in visit)) → IsConversation hall visit asked
+  Cut : (why : Parting) (writes : List Event) (calls : List Call) (last : Session) (text : List ℕ) → writes_in visit ≡ socket.Closed ∷ writes
+      → ends_in_write why writes ≡ true → AreTurnsSoFar (pieces_of (reads_in visit)) calls → Calls beginning calls asked last text
+      → IsPrefix (bytes_of writes) text → IsConversation hall visit asked
+
+-- these visits were conversations, one after another, in which these were asked
+pub data AreConversations (hall : ℕ) : List Visit → List Exchange → Type 0 where
+  in_none : AreConversations hall [] []
+  in_one_more : (visit : Visit) (visits : List Visit) (asked others : List Exchange) → IsConversation hall visit asked
+      → AreConversations hall visits others → AreConversations hall (visit ∷ visits) (asked ++ others)
 
 module _ {D : Type 0} (does : D → Exchange → D → Type 0) where
-  -- A desk has served: what passed between it and those whom it served is what is asked in conversations, one after another.
-  pub record HasServed (desk desk' : D) : Type 0 where
+  -- A desk of this hall had a conversation with a peer.
+  pub record Talks (hall : ℕ) (visit : Visit) (desk desk' : D) : Type 0 where
     pub asked : List Exchange
     pub asks : Asks does desk asked desk'
-    pub conversations : AreAskedInTurn asked
+    pub conversation : IsConversation hall visit asked
+
+  -- A desk of this hall has served these visits: what passed between it and those whom it served is what is asked in their conversations, one after another.
+  pub record ServesVisits (hall : ℕ) (visits : List Visit) (desk desk' : D) : Type 0 where
+    pub asked : List Exchange
+    pub asks : Asks does desk asked desk'
+    pub conversations : AreConversations hall visits asked
+
+  -- it has served some
+  abbrev pub HasServed : D → D → Type 0
+  HasServed desk desk' = (hall : ℕ) × (visits : List Visit) × ServesVisits hall visits desk desk'
 
   -- each desk has, in their order
   abbrev pub HaveServed : List D → List D → Type 0

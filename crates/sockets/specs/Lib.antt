@@ -1,3 +1,9 @@
+pub mod Socket
+pub mod Note
+pub mod Within
+pub mod Host
+pub mod Outgoing
+pub mod Ends
 pub mod Conversation
 pub mod Desks
 pub mod Room

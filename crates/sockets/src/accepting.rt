@@ -1,8 +1,8 @@
 //! The loop that takes connections.
 use crate::hall::Hall;
+use crate::raw::Listen;
 use crate::watch::ListenerWatch;
 use std::io::{self, ErrorKind};
-use std::net::{OpenListener, TcpStream};
 use std::sync::Wait;
 use std::thread;
 use std::time::{Clock, Duration};
@@ -27,19 +27,19 @@ const ENOTSOCK: i32 = 88;
 
 /// Takes connections until the listener can't work any more, where there are threads that serve them and as long as the watch asks for it.
 /// Each other error of the listener concerns one connection or may pass: it is waited out, and the next connection is taken then.
-pub fn accept_all<R: Wait + Clock, N: OpenListener<Stream = TcpStream>, W: ListenerWatch>(
+pub fn accept_all<R: Wait + Clock, N: Listen, W: ListenerWatch>(
     rt: &R,
     hall: &Hall,
-    listener: &N,
+    listener: &mut N,
     watch: &W,
 ) {
     let threads = hall.free(rt);
     if !watch.begun(threads) || threads == 0 {
         return;
     }
-    for stream in listener.incoming() {
-        match stream {
-            Ok(stream) => hall.offer(rt, stream),
+    'peers: for _ in rt.forever() {
+        match listener.accept() {
+            Ok(peer) => hall.offer(rt, peer),
             Err(reason) if ends_listener(reason) => {
                 watch.failed(reason);
                 return;

@@ -1,133 +1,153 @@
-//! A conversation: a session over any reader and writer.
-ghost use Rattle.std.specs.Prelude.{◌≡◌, ◌≤◌, [], None, Some, true, false, take, length, Option, IfSome, OnOk, OnErr};
-ghost use Rattle.std.specs.Io.KnownBytes.{Consumes};
+//! A conversation: a session over a connection.
+ghost use Rattle.std.specs.Prelude.{◌≡◌, ◌≤◌, ◌<◌, ◌+◌, ◌++◌, ◌∷◌, ◌⊎◌, ℕ, [], true, false, take, length, IfOk, IfErr, IfSome, OnOk, OnErr};
 ghost use Rattle.session.specs.Replies.{Feeds, Stops};
 ghost use Rattle.session.specs.Shelf.{Fits};
-ghost use Rattle.sockets.specs.Conversation.{beginning, Answers, Converses, IsConversation, StopsConversing, StopsIn};
+ghost use Rattle.sockets.specs.Socket.{pieces_of, waits_of};
+ghost use Rattle.sockets.specs.Host.{reads_of};
+ghost use Rattle.sockets.specs.Ends.{EndsBetween};
+ghost use Rattle.sockets.specs.Conversation.{beginning, Answers, Converses, IsAnswered, StopsConversing, StopsIn};
 
 use crate::hall::Hall;
+use crate::parting::Parting;
 use crate::patience::Patience;
-use crate::pause::is_pause;
+use crate::raw::{Got, HostReader};
 use session::{Desk, Output, Session, SessionEnded, Shelf};
 use std::alloc::Global;
-use std::io::Read;
+use std::sync::Wait;
 
 /// How many bytes are read at once.
 const PIECE: usize = 8192;
 
 /// Has a conversation by a desk, from a session's beginning until the input ends or fails, a write fails, the peer is idle for as long as the
 /// patience with it has, or the hall ends. Where the session is out of memory nothing is read or written.
-pub fn converse<K: Desk, I: Read, O: Output>(
+pub fn converse<'h, K: Desk, O: Output, R: Wait>(
+    rt: &R,
     alloc: Global,
-    hall: &Hall,
+    hall: &'h Hall,
     patience: &mut Patience,
     desk: &mut K,
-    input: &mut I,
+    reader: &mut HostReader,
     output: &mut O,
-) -> Result<(), SessionEnded>
-    // What was written is the replies to what was read, in order, and the news after each piece of it. Whether they are told after a wait
-    // in which nothing came, no clause says.
-    ensures answered { OnOk result (IsConversation K.does desk.old desk.new
-        (I.remaining input.old) (I.remaining input.new) (O.contents output.old) (O.contents output.new)) }
+) -> Result<Parting<'h>, SessionEnded>
+    requires new { reads_of reader.old ≡ [] }
+    requires patient { (patience.old.waited ≡ 0) × (0 < patience.old.limit → 10 ≤ patience.old.limit) }
+    // What was written is the replies to what was read, in order, and the news after each read and each wait.
+    ensures answered { OnOk result (IsAnswered K.does desk.old desk.new (reads_of reader.old) (reads_of reader.new) (O.contents output.old) (O.contents output.new)) }
+    ensures ends { IfOk result (λ why. EndsBetween hall.now.ended.id why (reads_of reader.new)) }
     // A write that fails ends it. What was due before was written, and a prefix of what that write was to write.
     ensures stopped { OnErr result (StopsConversing K.does beginning desk.old desk.new
-        (I.remaining input.old) (I.remaining input.new) (O.contents output.old) (O.contents output.new)) }
+        (reads_of reader.old) (reads_of reader.new) (O.contents output.old) (O.contents output.new)) }
     ensures cause { OnErr result (O.has_failed output.new ≡ true) }
     ensures sent { O.has_failed output.old ≡ false → OnOk result (O.has_failed output.new ≡ false) }
 {
     let Ok(mut session) = Session::new(alloc) else {
-        return Ok(());
+        return Ok(Parting::NoMemory);
     };
     let Ok(mut shelf) = Shelf::new(alloc) else {
-        return Ok(());
+        return Ok(Parting::NoMemory);
     };
     take_turns(
+        rt,
         alloc,
         hall,
         patience,
         &mut session,
         desk,
         &mut shelf,
-        input,
+        reader,
         output,
     )
 }
 
 // Takes turns until the conversation is over.
-fn take_turns<K: Desk, I: Read, O: Output>(
+fn take_turns<'h, K: Desk, O: Output, R: Wait>(
+    rt: &R,
     alloc: Global,
-    hall: &Hall,
+    hall: &'h Hall,
     patience: &mut Patience,
     session: &mut Session,
     desk: &mut K,
     shelf: &mut Shelf,
-    input: &mut I,
+    reader: &mut HostReader,
     output: &mut O,
-) -> Result<(), SessionEnded>
+) -> Result<Parting<'h>, SessionEnded>
     requires fits { Fits (K.reached desk.old) shelf.old }
     requires works { session.old.ended ≡ false }
+    requires patient { (patience.old.waited ≤ waits_of (reads_of reader.old)) × (0 < patience.old.limit → 10 ≤ patience.old.limit) }
     ensures answered { OnOk result (Converses K.does session.old session.new desk.old desk.new
-        (I.remaining input.old) (I.remaining input.new) (O.contents output.old) (O.contents output.new)) }
+        (reads_of reader.old) (reads_of reader.new) (O.contents output.old) (O.contents output.new)) }
+    ensures ends { IfOk result (λ why. EndsBetween hall.now.ended.id why (reads_of reader.new)) }
     ensures stopped { OnErr result (StopsConversing K.does session.old desk.old desk.new
-        (I.remaining input.old) (I.remaining input.new) (O.contents output.old) (O.contents output.new)) }
+        (reads_of reader.old) (reads_of reader.new) (O.contents output.old) (O.contents output.new)) }
     ensures cause { OnErr result (O.has_failed output.new ≡ true) }
     ensures sent { O.has_failed output.old ≡ false → OnOk result (O.has_failed output.new ≡ false) }
 {
     let mut piece = [0; PIECE];
-    'turns: for _ in 0..u64::MAX {
-        if hall.has_ended() || patience.is_over() {
-            return Ok(());
+    'turns: for _ in rt.forever() {
+        if let Some(token) = hall.ended() {
+            return Ok(Parting::Over(token));
         }
-        if !take_turn(
-            alloc, patience, session, desk, shelf, input, &mut piece, output,
+        if patience.is_over() {
+            return Ok(Parting::Idle);
+        }
+        if let Some(why) = take_turn(
+            alloc, patience, session, desk, shelf, reader, &mut piece, output,
         )? {
-            return Ok(());
+            return Ok(why);
         }
     }
-    Ok(())
+    unreachable!()
 }
 
-// Reads what comes into `piece` and answers it. The answer is whether the conversation continues; it does where nothing came in time.
-fn take_turn<K: Desk, I: Read, O: Output>(
+// Reads what comes into `piece` and answers it, also where nothing came in time. `None` where the conversation continues.
+fn take_turn<'h, K: Desk, O: Output>(
     alloc: Global,
     patience: &mut Patience,
     session: &mut Session,
     desk: &mut K,
     shelf: &mut Shelf,
-    input: &mut I,
+    reader: &mut HostReader,
     piece: &mut [u8; PIECE],
     output: &mut O,
-) -> Result<bool, SessionEnded>
+) -> Result<Option<Parting<'h>>, SessionEnded>
     requires fits { Fits (K.reached desk.old) shelf.old }
     requires works { session.old.ended ≡ false }
+    requires patient { patience.old.waited ≤ waits_of (reads_of reader.old) }
     ensures fits { Fits (K.reached desk.new) shelf.new }
     ensures answered { OnOk result (Converses K.does session.old session.new desk.old desk.new
-        (I.remaining input.old) (I.remaining input.new) (O.contents output.old) (O.contents output.new)) }
+        (reads_of reader.old) (reads_of reader.new) (O.contents output.old) (O.contents output.new)) }
+    ensures ends { IfOk result (λ ended. IfSome ended (λ why. (hall : ℕ) → EndsBetween hall why (reads_of reader.new))) }
     ensures stopped { OnErr result (StopsConversing K.does session.old desk.old desk.new
-        (I.remaining input.old) (I.remaining input.new) (O.contents output.old) (O.contents output.new)) }
+        (reads_of reader.old) (reads_of reader.new) (O.contents output.old) (O.contents output.new)) }
     ensures cause { OnErr result (O.has_failed output.new ≡ true) }
     ensures works { OnOk result (session.new.ended ≡ false) }
     ensures sent { O.has_failed output.old ≡ false → OnOk result (O.has_failed output.new ≡ false) }
+    ensures patient { (patience.new.limit ≡ patience.old.limit) × (patience.new.waited ≤ waits_of (reads_of reader.new)) }
 {
-    let Some(count) = read_piece(input, piece) else {
-        return Ok(false);
+    let count = match read_piece(reader, piece) {
+        Ok(count) => count,
+        Err(why) => return Ok(Some(why)),
     };
     answer(alloc, session, desk, shelf, &piece[..count], output)?;
     patience.note(session, &piece[..count]);
-    Ok(true)
+    Ok(None)
 }
 
-// Reads what comes, no byte where nothing came in time. `None` where the input has ended or failed.
-fn read_piece<I: Read>(input: &mut I, piece: &mut [u8; PIECE]) -> Option<usize>
-    ensures within { IfSome result (λ n. n ≤ length piece.new) }
-    ensures given { IfSome result (λ n. Consumes (I.remaining input.old) (I.remaining input.new) (take n piece.new)) }
-    ensures kept { result ≡ None → Consumes (I.remaining input.old) (I.remaining input.new) [] }
+// Reads what comes, no byte where nothing came in time. Refused where the input has ended or failed.
+fn read_piece<'h>(reader: &mut HostReader, piece: &mut [u8; PIECE]) -> Result<usize, Parting<'h>>
+    ensures within { IfOk result (λ count. count ≤ length piece.new) }
+    ensures read { IfOk result (λ count. pieces_of (reads_of reader.new) ≡ pieces_of (reads_of reader.old) ++ (take count piece.new ∷ [])) }
+    ensures waited { IfOk result (λ count. (count ≡ 0) × (waits_of (reads_of reader.new) ≡ waits_of (reads_of reader.old) + 1)
+        ⊎ (1 ≤ count) × (waits_of (reads_of reader.new) ≡ waits_of (reads_of reader.old))) }
+    ensures ends { IfErr result (λ why. (hall : ℕ) → EndsBetween hall why (reads_of reader.new)) }
+    ensures none { OnErr result ((pieces_of (reads_of reader.new) ≡ pieces_of (reads_of reader.old))
+        × (waits_of (reads_of reader.new) ≡ waits_of (reads_of reader.old))) }
 {
-    match input.read(piece) {
-        Ok(0) => None,
-        Ok(count) => Some(count),
-        Err(error) if is_pause(error.kind()) => Some(0),
-        Err(_) => None,
+    match reader.read(piece) {
+        Got::Bytes(count) => Ok(count),
+        Got::Nothing => Ok(0),
+        Got::End => Err(Parting::Ended),
+        Got::Failed => Err(Parting::ReadFailed),
     }
 }
 
@@ -143,7 +163,7 @@ fn answer<K: Desk, O: Output>(
     requires fits { Fits (K.reached desk.old) shelf.old }
     requires works { session.old.ended ≡ false }
     ensures fits { Fits (K.reached desk.new) shelf.new }
-    ensures answered { OnOk result (Answers K.does session.old piece.now session.new desk.old desk.new
+    ensures answered { OnOk result (Answers K.does session.old (piece.now ∷ []) session.new desk.old desk.new
         (O.contents output.old) (O.contents output.new)) }
     ensures stopped { OnErr result (StopsIn K.does session.old desk.old (O.contents output.old) piece.now desk.new
         (O.contents output.new)) }

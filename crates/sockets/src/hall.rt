@@ -1,53 +1,43 @@
 //! Where connections wait for the thread that serves them.
-ghost use Rattle.std.specs.Prelude.{◌≤◌, length};
+ghost use Rattle.std.specs.Prelude.{◌≡◌, ◌≤◌, length, IfSome};
 
+use crate::parting::Parting;
+use crate::raw::HostPeer;
 use crate::watch::Peers;
 use std::alloc::{AllocError, Global};
 use std::collections::VecDeque;
-use std::net::TcpStream;
-use std::sync::atomic::{AtomicBool, AtomicUsize, Ordering};
-use std::sync::{Condvar, Mutex, Wait};
-
-/// How the serving of a connection ended.
-#[derive(Clone, Copy, Debug, PartialEq, Eq)]
-pub enum Parting {
-    /// The peer closed it, a call on it failed, there was no memory for its session, or the hall ended.
-    Over,
-    /// The peer took no byte of what was written to it.
-    Slow,
-    /// The peer was idle.
-    Idle,
-}
+use std::sync::atomic::{AtomicUsize, Ordering};
+use std::sync::{Condvar, Mutex, OnceLock, OnceToken, Wait};
 
 /// The connections that wait, how many threads are free to serve one, and what became of all. No more wait than are free.
 #[derive(Drop)]
 struct Places {
-    streams: VecDeque<TcpStream>,
+    waiting: VecDeque<HostPeer>,
     free: usize,
     ended: bool,
     peers: Peers,
-    ghost served: { length streams.items ≤ free },
+    ghost served: { length waiting.items ≤ free },
 }
 
 impl Places {
     // Lets a connection wait where a thread is free for it, and else closes it.
-    fn offer(&mut self, stream: TcpStream) {
-        if self.streams.len() < self.free {
-            drop(self.streams.push_back(stream));
+    fn offer(&mut self, peer: HostPeer) {
+        if self.waiting.len() < self.free {
+            drop(self.waiting.push_back(peer));
         } else {
             count(&mut self.peers.turned_away);
         }
     }
 
     // Gives the next connection to a thread, which is free no longer.
-    fn take(&mut self) -> Option<TcpStream> {
+    fn take(&mut self) -> Option<HostPeer> {
         if self.ended {
             return None;
         }
-        let stream = self.streams.pop_front()?;
+        let peer = self.waiting.pop_front()?;
         self.free -= 1;
         self.peers.open = self.peers.open.saturating_add(1);
-        Some(stream)
+        Some(peer)
     }
 
     fn free_one(&mut self) {
@@ -55,12 +45,12 @@ impl Places {
     }
 
     // Frees a thread that has served a connection, which ended so.
-    fn leave(&mut self, parting: Parting) {
+    fn leave(&mut self, parting: &Parting<'_>) {
         self.peers.open = self.peers.open.saturating_sub(1);
         match parting {
-            Parting::Over => {}
             Parting::Slow => count(&mut self.peers.slow),
             Parting::Idle => count(&mut self.peers.idle),
+            _ => {}
         }
         self.free_one();
     }
@@ -77,7 +67,7 @@ fn count(number: &mut u64) {
 pub struct Hall {
     places: Mutex<Places>,
     changed: Condvar,
-    ended: AtomicBool,
+    ended: OnceLock<()>,
     /// For how many seconds a peer may be idle; 0 is for ever.
     idle: u32,
     /// The desk that got no thread, by its place among the desks, or a number above all places.
@@ -89,7 +79,7 @@ impl Hall {
     pub fn new(alloc: Global, threads: usize, idle: u32) -> Result<Hall, AllocError> {
         Ok(Hall {
             places: Mutex::new(Places {
-                streams: VecDeque::with_capacity(alloc, threads)?,
+                waiting: VecDeque::with_capacity(alloc, threads)?,
                 free: 0,
                 ended: false,
                 peers: Peers {
@@ -100,7 +90,7 @@ impl Hall {
                 },
             }),
             changed: Condvar::new(),
-            ended: AtomicBool::new(false),
+            ended: OnceLock::new(),
             idle,
             without_thread: AtomicUsize::new(usize::MAX),
         })
@@ -112,7 +102,7 @@ impl Hall {
     }
 
     /// A thread has served a connection, which ended so, and is free to serve another one.
-    pub fn leave(&self, rt: &impl Wait, parting: Parting) {
+    pub fn leave(&self, rt: &impl Wait, parting: &Parting<'_>) {
         self.places.lock(rt).leave(parting);
     }
 
@@ -132,24 +122,24 @@ impl Hall {
     }
 
     /// Hands a connection to a thread that is free, or closes it where none is.
-    pub fn offer(&self, rt: &impl Wait, stream: TcpStream) {
-        self.places.lock(rt).offer(stream);
+    pub fn offer(&self, rt: &impl Wait, peer: HostPeer) {
+        self.places.lock(rt).offer(peer);
         self.changed.notify_one();
     }
 
     /// Waits for a connection, which the calling thread then serves. `None` where the hall has ended.
-    pub fn next(&self, rt: &impl Wait) -> Option<TcpStream> {
+    pub fn next(&self, rt: &impl Wait) -> Option<HostPeer> {
         let mut places = self.changed.wait_while(
             rt,
             self.places.lock(rt),
-            |places| places.streams.is_empty() && !places.ended,
+            |places| places.waiting.is_empty() && !places.ended,
         );
         places.take()
     }
 
     /// Ends the hall: no thread gets a further connection, and each ends the one that it serves.
     pub fn end(&self, rt: &impl Wait) {
-        self.ended.store(true, Ordering::SeqCst);
+        drop(self.ended.set(rt, ()));
         self.places.lock(rt).ended = true;
         self.changed.notify_all();
     }
@@ -164,8 +154,10 @@ impl Hall {
         self.without_thread.load(Ordering::SeqCst) != place
     }
 
-    /// Whether the hall has ended.
-    pub fn has_ended(&self) -> bool {
-        self.ended.load(Ordering::SeqCst)
+    /// The token that the hall has ended, where it has.
+    pub fn ended(&self) -> Option<OnceToken<'_, ()>>
+        ensures { IfSome result (λ token. token.of ≡ self.now.ended.id) }
+    {
+        self.ended.witness()
     }
 }

@@ -17,9 +17,8 @@
 //! ghost use Rattle.sockets.specs.Desks.{HaveServed};
 //!
 //! use session::Desk;
-//! use sockets::{ListenerWatch, serve_desks};
+//! use sockets::{Listen, ListenerWatch, serve_desks};
 //! use std::alloc::{AllocError, Global};
-//! use std::net::{OpenListener, TcpStream};
 //! use std::sync::Wait;
 //! use std::thread::Threads;
 //! use std::time::Clock;
@@ -28,9 +27,9 @@
 //! pub fn serve_in_turn<
 //!     K: Desk + Send + Drop,
 //!     R: Threads + Wait + Clock + Sync,
-//!     N: OpenListener<Stream = TcpStream>,
+//!     N: Listen,
 //!     W: ListenerWatch,
-//! >(rt: &R, alloc: Global, desk: K, listener: &N, watch: &W) -> Result<Vec<K>, AllocError>
+//! >(rt: &R, alloc: Global, desk: K, listener: &mut N, watch: &W) -> Result<Vec<K>, AllocError>
 //!     ensures { IfOk result (λ after. HaveServed K.does (desk ∷ []) after.items) }
 //! {
 //!     let mut desks = Vec::new(alloc);
@@ -58,12 +57,15 @@ mod begun;
 mod connection;
 mod conversation;
 mod hall;
+mod outgoing;
+mod parting;
 mod patience;
 mod pause;
-mod peer;
+mod raw;
 mod serving;
 mod threads;
 mod watch;
 
+pub use raw::{HostListener, HostPeer, Listen, Notes, Visit};
 pub use serving::serve_desks;
 pub use watch::{ListenerWatch, Peers};

@@ -6,11 +6,11 @@ ghost use Rattle.sockets.specs.Desks.{HaveServed};
 use crate::accepting::accept_all;
 use crate::begun::{Begun, end_all};
 use crate::hall::Hall;
+use crate::raw::Listen;
 use crate::threads::{ServedBy, begin_all};
 use crate::watch::ListenerWatch;
 use session::Desk;
 use std::alloc::{AllocError, AllocFailed, Global};
-use std::net::{OpenListener, TcpStream};
 use std::sync::Wait;
 use std::thread::{self, Threads};
 use std::time::Clock;
@@ -23,13 +23,13 @@ use std::time::Clock;
 pub fn serve_desks<
     K: Desk + Send + Drop,
     R: Threads + Wait + Clock + Sync,
-    N: OpenListener<Stream = TcpStream>,
+    N: Listen,
     W: ListenerWatch,
 >(
     rt: &R,
     alloc: Global,
     desks: Vec<K>,
-    listener: &N,
+    listener: &mut N,
     idle: u32,
     watch: &W,
 ) -> Result<Vec<K>, AllocFailed<Vec<K>>>
@@ -64,12 +64,14 @@ impl<K: Desk + Drop> Room<K> {
 }
 
 // A thread for each desk, and the loop that takes connections.
-fn serve_in<
-    K: Desk + Send + Drop,
-    R: Threads + Wait + Clock + Sync,
-    N: OpenListener<Stream = TcpStream>,
-    W: ListenerWatch,
->(rt: &R, alloc: Global, room: Room<K>, desks: Vec<K>, listener: &N, watch: &W) -> Vec<K>
+fn serve_in<K: Desk + Send + Drop, R: Threads + Wait + Clock + Sync, N: Listen, W: ListenerWatch>(
+    rt: &R,
+    alloc: Global,
+    room: Room<K>,
+    desks: Vec<K>,
+    listener: &mut N,
+    watch: &W,
+) -> Vec<K>
     requires begun { HasRoom (vec_len desks) room.begun }
     requires served { HasRoom (vec_len desks) room.served }
     ensures { HaveServed K.does desks.items result.items }

@@ -84,12 +84,11 @@ fn serve_desk<K: Desk + Drop, R: Wait>(
         return desk;
     }
     'peers: for _ in rt.forever() {
-        let Some(stream) = hall.next(rt) else {
+        let Some(peer) = hall.next(rt) else {
             return desk;
         };
-        let parting = serve_peer(alloc, hall, &mut desk, &stream);
-        drop(stream);
-        hall.leave(rt, parting);
+        let (parting, _visit) = serve_peer(rt, alloc, hall, &mut desk, peer);
+        hall.leave(rt, &parting);
     }
     unreachable!()
 }

@@ -1,15 +1,18 @@
-use Rattle.std.proofs.Common.{◌≡◌, false}
+use Rattle.std.proofs.Common.{◌≡◌, ◌≤◌, ◌<◌, false}
 use Rattle.session.specs.Shelf.{Fits}
+use Rattle.sockets.specs.Socket.{waits_of}
+use Rattle.sockets.specs.Host.{reads_of}
 use Rattle.sockets.specs.Conversation.{Converses}
 use Rattle.sockets.proofs.conversation.take_turns.Given as goal
 
--- what was read so far is answered, the shelf fits, and no write has failed
+-- what was read so far is answered, the shelf fits, no write has failed, and the peer was idle for no more than the reads that waited
 abbrev pub invariant-turns : goal.invariant-turns
 invariant-turns g l =
     record {
       fits : Fits (g.K.Desk.reached l.desk) l.shelf;
       works : l.session.ended ≡ false;
       sent : g.O.Output.has_failed l.fn.output ≡ false → g.O.Output.has_failed l.output ≡ false;
-      answered : Converses g.K.Desk.does l.fn.session l.session l.fn.desk l.desk (g.I.Read.remaining l.fn.input) (g.I.Read.remaining l.input)
+      patient : (l.patience.waited ≤ waits_of (reads_of l.reader)) × (0 < l.patience.limit → 10 ≤ l.patience.limit);
+      answered : Converses g.K.Desk.does l.fn.session l.session l.fn.desk l.desk (reads_of l.fn.reader) (reads_of l.reader)
           (g.O.Output.contents l.fn.output) (g.O.Output.contents l.output);
     }

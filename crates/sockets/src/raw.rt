@@ -1,0 +1,237 @@
+//! The calls of a listener and of its connections, one of the system each, noted with what came of it.
+//!
+//! **What is not proved**: that each method here makes the call that it notes, that what it notes is what the system answered, and that the
+//! system brings the bytes that a peer sent, in their order, and takes to it those that are written. So these few lines are to be read. No
+//! other file reads or writes a connection.
+ghost use Rattle.std.specs.Prelude.{◌≡◌, ◌≤◌, List, [], ◌∷◌, length, IfOk, OnOk, OnErr};
+ghost use Rattle.sockets.specs.Socket.{Event, Came, AcceptFailed, Closed, event_of_read, event_of_write};
+ghost use Rattle.sockets.specs.Host.{arrivals_of, reads_of, writes_of, reads_in, writes_in};
+ghost use Rattle.sockets.specs.Within.{IsWithin, IsTaken};
+
+mod notes;
+
+use crate::pause::is_pause;
+pub use notes::Notes;
+use std::alloc::{AllocError, Global};
+use std::io::{self, ErrorKind, Read, Write};
+use std::net::{OpenListener, Shutdown, TcpStream};
+use std::sync::Arc;
+use std::time::Duration;
+
+/// How long a read or a write of a connection waits, in milliseconds.
+const WAIT: u64 = 100;
+
+/// A listener whose calls are kept, with what came of them.
+#[derive(Drop)]
+pub struct HostListener<N> {
+    listener: N,
+    notes: Notes,
+}
+
+impl<N: OpenListener<Stream = TcpStream>> HostListener<N> {
+    /// A listener that has taken nobody yet.
+    pub fn new(listener: N) -> HostListener<N>
+        ensures { arrivals_of result ≡ [] }
+    {
+        HostListener {
+            listener,
+            notes: Notes::new(),
+        }
+    }
+}
+
+impl<N: OpenListener<Stream = TcpStream> + Drop> Listen for HostListener<N> {
+    ghost arrivals = { arrivals_of };
+
+    fn accept(&mut self) -> io::Result<HostPeer> {
+        match self.listener.accept() {
+            Ok((stream, _address)) => {
+                if has_options(&stream) {
+                    self.notes.note_came();
+                    Ok(HostPeer { stream })
+                } else {
+                    self.notes.note_accept_failed();
+                    Err(io::Error::from(ErrorKind::ConnectionAborted))
+                }
+            }
+            Err(reason) => {
+                self.notes.note_accept_failed();
+                Err(reason)
+            }
+        }
+    }
+}
+
+// Sets how long the connection waits. Small replies leave at once.
+fn has_options(stream: &TcpStream) -> bool {
+    let wait = Duration::from_millis(WAIT);
+    stream.set_nodelay(true).is_ok()
+        && stream.set_read_timeout(Some(wait)).is_ok()
+        && stream.set_write_timeout(Some(wait)).is_ok()
+}
+
+/// Takes connections, and keeps what came of that.
+pub trait Listen: Drop {
+    /// The calls, with what came of them, newest first.
+    ghost arrivals: { Self → List Event };
+
+    /// Takes a connection, whose reads and writes wait for 100 milliseconds at most, and from which nothing was read yet. One for which the
+    /// system refuses that is closed, as an error that concerns it alone.
+    fn accept(&mut self) -> io::Result<HostPeer>
+        ensures came { OnOk result (arrivals self.new ≡ Came ∷ arrivals self.old) }
+        ensures failed { OnErr result (arrivals self.new ≡ AcceptFailed ∷ arrivals self.old) };
+}
+
+/// A connection from which nothing was read and to which nothing was written. Dropped, it is closed.
+#[derive(Drop)]
+pub struct HostPeer {
+    stream: TcpStream,
+}
+
+impl HostPeer {
+    /// The half that reads and the half that writes. Refused out of memory alone; the connection is closed then.
+    pub(crate) fn split(self, alloc: Global) -> Result<(HostReader, HostWriter), AllocError>
+        ensures { IfOk result (λ halves. (reads_of halves.0 ≡ []) × (writes_of halves.1 ≡ [])) }
+    {
+        let HostPeer { stream } = self;
+        let stream = Arc::new(alloc, stream)?;
+        let reader = HostReader {
+            stream: stream.clone()?,
+            notes: Notes::new(),
+        };
+        let writer = HostWriter {
+            stream,
+            notes: Notes::new(),
+        };
+        Ok((reader, writer))
+    }
+}
+
+/// What a read brought.
+#[derive(Clone, Copy, Debug, PartialEq, Eq)]
+pub enum Got {
+    /// So many bytes.
+    Bytes(usize),
+    /// None in its time.
+    Nothing,
+    /// None, and none comes any more.
+    End,
+    /// The read failed.
+    Failed,
+}
+
+/// What a write took.
+#[derive(Clone, Copy, Debug, PartialEq, Eq)]
+pub enum Put {
+    /// So many bytes.
+    Bytes(usize),
+    /// None in its time.
+    Nothing,
+    /// The write failed.
+    Failed,
+}
+
+/// The half of a connection that is read.
+#[derive(Drop)]
+pub struct HostReader {
+    stream: Arc<TcpStream>,
+    notes: Notes,
+}
+
+impl HostReader {
+    /// Reads what has come, or what comes in its time.
+    pub(crate) fn read(&mut self, piece: &mut [u8]) -> Got
+        requires { 1 ≤ length piece.old }
+        ensures within { IsWithin result (length piece.new) }
+        ensures noted { reads_of self.new ≡ event_of_read result piece.new ∷ reads_of self.old }
+    {
+        let mut stream = &*self.stream;
+        match stream.read(piece) {
+            Ok(0) => {
+                self.notes.note_input_ended();
+                Got::End
+            }
+            Ok(count) => {
+                self.notes.note_read(&piece[..count]);
+                Got::Bytes(count)
+            }
+            Err(error) if is_pause(error.kind()) => {
+                self.notes.note_read_waited();
+                Got::Nothing
+            }
+            Err(_) => {
+                self.notes.note_read_failed();
+                Got::Failed
+            }
+        }
+    }
+}
+
+/// What a peer was asked: the reads, and the writes.
+#[derive(Drop)]
+pub struct Visit {
+    reads: Notes,
+    writes: Notes,
+}
+
+impl Visit {
+    /// What a peer was asked for whom there was no memory.
+    pub(crate) fn of_nobody() -> Visit
+        ensures { (reads_in result ≡ []) × (writes_in result ≡ []) }
+    {
+        Visit {
+            reads: Notes::new(),
+            writes: Notes::new(),
+        }
+    }
+
+    /// What both halves of a connection were asked, which is closed.
+    pub(crate) fn of(reader: HostReader, writer: HostWriter) -> Visit
+        ensures reads { reads_in result ≡ reads_of reader }
+        ensures writes { writes_in result ≡ writes_of writer }
+    {
+        Visit {
+            reads: reader.notes,
+            writes: writer.notes,
+        }
+    }
+}
+
+/// The half of a connection that is written.
+#[derive(Drop)]
+pub struct HostWriter {
+    stream: Arc<TcpStream>,
+    notes: Notes,
+}
+
+impl HostWriter {
+    /// Writes what the system takes, now or in its time. A write that takes no byte of some has failed.
+    pub(crate) fn write(&mut self, bytes: &[u8]) -> Put
+        ensures within { IsTaken result (length bytes.now) }
+        ensures noted { writes_of self.new ≡ event_of_write result bytes.now ∷ writes_of self.old }
+    {
+        let mut stream = &*self.stream;
+        match stream.write(bytes) {
+            Ok(count) if count > 0 => {
+                self.notes.note_wrote(&bytes[..count]);
+                Put::Bytes(count)
+            }
+            Err(error) if is_pause(error.kind()) => {
+                self.notes.note_write_waited();
+                Put::Nothing
+            }
+            _ => {
+                self.notes.note_write_failed();
+                Put::Failed
+            }
+        }
+    }
+
+    /// Shuts the connection down for both halves.
+    pub(crate) fn close(&mut self)
+        ensures { writes_of self.new ≡ Closed ∷ writes_of self.old }
+    {
+        let _ = self.stream.shutdown(Shutdown::Both);
+        self.notes.note_closed();
+    }
+}
