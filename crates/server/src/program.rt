@@ -21,6 +21,7 @@ use recovery::{Pick, Shape, Store};
 use refusal::Refusal;
 use server_threads::{serve_on, serve_streams};
 use session::Stream;
+use sockets::HostListener;
 use std::alloc::Global;
 use std::convert::AsStr;
 use std::env::Env;
@@ -475,7 +476,16 @@ fn listen<
     };
     let opened = Opened::of(&store, took);
     let watch = Front::new(rt, path, bound, how, opened, output, errors);
-    let (_store, served) = serve_on(rt, rt.alloc(), store, &listener, every, how.idle, &watch);
+    let mut listener = HostListener::new(listener);
+    let (_store, served) = serve_on(
+        rt,
+        rt.alloc(),
+        store,
+        &mut listener,
+        every,
+        how.idle,
+        &watch,
+    );
     Err(watch.ended(how, served))
 }
 

@@ -31,7 +31,7 @@ as_many start (desk ∷ desks) (desk' ∷ after) served = let others = as_many s
 pub unserved : (start : State) (desks : List Desk) → All (λ (desk : Desk). desk ≡ first_desk) desks → EachHasServed start desks
 unserved start desks first =
     All-weaker (λ (desk : Desk). desk ≡ first_desk) (HasServed (PassesAtHub start) first_desk)
-    (λ desk is. record { asked = []; asks = is; conversations = in_none }) desks first
+    (λ desk is. (0, [], record { asked = []; asks = is; conversations = in_none })) desks first
 
 -- a life ends well only where its writing did
 pub well_by : (answer written : Result (Unit {0}) Refusal) → OnOk answer (written ≡ Ok tt) → is_ok answer ≡ true → is_ok written ≡ true

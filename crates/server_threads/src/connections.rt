@@ -20,10 +20,9 @@ use hub_desk::HubDesk;
 use published::{Life, Opened};
 use recovery::Store;
 use refusal::Refusal;
-use sockets::serve_desks;
+use sockets::{Listen, serve_desks};
 use std::alloc::{AllocError, Global};
 use std::marker::Brand;
-use std::net::{OpenListener, TcpStream};
 use std::sync::Wait;
 use std::sync::ledger::Blank;
 use std::thread::Threads;
@@ -44,16 +43,11 @@ const PARTS: u64 = 65;
 ///
 /// The watch is told when somebody can be served, what becomes of the connections, why the listener ended, and of a store that fails, when
 /// it does.
-pub fn serve_on<
-    R: Threads + Wait + Clock + Sync,
-    N: OpenListener<Stream = TcpStream>,
-    D: Disk + Send + Drop,
-    W: Watch<D>,
->(
+pub fn serve_on<R: Threads + Wait + Clock + Sync, N: Listen, D: Disk + Send + Drop, W: Watch<D>>(
     rt: &R,
     alloc: Global,
     store: Store<D>,
-    listener: &N,
+    listener: &mut N,
     every: u32,
     idle: u32,
     watch: &W,
@@ -77,7 +71,7 @@ pub fn serve_on<
 fn serve_run<
     L: Life + Sync + Send,
     R: Threads + Wait + Clock + Sync,
-    N: OpenListener<Stream = TcpStream>,
+    N: Listen,
     D: Disk + Send + Drop,
     W: Watch<D>,
 >(
@@ -86,7 +80,7 @@ fn serve_run<
     store: Store<D>,
     opened: Opened,
     blank: Blank,
-    listener: &N,
+    listener: &mut N,
     every: u32,
     idle: u32,
     watch: &W,
@@ -109,7 +103,7 @@ fn serve_run<
 fn serve_from<
     L: Life + Sync + Send,
     R: Threads + Wait + Clock + Sync,
-    N: OpenListener<Stream = TcpStream>,
+    N: Listen,
     D: Disk + Send + Drop,
     W: Watch<D>,
 >(
@@ -117,7 +111,7 @@ fn serve_from<
     alloc: Global,
     hub: Hub<D, L>,
     server: Server<D, L>,
-    listener: &N,
+    listener: &mut N,
     every: u32,
     idle: u32,
     watch: &W,
@@ -144,7 +138,7 @@ fn serve_from<
 fn hold_at<
     L: Life + Sync + Send,
     R: Threads + Wait + Clock + Sync,
-    N: OpenListener<Stream = TcpStream>,
+    N: Listen,
     D: Disk + Send + Drop,
     W: Watch<D>,
 >(
@@ -152,7 +146,7 @@ fn hold_at<
     alloc: Global,
     hub: &Hub<D, L>,
     server: Server<D, L>,
-    listener: &N,
+    listener: &mut N,
     every: u32,
     idle: u32,
     watch: &W,
@@ -239,14 +233,14 @@ fn serve_all<
     'a,
     L: Life + Sync + Send,
     R: Threads + Wait + Clock + Sync,
-    N: OpenListener<Stream = TcpStream>,
+    N: Listen,
     D: Send + Drop,
     W: Watch<D>,
 >(
     rt: &R,
     alloc: Global,
     desks: Vec<HubDesk<'a, D, L, R>>,
-    listener: &N,
+    listener: &mut N,
     idle: u32,
     watch: &W,
 ) -> (Result<(), AllocError>, Vec<HubDesk<'a, D, L, R>>)

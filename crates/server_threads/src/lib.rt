@@ -35,9 +35,9 @@
 //! use refusal::Refusal;
 //! use server_threads::{Streamed, Watch, serve_on, serve_streams};
 //! use session::Output;
+//! use sockets::Listen;
 //! use std::alloc::Global;
 //! use std::io::Read;
-//! use std::net::{OpenListener, TcpStream};
 //! use std::sync::Wait;
 //! use std::thread::Threads;
 //! use std::time::Clock;
@@ -46,10 +46,10 @@
 //! /// ordered is written.
 //! pub fn serve_store<
 //!     R: Threads + Wait + Clock + Sync,
-//!     N: OpenListener<Stream = TcpStream> + Sync,
+//!     N: Listen,
 //!     D: Disk + Send + Drop,
 //!     W: Watch<D>,
-//! >(rt: &R, alloc: Global, store: Store<D>, listener: &N, watch: &W) -> Result<Store<D>, Refusal>
+//! >(rt: &R, alloc: Global, store: Store<D>, listener: &mut N, watch: &W) -> Result<Store<D>, Refusal>
 //!     ensures { IfOk result (λ after. WasServed (EachHasServed (state_of store)) true store after) }
 //! {
 //!     let (after, served) = serve_on(rt, alloc, store, listener, 256, 0, watch);

@@ -15,10 +15,9 @@ use refusal::Refusal;
 use revision::Command;
 use server_threads::{Streamed, Watch, serve_on, serve_streams};
 use session::{Desk, Output, Reply};
-use sockets::{ListenerWatch, serve_desks};
+use sockets::{Listen, ListenerWatch, serve_desks};
 use std::alloc::{AllocError, Global};
 use std::io::Read;
-use std::net::{OpenListener, TcpStream};
 use std::sync::Wait;
 use std::thread::Threads;
 use std::time::Clock;
@@ -39,9 +38,9 @@ pub fn answer<D, L: Life, R: Wait>(
 pub fn serve_in_turn<
     K: Desk + Send + Drop,
     R: Threads + Wait + Clock + Sync,
-    N: OpenListener<Stream = TcpStream>,
+    N: Listen,
     W: ListenerWatch,
->(rt: &R, alloc: Global, desk: K, listener: &N, watch: &W) -> Result<Vec<K>, AllocError>
+>(rt: &R, alloc: Global, desk: K, listener: &mut N, watch: &W) -> Result<Vec<K>, AllocError>
     ensures { IfOk result (λ after. HaveServed K.does (desk ∷ []) after.items) }
 {
     let mut desks = Vec::new(alloc);
@@ -51,12 +50,13 @@ pub fn serve_in_turn<
 
 /// Serves a store until the listener fails, with milestones at about every 256 revisions, and gives it back where all that was
 /// ordered is written.
-pub fn serve_store<
-    R: Threads + Wait + Clock + Sync,
-    N: OpenListener<Stream = TcpStream> + Sync,
-    D: Disk + Send + Drop,
-    W: Watch<D>,
->(rt: &R, alloc: Global, store: Store<D>, listener: &N, watch: &W) -> Result<Store<D>, Refusal>
+pub fn serve_store<R: Threads + Wait + Clock + Sync, N: Listen, D: Disk + Send + Drop, W: Watch<D>>(
+    rt: &R,
+    alloc: Global,
+    store: Store<D>,
+    listener: &mut N,
+    watch: &W,
+) -> Result<Store<D>, Refusal>
     ensures { IfOk result (λ after. WasServed (EachHasServed (state_of store)) true store after) }
 {
     let (after, served) = serve_on(rt, alloc, store, listener, 256, 0, watch);

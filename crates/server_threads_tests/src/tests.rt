@@ -15,6 +15,7 @@ use kept::Kept;
 use recovery::{Pick, Shape, Store, format_device};
 use refusal::Refusal;
 use server_threads::serve_on;
+use sockets::HostListener;
 use std::io::{self, ErrorKind, Read, Write};
 use std::net::{Net, OpenListener, SocketAddr, TcpListener, TcpStream};
 use std::os::fd::OwnedFd;
@@ -147,14 +148,14 @@ fn served_behind<
         .expect(rt, "a listener that doesn't wait");
     let address = listener.local_addr().expect(rt, "an address");
     let over = AtomicBool::new(false);
-    let until = Until {
+    let mut until = HostListener::new(Until {
         rt,
         listener: &listener,
         passing,
         asked: AtomicUsize::new(0),
         over: &over,
         last,
-    };
+    });
     let seen = Seen::new();
     let (_, ended) = thread::join(
         rt,
@@ -162,7 +163,7 @@ fn served_behind<
             clients(address);
             over.store(true, Ordering::SeqCst);
         },
-        || serve_on(rt, rt.alloc(), store, &until, every, 0, &seen),
+        || serve_on(rt, rt.alloc(), store, &mut until, every, 0, &seen),
     );
     assert_eq!(rt; seen.begins(), 1);
     assert_eq!(rt; seen.ended_by(), last);
@@ -199,13 +200,14 @@ fn served_kept<
 {
     let listener = limited_listener(rt);
     let address = listener.local_addr().expect(rt, "an address");
+    let mut listener = HostListener::new(listener);
     let (_, ended) = thread::join(
         rt,
         || {
             clients(address);
             kept.end();
         },
-        || serve_on(rt, rt.alloc(), store, &listener, EVERY, idle, kept),
+        || serve_on(rt, rt.alloc(), store, &mut listener, EVERY, idle, kept),
     );
     ended
 }

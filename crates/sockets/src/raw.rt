@@ -11,7 +11,7 @@ ghost use Rattle.sockets.specs.Within.{IsWithin, IsTaken};
 mod notes;
 
 use crate::pause::is_pause;
-pub use notes::Notes;
+pub use notes::SocketNotes;
 use std::alloc::{AllocError, Global};
 use std::io::{self, ErrorKind, Read, Write};
 use std::net::{OpenListener, Shutdown, TcpStream};
@@ -25,7 +25,7 @@ const WAIT: u64 = 100;
 #[derive(Drop)]
 pub struct HostListener<N> {
     listener: N,
-    notes: Notes,
+    notes: SocketNotes,
 }
 
 impl<N: OpenListener<Stream = TcpStream>> HostListener<N> {
@@ -35,7 +35,7 @@ impl<N: OpenListener<Stream = TcpStream>> HostListener<N> {
     {
         HostListener {
             listener,
-            notes: Notes::new(),
+            notes: SocketNotes::new(),
         }
     }
 }
@@ -97,11 +97,11 @@ impl HostPeer {
         let stream = Arc::new(alloc, stream)?;
         let reader = HostReader {
             stream: stream.clone()?,
-            notes: Notes::new(),
+            notes: SocketNotes::new(),
         };
         let writer = HostWriter {
             stream,
-            notes: Notes::new(),
+            notes: SocketNotes::new(),
         };
         Ok((reader, writer))
     }
@@ -135,7 +135,7 @@ pub enum Put {
 #[derive(Drop)]
 pub struct HostReader {
     stream: Arc<TcpStream>,
-    notes: Notes,
+    notes: SocketNotes,
 }
 
 impl HostReader {
@@ -170,8 +170,8 @@ impl HostReader {
 /// What a peer was asked: the reads, and the writes.
 #[derive(Drop)]
 pub struct Visit {
-    reads: Notes,
-    writes: Notes,
+    reads: SocketNotes,
+    writes: SocketNotes,
 }
 
 impl Visit {
@@ -180,8 +180,8 @@ impl Visit {
         ensures { (reads_in result ≡ []) × (writes_in result ≡ []) }
     {
         Visit {
-            reads: Notes::new(),
-            writes: Notes::new(),
+            reads: SocketNotes::new(),
+            writes: SocketNotes::new(),
         }
     }
 
@@ -201,7 +201,7 @@ impl Visit {
 #[derive(Drop)]
 pub struct HostWriter {
     stream: Arc<TcpStream>,
-    notes: Notes,
+    notes: SocketNotes,
 }
 
 impl HostWriter {

@@ -28,20 +28,20 @@ const CLOSED: u64 = 9;
 
 /// A list of events, newest first. It takes no memory.
 #[derive(Drop)]
-pub struct Notes {
+pub struct SocketNotes {
     marker: PhantomData<u8>,
     pub ghost events: { List Event },
 }
 
-impl Model for Notes {
+impl Model for SocketNotes {
     ghost also_owns = { λ _. ftrue };
 }
 
-impl Notes {
-    pub(super) fn new() -> Notes
+impl SocketNotes {
+    pub(super) fn new() -> SocketNotes
         ensures { result.events ≡ [] }
     {
-        Notes {
+        SocketNotes {
             marker: PhantomData,
         }
     }

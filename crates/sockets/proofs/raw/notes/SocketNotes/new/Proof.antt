@@ -21,18 +21,18 @@ use denote.Triple.Entry.{on_entry}
 use denote.Triple.Spec.{Meets, triple_of}
 use denote.Triple.Table.{entered}
 use denote.Triple.Walked.{says, ends_at, walked, walk_Meets}
-use Rattle.sockets.specs.declared.raw.notes.Notes.{Notes}
-use Rattle.sockets.specs.contracts.raw.notes.Notes as kind
-use Rattle.sockets.specs.contracts.raw.notes.Notes.new.Key.{name as #new}
-use Rattle.sockets.specs.contracts.raw.notes.Notes.new as contract_of
-use Rattle.sockets.proofs.raw.notes.Notes.new.Statement as stated
-use Rattle.sockets.proofs.raw.notes.Notes.new.Code as code
+use Rattle.sockets.specs.declared.raw.notes.SocketNotes.{SocketNotes}
+use Rattle.sockets.specs.contracts.raw.notes.SocketNotes as kind
+use Rattle.sockets.specs.contracts.raw.notes.SocketNotes.new.Key.{name as #new}
+use Rattle.sockets.specs.contracts.raw.notes.SocketNotes.new as contract_of
+use Rattle.sockets.proofs.raw.notes.SocketNotes.new.Statement as stated
+use Rattle.sockets.proofs.raw.notes.SocketNotes.new.Code as code
 
 -- what is returned, as memory has it and as clauses see it
 abbrev made : Val
 made = vstruct (vcons (vstruct vnil) vnil)
 
-abbrev shown : Notes
+abbrev shown : SocketNotes
 shown = record { marker = record {}; events = [] }
 
 meets : {M : Type 1} {𝓤 : Ura M} (𝓛 : Logic 𝓤) → (at_mem : Memory → SProp 𝓤) (run : Routine → Fun 𝓤) (𝓣 : Tables 𝓤 𝓛.H)

@@ -28,29 +28,29 @@ use denote.Triple.Entry.{on_entry}
 use denote.Triple.Spec.{Meets, triple_of}
 use denote.Triple.Table.{entered}
 use denote.Triple.Walked.{says, Stays, stay_ref, stay_none_slice, walk_of, AllGo, Goes-ref, Goes-none_slice, Walks, ends_at, walked, walk_Meets}
-use Rattle.sockets.specs.declared.raw.notes.Notes.{Notes}
+use Rattle.sockets.specs.declared.raw.notes.SocketNotes.{SocketNotes}
 use Rattle.sockets.specs.Note.{event_of}
-use Rattle.sockets.specs.contracts.raw.notes.Notes as kind
-use Rattle.sockets.specs.contracts.raw.notes.Notes.note.Key.{name as #note}
-use Rattle.sockets.specs.contracts.raw.notes.Notes.note as contract_of
-use Rattle.sockets.proofs.raw.notes.Notes.note.Statement as stated
-use Rattle.sockets.proofs.raw.notes.Notes.note.Code as code
+use Rattle.sockets.specs.contracts.raw.notes.SocketNotes as kind
+use Rattle.sockets.specs.contracts.raw.notes.SocketNotes.note.Key.{name as #note}
+use Rattle.sockets.specs.contracts.raw.notes.SocketNotes.note as contract_of
+use Rattle.sockets.proofs.raw.notes.SocketNotes.note.Statement as stated
+use Rattle.sockets.proofs.raw.notes.SocketNotes.note.Code as code
 
 -- the record, the numbers and the bytes
 abbrev Arguments : Type 0
-Arguments = MutBor Notes × (Bor (List ℕ) × (Bor (List ℕ) × Unit {0}))
+Arguments = MutBor SocketNotes × (Bor (List ℕ) × (Bor (List ℕ) × Unit {0}))
 
 abbrev stayed : Stays (contract_of.ended).signature.params (contract_of.ended).kept
 stayed = (stay_ref (0 ∷ []) tt (plain (λ _. kind.the_row)), (stay_none_slice (1 ∷ []) tt (plain (λ _. u64)) yes, (stay_none_slice (2 ∷ []) tt (plain (λ _. u8)) yes, tt)))
 
-module _ {M : Type 1} {𝓤 : Ura M} (𝓛 : Logic 𝓤) (at_mem : Memory → SProp 𝓤) (run : Routine → Fun 𝓤) (κ κ₁ κ₂ : Lft) (q q₁ q₂ : Share) (block offset : ℕ) (γ : GName) (old : Notes) (numbers bytes : Bor (List ℕ)) where
+module _ {M : Type 1} {𝓤 : Ura M} (𝓛 : Logic 𝓤) (at_mem : Memory → SProp 𝓤) (run : Routine → Fun 𝓤) (κ κ₁ κ₂ : Lft) (q q₁ q₂ : Share) (block offset : ℕ) (γ : GName) (old : SocketNotes) (numbers bytes : Bor (List ℕ)) where
   open 𝓛 use {H, A}
 
   abbrev arguments : Arguments
   arguments = (record { ref_ptr = (block, offset); ghost_name = γ; now = old }, (numbers, (bytes, tt)))
 
   -- the record behind the borrow at the end
-  abbrev new : Notes
+  abbrev new : SocketNotes
   new = record { marker = old.marker; events = event_of numbers.now bytes.now ∷ old.events }
 
   abbrev values : List Val × (List Val × (List Val × Unit {0}))
