@@ -55,7 +55,7 @@ TWICE = {
     "Action", "Ahead", "Answer", "AreMarked", "AreParts", "Batch", "Begun", "Board", "Call", "Change", "ComesOf", "Command", "Content", "Cursor",
     "Desk", "Ended", "Event", "Exchange", "Fits", "FitsNow", "Found", "Front", "HasRoom", "IsAppended", "IsFree", "IsKeptFrom", "IsNext",
     "IsPart", "IsReadAs", "IsStep", "IsWritten", "Kept", "Key", "Kind", "Limits", "Log", "Mark", "Moment", "Moments", "News",
-    "Nothing", "Opened", "Order", "Part", "Peer", "Place", "Record", "Reply", "Run", "Sent", "Shown", "Shows", "Spells", "Stands",
+    "Nothing", "Opened", "Order", "Part", "Place", "Record", "Reply", "Run", "Sent", "Shown", "Shows", "Spells", "Stands",
     "StandsFor", "State", "Step", "Stops", "Tally", "Ticket", "Told", "Waiting", "Written",
 }
 

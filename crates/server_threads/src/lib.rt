@@ -44,12 +44,13 @@
 //!
 //! /// Serves a store until the listener fails, with milestones at about every 256 revisions, and gives it back where all that was
 //! /// ordered is written.
-//! pub fn serve_store<
-//!     R: Threads + Wait + Clock + Sync,
-//!     N: Listen,
-//!     D: Disk + Send + Drop,
-//!     W: Watch<D>,
-//! >(rt: &R, alloc: Global, store: Store<D>, listener: &mut N, watch: &W) -> Result<Store<D>, Refusal>
+//! pub fn serve_store<R: Threads + Wait + Clock + Sync, N: Listen, D: Disk + Send + Drop, W: Watch<D>>(
+//!     rt: &R,
+//!     alloc: Global,
+//!     store: Store<D>,
+//!     listener: &mut N,
+//!     watch: &W,
+//! ) -> Result<Store<D>, Refusal>
 //!     ensures { IfOk result (λ after. WasServed (EachHasServed (state_of store)) true store after) }
 //! {
 //!     let (after, served) = serve_on(rt, alloc, store, listener, 256, 0, watch);

@@ -46,7 +46,7 @@ conversations_joined hall visits others a b (in_one_more visit more asked rest o
     (in_one_more visit (more ++ others) asked (rest ++ b) one (conversations_joined hall more others rest b before second))
 
 module _ {D : Type 0} (does : D → Exchange → D → Type 0) where
-  -- Turns of a session were taken, the last of which was perhaps broken off, and a prefix of what comes of them was written.
+  -- Turns of a session were taken, and the last one was perhaps broken off; a prefix of what comes of them was written.
   record Broken (pieces : List (List ℕ)) (old : Session) (d e : D) (o p : Option (List ℕ)) : Type 0 where
     pub calls : List Call
     pub asked : List Exchange

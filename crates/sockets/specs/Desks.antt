@@ -13,7 +13,7 @@ use Rattle.sockets.specs.Host.{reads_in, writes_in}
 use Rattle.sockets.specs.Conversation.{beginning, AreTurns}
 use Rattle.sockets.specs.Ends.{EndsBetween, ends_in_write}
 
--- These are turns, the last of which may have been broken off: a part of its piece was fed, and then one part more.
+-- These are turns, and the last one may have been broken off: a part of its piece was fed, and then one part more.
 pub data AreTurnsSoFar : List (List ℕ) → List Call → Type 0 where
   no_turn : AreTurnsSoFar [] []
   in_piece : (front part rest : List ℕ) → AreTurnsSoFar ((front ++ (part ++ rest)) ∷ []) (Fed front ∷ Fed part ∷ [])

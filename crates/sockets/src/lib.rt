@@ -40,16 +40,17 @@
 //!
 //! # What is proved
 //!
-//! A conversation is a session over any reader and writer: what it writes is the replies to what it read, in order, and the news after
-//! each piece of it; and where a write fails, what was due before and a prefix of what that write was to write
-//! (`specs/Conversation.antt`, `converse`). That the news are told after a wait too in which nothing came is tested. `serve_desks` gives its desks back in their order, each with what it exchanged: what is asked in
-//! conversations, one after another (`specs/Desks.antt`). No connection waits for a thread that isn't free (the hall's own invariant), and a
-//! shelf stays right of what its desk shows.
+//! Each call of the system on the listener and on a connection is made in one file, `raw.rt`, and noted with what came of it, where clauses
+//! read it alone (`specs/Socket.antt`). A conversation is said of these notes (`specs/Desks.antt`, `IsConversation`): what was written to a peer is the
+//! replies to the bytes that were read from it, in order, and the news after each read, also one that waited in vain; it ended since the
+//! peer sends nothing more, since a read or a write failed, since the peer was idle for a second or longer, since it took no byte in 50 writes, since
+//! the hall had ended, or since there was no memory for a session, before anything was read or written; and where it ended in a write, a prefix of what was due is
+//! written. `serve_desks` gives its desks back in their order, each with what it exchanged: what is asked in conversations, one after
+//! another. No connection waits for a thread that isn't free (the hall's own invariant), and a shelf stays right of what its desk shows.
 //!
-//! Of the bytes of a socket a contract can say no more than counts. So a desk's conversations are some conversations, whoever had them; and
-//! that a connection is given to a conversation and nothing else is written to it (`connection.rt`), that connections are served, closed and
-//! given places again is tested. So is which error of the listener is waited out: the listener is a parameter, so that a test can give one
-//! that fails.
+//! A desk's conversations are some conversations: no clause says that they are those of all who connected. That each connection is given to a
+//! conversation, that connections are served, closed and given places again is tested. So is which error of the listener is waited out: the
+//! listener is a parameter, so that a test can give one that fails. What `raw.rt` notes is what the system answered: its few lines are to be read.
 #![tactic(auto)]
 
 mod accepting;
