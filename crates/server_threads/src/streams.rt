@@ -44,8 +44,9 @@ pub struct Streamed<I, O, D: Disk> {
 /// command is on the disk. Then what was ordered is written, the thread has ended, and the store and the streams are given back.
 /// Milestones of a document are made at multiples of `every` revisions, as composers come to it; 0 makes none.
 ///
-/// It ends at once where a stream fails (`Stream`), else with `StoreFailed` where the store has failed by then; and with `NoMemory` before
-/// it takes any of the input, also where the system gives no thread to write in. The watch is told of a store that fails, when it does.
+/// It ends at once where a stream fails (`Stream`, which comes of nothing else), else with `StoreFailed` where the store has failed by then;
+/// and with `NoMemory` before it takes any of the input, also where the system gives no thread to write in. The watch is told of a store
+/// that fails, when it does.
 pub fn serve_streams<
     R: Threads + Wait + Sync,
     I: Input + Drop,

@@ -40,7 +40,7 @@ pub struct InputStream<I> {
 impl<I: Read> InputStream<I> {
     ghost use Rattle.serving.specs.InputView.{reader_of, failed_of};
 
-    /// An input over a reader, of which no read has failed.
+    /// An input over a reader that hasn't failed.
     pub fn new(reader: I) -> InputStream<I>
         ensures reader { reader_of result ≡ reader }
         ensures works { failed_of result ≡ false }
