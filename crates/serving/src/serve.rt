@@ -74,11 +74,10 @@ fn serve_piece<K: Desk, I: Input, O: Output>(
     ensures only { IfErr result (λ e. e ≡ ServingError.Stream) }
 {
     let mut piece = [0; PIECE];
-    let Ok(read) = input.read(&mut piece) else {
-        return Err(ServingError::Stream);
-    };
-    let Some(count) = read else {
-        return Ok(true);
+    let count = match input.read(&mut piece) {
+        Ok(Some(count)) => count,
+        Ok(None) => return Ok(true),
+        Err(_) => return Err(ServingError::Stream),
     };
     feed_all(alloc, session, desk, shelf, &piece[..count], output)?;
     flush(output)?;
