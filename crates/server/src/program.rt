@@ -20,6 +20,7 @@ use migration::{Copied, Numbered, Old, has_room_for, shape_of};
 use recovery::{Pick, Shape, Store};
 use refusal::Refusal;
 use server_threads::{serve_on, serve_streams};
+use serving::InputStream;
 use session::Stream;
 use sockets::HostListener;
 use std::alloc::Global;
@@ -442,6 +443,7 @@ fn serve_alone<'a, R: AllocGlobal + Threads + Wait + Sync, I: Read, O: Write, E:
     errors: &mut E,
 ) -> Result<(), Ended<'a>> {
     let watch = Alone::new(rt, path, errors);
+    let input = InputStream::new(input);
     let output = Stream::new(output);
     let streamed = serve_streams(rt, rt.alloc(), store, input, output, every, &watch);
     Ok(streamed.served?)

@@ -4,10 +4,10 @@ ghost use Rattle.std.specs.String.{string_bytes};
 ghost use Rattle.std.specs.Io.KnownBytes.{IsAtEnd};
 
 use refusal::Refusal;
-use serving::{ServingError, serve_session};
+use serving::{Input, ServingError, serve_session};
 use session::{Desk, Output, Session, Shelf};
 use std::alloc::Global;
-use std::io::Read;
+use std::sync::Wait;
 use words::Invocation;
 
 /// The text with a line end, refused where it is too long for a line.
@@ -37,7 +37,8 @@ pub fn file_in<'a>(alloc: Global, words: &'a [&'a str]) -> Result<Option<&'a str
 }
 
 /// Serves a whole session, from its beginning to the end of the input. Then all that was written is sent on.
-pub fn serve_whole<K: Desk, I: Read, O: Output>(
+pub fn serve_whole<R: Wait, K: Desk, I: Input, O: Output>(
+    rt: &R,
     alloc: Global,
     desk: &mut K,
     input: &mut I,
@@ -48,5 +49,5 @@ pub fn serve_whole<K: Desk, I: Read, O: Output>(
 {
     let mut session = Session::new(alloc)?;
     let mut shelf = Shelf::new(alloc)?;
-    serve_session(alloc, &mut session, desk, &mut shelf, input, output)
+    serve_session(rt, alloc, &mut session, desk, &mut shelf, input, output)
 }

@@ -78,12 +78,12 @@ holds_all start answered mid batches content asks told grow begins =
         (all_stand start first_desk mid answered mid.told asks (prefix_self mid.told) (grow_first start mid.told batches told grow))
 
 -- what was served of a session up to where a stream failed is what was served from its beginning
-from_first : (start : State) (old new : Session) (desk desk' : Desk) (input input' output output' : Option (List ℕ)) (failed : Bool)
-    → old ≡ beginning → (failed ≡ true) ⊎ Serves (PassesAtHub start) old new desk desk' input input' output output'
-    → (failed ≡ true) ⊎ IsServedSoFar (PassesAtHub start) desk desk' input input' output output'
-from_first start old new desk desk' input input' output output' failed same (inl failing) = inl failing
-from_first start old new desk desk' input input' output output' failed same (inr serves) =
-    inr (new, subst (λ (s : Session). Serves (PassesAtHub start) s new desk desk' input input' output output') same serves)
+from_first : (start : State) (old new : Session) (desk desk' : Desk) (input input' output output' : Option (List ℕ)) (in_failed out_failed : Bool)
+    → old ≡ beginning → (out_failed ≡ true) ⊎ ((in_failed ≡ true) × Serves (PassesAtHub start) old new desk desk' input input' output output')
+    → (out_failed ≡ true) ⊎ ((in_failed ≡ true) × IsServedSoFar (PassesAtHub start) desk desk' input input' output output')
+from_first start old new desk desk' input input' output output' in_failed out_failed same (inl failing) = inl failing
+from_first start old new desk desk' input input' output output' in_failed out_failed same (inr (failing, serves)) =
+    inr (failing, new, subst (λ (s : Session). Serves (PassesAtHub start) s new desk desk' input input' output output') same serves)
 
 -- a session that was served from its beginning, at a desk at its own
 pub answered_whole : (start : State) (old new : Session) (desk desk' : Desk) (input input' output output' : Option (List ℕ)) (result : Result (Unit {0}) ServingError)
@@ -101,18 +101,18 @@ answered_whole start old new desk desk' input input' output output' (Ok answer) 
 answered_whole start old new desk desk' input input' output output' (Err failure) same first serves end = tt
 
 -- one that a stream stopped
-pub stops_there : (start : State) (old new : Session) (desk desk' : Desk) (input input' output output' : Option (List ℕ)) (failed : Bool) (result : Result (Unit {0}) ServingError)
+pub stops_there : (start : State) (old new : Session) (desk desk' : Desk) (input input' output output' : Option (List ℕ)) (in_failed out_failed : Bool) (result : Result (Unit {0}) ServingError)
     → old ≡ beginning → desk ≡ first_desk → OnErr result (StopsServing (PassesAtHub start) old desk desk' input input' output output')
-    → OnErr result ((failed ≡ true) ⊎ Serves (PassesAtHub start) old new desk desk' input input' output output')
-    → OnErr result (StopsAtHub start input input' output output' failed desk')
-stops_there start old new desk desk' input input' output output' failed (Ok answer) same first stops cause = tt
-stops_there start old new desk desk' input input' output output' failed (Err failure) same first stops cause = record {
+    → OnErr result ((out_failed ≡ true) ⊎ ((in_failed ≡ true) × Serves (PassesAtHub start) old new desk desk' input input' output output'))
+    → OnErr result (StopsAtHub start input input' output output' in_failed out_failed desk')
+stops_there start old new desk desk' input input' output output' in_failed out_failed (Ok answer) same first stops cause = tt
+stops_there start old new desk desk' input input' output output' in_failed out_failed (Err failure) same first stops cause = record {
   stops =
       subst (λ (d : Desk). StopsServing (PassesAtHub start) beginning d desk' input input' output output') first
       (subst (λ (s : Session). StopsServing (PassesAtHub start) s desk desk' input input' output output') same stops);
   cause =
-      subst (λ (d : Desk). (failed ≡ true) ⊎ IsServedSoFar (PassesAtHub start) d desk' input input' output output') first
-      (from_first start old new desk desk' input input' output output' failed same cause);
+      subst (λ (d : Desk). (out_failed ≡ true) ⊎ ((in_failed ≡ true) × IsServedSoFar (PassesAtHub start) d desk' input input' output output')) first
+      (from_first start old new desk desk' input input' output output' in_failed out_failed same cause);
 }
 
 module _ {D : Type 0} {disk : Ghosts D} where

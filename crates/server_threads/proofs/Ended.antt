@@ -15,23 +15,25 @@ use Rattle.server_threads.specs.Streams.{ByOne, EndsAtHub, first_of}
 use Rattle.server_threads.proofs.Answered.{answered_whole, stops_there}
 
 -- a session that was served from its beginning on, at a desk at its own
-pub ends_at_hub : (start : State) (old new : Session) (desk desk' : Desk) (input input' output output' : Option (List ℕ)) (failed : Bool) (result : Result (Unit {0}) ServingError)
+pub ends_at_hub : (start : State) (old new : Session) (desk desk' : Desk) (input input' output output' : Option (List ℕ)) (in_failed out_failed : Bool) (result : Result (Unit {0}) ServingError)
     → old ≡ beginning → desk ≡ first_desk → OnOk result (Serves (PassesAtHub start) old new desk desk' input input' output output') → OnOk result (IsAtEnd input')
     → OnErr result (StopsServing (PassesAtHub start) old desk desk' input input' output output')
-    → OnErr result ((failed ≡ true) ⊎ Serves (PassesAtHub start) old new desk desk' input input' output output')
-    → OnOk result (failed ≡ false) → IfErr result (λ e. e ≡ Stream) → EndsAtHub result start input input' output output' failed desk'
-ends_at_hub start old new desk desk' input input' output output' failed (Ok answer) same first serves end stops cause sent only =
-    (answered_whole start old new desk desk' input input' output output' (Ok answer) same first serves end, sent)
-ends_at_hub start old new desk desk' input input' output output' failed (Err failure) same first serves end stops cause sent only =
-    subst (λ (f : ServingError). EndsAtHub (Err f) start input input' output output' failed desk') (sym only)
-    (stops_there start old new desk desk' input input' output output' failed (Err failure) same first stops cause)
+    → OnErr result ((out_failed ≡ true) ⊎ ((in_failed ≡ true) × Serves (PassesAtHub start) old new desk desk' input input' output output'))
+    → OnOk result (in_failed ≡ false) → OnOk result (out_failed ≡ false) → IfErr result (λ e. e ≡ Stream)
+    → EndsAtHub result start input input' output output' in_failed out_failed desk'
+ends_at_hub start old new desk desk' input input' output output' in_failed out_failed (Ok answer) same first serves end stops cause read sent only =
+    (answered_whole start old new desk desk' input input' output output' (Ok answer) same first serves end, read, sent)
+ends_at_hub start old new desk desk' input input' output output' in_failed out_failed (Err failure) same first serves end stops cause read sent only =
+    subst (λ (f : ServingError). EndsAtHub (Err f) start input input' output output' in_failed out_failed desk') (sym only)
+    (stops_there start old new desk desk' input input' output output' in_failed out_failed (Err failure) same first stops cause)
 
 -- the store may have failed besides
-pub ends_with : (start : State) (input input' output output' : Option (List ℕ)) (failed : Bool) (answer : Result (Unit {0}) ServingError) (written : Result (Unit {0}) Refusal) (last : Desk)
-    → EndsAtHub answer start input input' output output' failed last → EndsAtHub (first_of answer written) start input input' output output' failed last
-ends_with start input input' output output' failed (Ok answer) (Ok written) last ends = ends
-ends_with start input input' output output' failed (Ok answer) (Err refusal) last ends = inl (refl, ends.0, ends.1)
-ends_with start input input' output output' failed (Err failure) written last ends = ends
+pub ends_with : (start : State) (input input' output output' : Option (List ℕ)) (in_failed out_failed : Bool) (answer : Result (Unit {0}) ServingError) (written : Result (Unit {0}) Refusal) (last : Desk)
+    → EndsAtHub answer start input input' output output' in_failed out_failed last
+    → EndsAtHub (first_of answer written) start input input' output output' in_failed out_failed last
+ends_with start input input' output output' in_failed out_failed (Ok answer) (Ok written) last ends = ends
+ends_with start input input' output output' in_failed out_failed (Ok answer) (Err refusal) last ends = inl (refl, ends.0, ends.1, ends.2)
+ends_with start input input' output output' in_failed out_failed (Err failure) written last ends = ends
 
 pub well_with : (answer : Result (Unit {0}) ServingError) (written : Result (Unit {0}) Refusal) → is_ok (first_of answer written) ≡ true → is_ok written ≡ true
 well_with (Ok answer) (Ok written) well = refl
@@ -50,9 +52,9 @@ pub by_one : (P Q : Desk → Type 0) → ((desk : Desk) → P desk → Q desk) �
 by_one P Q more desks one = record { last = one.last; one = one.one; session = more one.last one.session }
 
 -- nothing was asked, out of memory
-pub nothing_asked : (start : State) (input output : Option (List ℕ)) (failed : Bool) (refusal : Refusal) → refusal ≡ NoMemory
-    → ByOne (EndsAtHub (Err (Refused refusal)) start input input output output failed) (first_desk ∷ [])
-nothing_asked start input output failed refusal memory = record { last = first_desk; one = refl; session = inr (memory, refl) }
+pub nothing_asked : (start : State) (input output : Option (List ℕ)) (in_failed out_failed : Bool) (refusal : Refusal) → refusal ≡ NoMemory
+    → ByOne (EndsAtHub (Err (Refused refusal)) start input input output output in_failed out_failed) (first_desk ∷ [])
+nothing_asked start input output in_failed out_failed refusal memory = record { last = first_desk; one = refl; session = inr (memory, refl) }
 
 -- a store that worked works where serving ended well
 works_ended : (old new : Bool) (written : Unit {0}) → (old ≡ false → (new ≡ true ↔ IsErrOf {T = Unit {0}} (Ok written) Fault)) → old ≡ false → new ≡ false

@@ -34,10 +34,10 @@
 //! use recovery::Store;
 //! use refusal::Refusal;
 //! use server_threads::{Streamed, Watch, serve_on, serve_streams};
+//! use serving::Input;
 //! use session::Output;
 //! use sockets::Listen;
 //! use std::alloc::Global;
-//! use std::io::Read;
 //! use std::sync::Wait;
 //! use std::thread::Threads;
 //! use std::time::Clock;
@@ -61,7 +61,7 @@
 //! /// Serves one session over a pair of streams: its output is the replies to its input, and the store holds all that its desk acknowledged.
 //! pub fn serve_session<
 //!     R: Threads + Wait + Sync,
-//!     I: Read + Drop,
+//!     I: Input + Drop,
 //!     O: Output + Drop,
 //!     D: Disk + Send + Drop,
 //!     W: Watch<D>,
@@ -75,7 +75,7 @@
 //! ) -> Streamed<I, O, D>
 //!     ensures { WasServed (ByOne (EndsAtHub result.served (state_of store)
 //!         (I.remaining input) (I.remaining result.input) (O.contents output) (O.contents result.output)
-//!         (O.has_failed result.output))) (is_ok result.served) store result.store }
+//!         (I.has_failed result.input) (O.has_failed result.output))) (is_ok result.served) store result.store }
 //! {
 //!     serve_streams(rt, alloc, store, input, output, 256, watch)
 //! }

@@ -20,10 +20,9 @@ use hub_desk::HubDesk;
 use published::{Life, Opened};
 use recovery::Store;
 use refusal::Refusal;
-use serving::{ServingError, serve_session};
+use serving::{Input, ServingError, serve_session};
 use session::{Output, Session, Shelf};
 use std::alloc::Global;
-use std::io::Read;
 use std::marker::Brand;
 use std::sync::Wait;
 use std::sync::ledger::Blank;
@@ -45,11 +44,12 @@ pub struct Streamed<I, O, D: Disk> {
 /// command is on the disk. Then what was ordered is written, the thread has ended, and the store and the streams are given back.
 /// Milestones of a document are made at multiples of `every` revisions, as composers come to it; 0 makes none.
 ///
-/// It ends at once where a stream fails (`Stream`), else with `StoreFailed` where the store has failed by then; and with `NoMemory` before
-/// it takes any of the input, also where the system gives no thread to write in. The watch is told of a store that fails, when it does.
+/// It ends at once where a stream fails (`Stream`, which comes of nothing else), else with `StoreFailed` where the store has failed by then;
+/// and with `NoMemory` before it takes any of the input, also where the system gives no thread to write in. The watch is told of a store
+/// that fails, when it does.
 pub fn serve_streams<
     R: Threads + Wait + Sync,
-    I: Read + Drop,
+    I: Input + Drop,
     O: Output + Drop,
     D: Disk + Send + Drop,
     W: Watch<D>,
@@ -66,7 +66,7 @@ pub fn serve_streams<
     // answered is kept, and the order is as long as what its seat counted. After an `Ok` the store holds all of the order.
     ensures served { WasServed (ByOne (EndsAtHub result.served (state_of store)
         (I.remaining input) (I.remaining result.input) (O.contents output) (O.contents result.output)
-        (O.has_failed result.output))) (is_ok result.served) store result.store }
+        (I.has_failed result.input) (O.has_failed result.output))) (is_ok result.served) store result.store }
     ensures no_memory { IsErrOf result.served (ServingError.Refused Refusal.NoMemory) → (result.store ≡ store)
         × (result.input ≡ input) × (result.output ≡ output) }
     // A store that fails is told of.
@@ -88,7 +88,7 @@ pub fn serve_streams<
 fn serve_run<
     L: Life + Sync + Send,
     R: Threads + Wait + Sync,
-    I: Read + Drop,
+    I: Input + Drop,
     O: Output + Drop,
     D: Disk + Send + Drop,
     W: Watch<D>,
@@ -110,7 +110,7 @@ fn serve_run<
     requires start { state_of store ≡ L.start }
     ensures served { WasServed (ByOne (EndsAtHub result.served (state_of store)
         (I.remaining input) (I.remaining result.input) (O.contents output) (O.contents result.output)
-        (O.has_failed result.output))) (is_ok result.served) store result.store }
+        (I.has_failed result.input) (O.has_failed result.output))) (is_ok result.served) store result.store }
     ensures no_memory { IsErrOf result.served (ServingError.Refused Refusal.NoMemory) → (result.store ≡ store)
         × (result.input ≡ input) × (result.output ≡ output) }
     ensures works { OnOk result.served (has_failed store ≡ false → has_failed result.store ≡ false) }
@@ -126,7 +126,7 @@ fn serve_run<
 fn serve_from<
     L: Life + Sync + Send,
     R: Threads + Wait + Sync,
-    I: Read + Drop,
+    I: Input + Drop,
     O: Output + Drop,
     D: Disk + Send + Drop,
     W: Watch<D>,
@@ -147,7 +147,7 @@ fn serve_from<
     requires none { server.tally ≡ record { seats = 0; counted = 0 } }
     ensures served { WasServed (ByOne (EndsAtHub result.served L.start
         (I.remaining streams.input) (I.remaining result.input) (O.contents streams.output) (O.contents result.output)
-        (O.has_failed result.output))) (is_ok result.served) (store_of server.flusher) result.store }
+        (I.has_failed result.input) (O.has_failed result.output))) (is_ok result.served) (store_of server.flusher) result.store }
     ensures no_memory { IsErrOf result.served (ServingError.Refused Refusal.NoMemory) → (result.store ≡ store_of server.flusher)
         × (result.input ≡ streams.input) × (result.output ≡ streams.output) }
     ensures works { OnOk result.served (has_failed (store_of server.flusher) ≡ false → has_failed result.store ≡ false) }
@@ -169,7 +169,7 @@ fn serve_from<
 fn hold_at<
     L: Life + Sync + Send,
     R: Threads + Wait + Sync,
-    I: Read + Drop,
+    I: Input + Drop,
     O: Output + Drop,
     D: Disk + Send + Drop,
     W: Watch<D>,
@@ -192,7 +192,7 @@ fn hold_at<
     requires none { server.tally ≡ record { seats = 0; counted = 0 } }
     ensures held { IfOk result (λ all. HasHeld (ByOne (EndsAtHub all.2 L.start
         (I.remaining streams.input) (I.remaining all.1.input) (O.contents streams.output) (O.contents all.1.output)
-        (O.has_failed all.1.output))) L.start server.flusher all.0.ordered all.0.published all.0.tally.counted
+        (I.has_failed all.1.input) (O.has_failed all.1.output))) L.start server.flusher all.0.ordered all.0.published all.0.tally.counted
         all.0.written (store_of all.0.flusher)) }
     ensures seats { IfOk result (λ all. all.0.tally.seats ≡ 1) }
     ensures only { IfOk result (λ all. IfErr all.2 (λ e. e ≡ ServingError.Stream)) }
@@ -248,9 +248,9 @@ fn hold_at<
                 × All (λ desk. desk ≡ first_desk) desks.items }
             ensures ends { ByOne (EndsAtHub result.0.1 L.start
                 (I.remaining streams.input) (I.remaining result.0.0.input) (O.contents streams.output) (O.contents result.0.0.output)
-                (O.has_failed result.0.0.output)) result.1.items }
+                (I.has_failed result.0.0.input) (O.has_failed result.0.0.output)) result.1.items }
             ensures only { IfErr result.0.1 (λ e. e ≡ ServingError.Stream) }
-        { serve_one(alloc, session, shelf, streams, desks) },
+        { serve_one(rt, alloc, session, shelf, streams, desks) },
     ) {
         Ok(
             Both {
@@ -303,7 +303,8 @@ impl<I, O> OverStreams<I, O> {
 }
 
 // Serves the session at the one desk there is.
-fn serve_one<'a, L: Life, R: Wait, I: Read + Drop, O: Output + Drop, D>(
+fn serve_one<'a, L: Life, R: Wait, I: Input + Drop, O: Output + Drop, D>(
+    rt: &R,
     alloc: Global,
     session: Session,
     shelf: Shelf,
@@ -319,7 +320,7 @@ fn serve_one<'a, L: Life, R: Wait, I: Read + Drop, O: Output + Drop, D>(
     requires first { All (λ desk. desk ≡ first_desk) desks.items }
     ensures ends { ByOne (EndsAtHub result.0.1 L.start
         (I.remaining streams.input) (I.remaining result.0.0.input) (O.contents streams.output) (O.contents result.0.0.output)
-        (O.has_failed result.0.0.output)) result.1.items }
+        (I.has_failed result.0.0.input) (O.has_failed result.0.0.output)) result.1.items }
     ensures only { IfErr result.0.1 (λ e. e ≡ ServingError.Stream) }
 {
     let OverStreams {
@@ -330,6 +331,7 @@ fn serve_one<'a, L: Life, R: Wait, I: Read + Drop, O: Output + Drop, D>(
     let mut shelf = shelf;
     let mut desks = desks;
     let answer = serve_first(
+        rt,
         alloc,
         &mut session,
         &mut desks,
@@ -341,7 +343,8 @@ fn serve_one<'a, L: Life, R: Wait, I: Read + Drop, O: Output + Drop, D>(
 }
 
 // Serves the session by the first desk, which is the only one.
-fn serve_first<L: Life, R: Wait, I: Read, O: Output, D>(
+fn serve_first<L: Life, R: Wait, I: Input, O: Output, D>(
+    rt: &R,
     alloc: Global,
     session: &mut Session,
     desks: &mut Vec<HubDesk<'_, D, L, R>>,
@@ -355,8 +358,8 @@ fn serve_first<L: Life, R: Wait, I: Read, O: Output, D>(
     requires first { All (λ desk. desk ≡ first_desk) desks.old.items }
     ensures ends { ByOne (EndsAtHub result L.start
         (I.remaining input.old) (I.remaining input.new) (O.contents output.old) (O.contents output.new)
-        (O.has_failed output.new)) desks.new.items }
+        (I.has_failed input.new) (O.has_failed output.new)) desks.new.items }
     ensures only { IfErr result (λ e. e ≡ ServingError.Stream) }
 {
-    serve_session(alloc, session, &mut desks[0], shelf, input, output)
+    serve_session(rt, alloc, session, &mut desks[0], shelf, input, output)
 }

@@ -14,10 +14,10 @@ use recovery::Store;
 use refusal::Refusal;
 use revision::Command;
 use server_threads::{Streamed, Watch, serve_on, serve_streams};
+use serving::Input;
 use session::{Desk, Output, Reply};
 use sockets::{Listen, ListenerWatch, serve_desks};
 use std::alloc::{AllocError, Global};
-use std::io::Read;
 use std::sync::Wait;
 use std::thread::Threads;
 use std::time::Clock;
@@ -67,14 +67,14 @@ pub fn serve_store<R: Threads + Wait + Clock + Sync, N: Listen, D: Disk + Send +
 /// Serves one session over a pair of streams: its output is the replies to its input, and the store holds all that its desk acknowledged.
 pub fn serve_session<
     R: Threads + Wait + Sync,
-    I: Read + Drop,
+    I: Input + Drop,
     O: Output + Drop,
     D: Disk + Send + Drop,
     W: Watch<D>,
 >(rt: &R, alloc: Global, store: Store<D>, input: I, output: O, watch: &W) -> Streamed<I, O, D>
     ensures { WasServed (ByOne (EndsAtHub result.served (state_of store)
         (I.remaining input) (I.remaining result.input) (O.contents output) (O.contents result.output)
-        (O.has_failed result.output))) (is_ok result.served) store result.store }
+        (I.has_failed result.input) (O.has_failed result.output))) (is_ok result.served) store result.store }
 {
     serve_streams(rt, alloc, store, input, output, 256, watch)
 }

@@ -1,5 +1,5 @@
 -- Pieces of the input, as they are read.
-use Rattle.std.proofs.Common.{◌++◌, ◌<◌, false, ℕ, zero, suc, List, [], ◌∷◌, drop, length, slice_index, Option, Some, None, ◌≡◌, ◌≢◌, refl, sym, ap, subst, ◌∙◌, append_assoc, append-nil, arith}
+use Rattle.std.proofs.Common.{◌++◌, ◌<◌, false, ℕ, zero, suc, List, [], ◌∷◌, drop, length, slice_index, Option, Some, None, ◌≡◌, refl, sym, ap, subst, ◌∙◌, append_assoc, append-nil, arith}
 use Rattle.std.proofs.lemmas.Bool.{false≢true}
 use Rattle.std.specs.Prelude.{◌==◌}
 use Rattle.std.specs.Io.KnownBytes.{Consumes, Keeps}

@@ -1,1 +1,2 @@
+pub mod InputView
 pub mod Serving

@@ -1,21 +1,23 @@
 //! One session over a pair of streams.
-ghost use Rattle.std.specs.Prelude.{◌≡◌, ◌⊎◌, ◌≤◌, ◌<◌, ◌∷◌, ◌++◌, [], None, Some, true, false, take, length, IfOk, IfErr, OnOk, OnErr};
-ghost use Rattle.std.specs.Io.KnownBytes.{Consumes, IsAtEnd, Keeps};
+ghost use Rattle.std.specs.Prelude.{◌≡◌, ◌⊎◌, ◌≤◌, ◌<◌, ◌∷◌, ◌++◌, [], None, Some, true, false, IfOk, IfErr, OnOk, OnErr};
+ghost use Rattle.std.specs.Io.KnownBytes.{IsAtEnd, Keeps};
 ghost use Rattle.session.specs.Line.{HasNoEnd};
 ghost use Rattle.session.specs.Shelf.{Fits};
 ghost use Rattle.serving.specs.Serving.{Serves, ServesBytes, StopsBytes, StopsServing, BeginsWithEnd};
 
 use crate::failure::ServingError;
+use crate::input::Input;
 use session::{Desk, Output, Session, Shelf, text_length};
 use std::alloc::Global;
-use std::io::{ErrorKind, Read};
+use std::sync::Wait;
 
 /// How many bytes are read at once.
 const PIECE: usize = 8192;
 
-/// Serves a session by a desk, up to the end of the input, with the news after each line. A stream that fails ends it at once
-/// (`Stream`).
-pub fn serve_session<K: Desk, I: Read, O: Output>(
+/// Serves a session by a desk, up to the end of the input, with the news after each line. It ends before that where a stream fails, and
+/// then at once (`Stream`): the output, or else the input, and then all that is due of what was taken is written.
+pub fn serve_session<R: Wait, K: Desk, I: Input, O: Output>(
+    rt: &R,
     alloc: Global,
     session: &mut Session,
     desk: &mut K,
@@ -31,22 +33,23 @@ pub fn serve_session<K: Desk, I: Read, O: Output>(
     ensures at_end { OnOk result (IsAtEnd (I.remaining input.new)) }
     ensures stopped { OnErr result (StopsServing K.does session.old desk.old desk.new
         (I.remaining input.old) (I.remaining input.new) (O.contents output.old) (O.contents output.new)) }
-    ensures cause { OnErr result ((O.has_failed output.new ≡ true)
-        ⊎ Serves K.does session.old session.new desk.old desk.new
-        (I.remaining input.old) (I.remaining input.new) (O.contents output.old) (O.contents output.new)) }
+    ensures cause { OnErr result ((O.has_failed output.new ≡ true) ⊎ ((I.has_failed input.new ≡ true)
+        × Serves K.does session.old session.new desk.old desk.new
+        (I.remaining input.old) (I.remaining input.new) (O.contents output.old) (O.contents output.new))) }
     ensures sent { OnOk result (O.has_failed output.new ≡ false) }
+    ensures read { OnOk result (I.has_failed input.new ≡ false) }
     ensures only { IfErr result (λ e. e ≡ ServingError.Stream) }
 {
-    'pieces: for _ in 0..u64::MAX {
+    'pieces: for _ in rt.forever() {
         if !serve_piece(alloc, session, desk, shelf, input, output)? {
             return Ok(());
         }
     }
-    Err(ServingError::Stream)
+    unreachable!()
 }
 
-// Reads a piece of the input and answers its lines. The answer is whether there was one.
-fn serve_piece<K: Desk, I: Read, O: Output>(
+// Reads a piece of the input and answers its lines. The answer is whether the input may have more. A read that a signal cut short took nothing.
+fn serve_piece<K: Desk, I: Input, O: Output>(
     alloc: Global,
     session: &mut Session,
     desk: &mut K,
@@ -59,40 +62,26 @@ fn serve_piece<K: Desk, I: Read, O: Output>(
     ensures fits { Fits (K.reached desk.new) shelf.new }
     ensures served { OnOk result (Serves K.does session.old session.new desk.old desk.new
         (I.remaining input.old) (I.remaining input.new) (O.contents output.old) (O.contents output.new)) }
-    ensures at_end { IfOk result (λ went_on. went_on ≡ false → IsAtEnd (I.remaining input.new)) }
+    ensures at_end { IfOk result (λ goes_on. goes_on ≡ false → IsAtEnd (I.remaining input.new)) }
     ensures stopped { OnErr result (StopsServing K.does session.old desk.old desk.new
         (I.remaining input.old) (I.remaining input.new) (O.contents output.old) (O.contents output.new)) }
-    ensures cause { OnErr result ((O.has_failed output.new ≡ true)
-        ⊎ Serves K.does session.old session.new desk.old desk.new
-        (I.remaining input.old) (I.remaining input.new) (O.contents output.old) (O.contents output.new)) }
+    ensures cause { OnErr result ((O.has_failed output.new ≡ true) ⊎ ((I.has_failed input.new ≡ true)
+        × Serves K.does session.old session.new desk.old desk.new
+        (I.remaining input.old) (I.remaining input.new) (O.contents output.old) (O.contents output.new))) }
     ensures works { OnOk result (session.new.ended ≡ false) }
-    ensures sent { OnOk result (O.has_failed output.new ≡ false) }
+    ensures sent { IfOk result (λ goes_on. goes_on ≡ false → O.has_failed output.new ≡ false) }
+    ensures read { OnOk result (I.has_failed input.new ≡ false) }
     ensures only { IfErr result (λ e. e ≡ ServingError.Stream) }
 {
     let mut piece = [0; PIECE];
-    let count = read_some(input, &mut piece)?;
+    let count = match input.read(&mut piece) {
+        Ok(Some(count)) => count,
+        Ok(None) => return Ok(true),
+        Err(_) => return Err(ServingError::Stream),
+    };
     feed_all(alloc, session, desk, shelf, &piece[..count], output)?;
     flush(output)?;
     Ok(count > 0)
-}
-
-// A read that a signal cut short is made again.
-fn read_some<I: Read>(input: &mut I, piece: &mut [u8]) -> Result<usize, ServingError>
-    requires { 0 < length piece.old }
-    ensures within { IfOk result (λ n. n ≤ length piece.new) }
-    ensures given { IfOk result (λ n. Consumes (I.remaining input.old) (I.remaining input.new) (take n piece.new)) }
-    ensures at_end { IfOk result (λ n. n ≡ 0 → IsAtEnd (I.remaining input.new)) }
-    ensures kept { OnErr result (Keeps (I.remaining input.old) (I.remaining input.new)) }
-    ensures only { IfErr result (λ e. e ≡ ServingError.Stream) }
-{
-    'tries: for _ in 0..u64::MAX {
-        match input.read(piece) {
-            Ok(count) => return Ok(count),
-            Err(error) if error.kind() == ErrorKind::Interrupted => {}
-            Err(_) => return Err(ServingError::Stream),
-        }
-    }
-    Err(ServingError::Stream)
 }
 
 // Feeds a piece line by line, so that the replies to a line and the news after it are out before the next one is taken.

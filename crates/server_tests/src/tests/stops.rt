@@ -6,6 +6,7 @@ use recovery::{OpenFault, Pick, Shape, Store, format_device};
 use refusal::Refusal;
 use server::dump;
 use server_threads::serve_streams;
+use serving::InputStream;
 use session::Stream;
 use std::process::Abort;
 use std::sync::Wait;
@@ -85,8 +86,9 @@ fn ended<R: Threads + Wait + Abort + AllocGlobal + Sync>(
     store: Store<FaultDisk>,
     lines: &str,
 ) -> (FaultDisk, String) {
+    let input = InputStream::new(lines.as_bytes());
     let output = Stream::new(Vec::new(rt.alloc()));
-    let streamed = serve_streams(rt, rt.alloc(), store, lines.as_bytes(), output, 2, &Nobody);
+    let streamed = serve_streams(rt, rt.alloc(), store, input, output, 2, &Nobody);
     let written = String::from_utf8(streamed.output.into_writer()).expect(rt, "a text");
     (streamed.store.close(), written)
 }

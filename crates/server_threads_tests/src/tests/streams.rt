@@ -4,9 +4,9 @@ use disk::{Disk, FaultDisk, FaultPlan, Left};
 use recovery::Store;
 use refusal::Refusal;
 use server_threads::serve_streams;
-use serving::ServingError;
+use serving::{InputStream, ServingError};
 use session::Stream;
-use std::io::{self, ErrorKind, Write};
+use std::io::{self, ErrorKind, Read, Write};
 use std::process::Abort;
 use std::sync::Wait;
 use std::thread::Threads;
@@ -63,6 +63,26 @@ impl Write for Broken {
     }
 }
 
+/// An input: a signal cuts its first read short, the second one gives lines, and the third one fails.
+#[derive(Drop)]
+struct CutOff {
+    reads: u8,
+}
+
+impl Read for CutOff {
+    fn read(&mut self, buf: &mut [u8]) -> io::Result<usize> {
+        self.reads = self.reads.saturating_add(1);
+        match self.reads {
+            1 => Err(io::Error::from(ErrorKind::Interrupted)),
+            2 => {
+                let mut lines = LINES.as_bytes();
+                lines.read(buf)
+            }
+            _ => Err(io::Error::from(ErrorKind::BrokenPipe)),
+        }
+    }
+}
+
 /// Serves lines over a store, and gives the store back, with what ended it and what was written. The watch is told once of a store that
 /// fails.
 fn answered<R: Threads + Wait + Abort + AllocGlobal + Sync, D: Disk + Send + Drop>(
@@ -70,21 +90,15 @@ fn answered<R: Threads + Wait + Abort + AllocGlobal + Sync, D: Disk + Send + Dro
     store: Store<D>,
     lines: &str,
 ) -> (Store<D>, Result<(), ServingError>, String) {
+    let input = InputStream::new(lines.as_bytes());
     let output = Stream::new(Vec::new(rt.alloc()));
     let seen = Seen::new();
-    let streamed = serve_streams(
-        rt,
-        rt.alloc(),
-        store,
-        lines.as_bytes(),
-        output,
-        EVERY,
-        &seen,
-    );
+    let streamed = serve_streams(rt, rt.alloc(), store, input, output, EVERY, &seen);
     assert_eq!(rt;
         seen.failures(),
         if streamed.served.is_err() { 1 } else { 0 }
     );
+    assert!(rt; streamed.input.into_reader().is_empty());
     let written = String::from_utf8(streamed.output.into_writer()).expect(rt, "a text");
     (streamed.store, streamed.served, written)
 }
@@ -123,10 +137,26 @@ fn an_output_that_fails_ends_the_session(rt: HostRuntime) {
         &rt,
         rt.alloc(),
         opened(&rt, formatted(&rt)),
-        LINES.as_bytes(),
+        InputStream::new(LINES.as_bytes()),
         Stream::new(Broken),
         EVERY,
         &Seen::new(),
     );
     assert!(&rt; matches!(streamed.served, Err(ServingError::Stream)));
+}
+
+#[test]
+fn an_input_that_fails_ends_the_session_and_what_it_gave_is_answered(rt: HostRuntime) {
+    let streamed = serve_streams(
+        &rt,
+        rt.alloc(),
+        opened(&rt, formatted(&rt)),
+        InputStream::new(CutOff { reads: 0 }),
+        Stream::new(Vec::new(rt.alloc())),
+        EVERY,
+        &Seen::new(),
+    );
+    assert!(&rt; matches!(streamed.served, Err(ServingError::Stream)));
+    let written = String::from_utf8(streamed.output.into_writer()).expect(&rt, "a text");
+    assert_eq!(&rt; written.as_str(), REPLIES);
 }

@@ -11,6 +11,6 @@ use Rattle.server_threads.proofs.streams.serve_streams.Goals as goal
 -- out of memory nothing was asked
 pub returns-in_default-clause-served : goal.returns-in_default-clause-served
 returns-in_default-clause-served g c =
-    one_unserved (ByOne (EndsAtHub (Err (Refused NoMemory)) (state_of c.args.store) (g.I.Read.remaining c.args.input) (g.I.Read.remaining c.args.input)
-    (g.O.Output.contents c.args.output) (g.O.Output.contents c.args.output) (g.O.Output.has_failed c.args.output))) c.args.store
-    (nothing_asked (state_of c.args.store) (g.I.Read.remaining c.args.input) (g.O.Output.contents c.args.output) (g.O.Output.has_failed c.args.output) NoMemory refl)
+    one_unserved (ByOne (EndsAtHub (Err (Refused NoMemory)) (state_of c.args.store) (g.I.Input.remaining c.args.input) (g.I.Input.remaining c.args.input)
+    (g.O.Output.contents c.args.output) (g.O.Output.contents c.args.output) (g.I.Input.has_failed c.args.input) (g.O.Output.has_failed c.args.output))) c.args.store
+    (nothing_asked (state_of c.args.store) (g.I.Input.remaining c.args.input) (g.O.Output.contents c.args.output) (g.I.Input.has_failed c.args.input) (g.O.Output.has_failed c.args.output) NoMemory refl)

@@ -9,6 +9,6 @@ invariant-pieces g l =
     record {
       fits : Fits (g.K.Desk.reached l.desk) l.shelf;
       works : l.session.ended ≡ false;
-      served : Serves g.K.Desk.does l.fn.session l.session l.fn.desk l.desk (g.I.Read.remaining l.fn.input) (g.I.Read.remaining l.input)
+      served : Serves g.K.Desk.does l.fn.session l.session l.fn.desk l.desk (g.I.Input.remaining l.fn.input) (g.I.Input.remaining l.input)
           (g.O.Output.contents l.fn.output) (g.O.Output.contents l.output);
     }
