@@ -19,9 +19,11 @@ returns-in-Err-clause-stopped g c =
 
 pub returns-in-Err-clause-cause : goal.returns-in-Err-clause-cause
 returns-in-Err-clause-cause g c =
-    inr (c.in-Err.ensures.failed,
-    serves-kept g.K.Desk.does c.args.session.now c.args.desk.now (g.I.Input.remaining c.args.input.now) (g.I.Input.remaining c.read.new.self) (g.O.Output.contents c.args.output.now)
-    c.in-Err.ensures.kept)
+    inr (
+      c.in-Err.ensures.failed,
+      serves-kept g.K.Desk.does c.args.session.now c.args.desk.now (g.I.Input.remaining c.args.input.now) (g.I.Input.remaining c.read.new.self) (g.O.Output.contents c.args.output.now)
+          c.in-Err.ensures.kept,
+    )
 
 -- all was written, and what is held back wasn't sent on
 pub returns-in_err-flush-clause-stopped : goal.returns-in_err-flush-clause-stopped
