@@ -83,7 +83,7 @@ from_first : (start : State) (old new : Session) (desk desk' : Desk) (input inpu
     → (out_failed ≡ true) ⊎ ((in_failed ≡ true) × IsServedSoFar (PassesAtHub start) desk desk' input input' output output')
 from_first start old new desk desk' input input' output output' in_failed out_failed same (inl failing) = inl failing
 from_first start old new desk desk' input input' output output' in_failed out_failed same (inr (failing, serves)) =
-    inr (failing, new, subst (λ (s : Session). Serves (PassesAtHub start) s new desk desk' input input' output output') same serves)
+    inr (failing, (new, subst (λ (s : Session). Serves (PassesAtHub start) s new desk desk' input input' output output') same serves))
 
 -- a session that was served from its beginning, at a desk at its own
 pub answered_whole : (start : State) (old new : Session) (desk desk' : Desk) (input input' output output' : Option (List ℕ)) (result : Result (Unit {0}) ServingError)
