@@ -48,7 +48,8 @@
 //! written. `serve_desks` gives its desks back in their order, each with what it exchanged: what is asked in conversations, one after
 //! another. No connection waits for a thread that isn't free (the hall's own invariant), and a shelf stays right of what its desk shows.
 //!
-//! A desk's conversations are some conversations: no clause says that they are those of all who connected. That each connection is given to a
+//! `serve_desks` doesn't give the notes back. Its promise says that there are some that fit what a desk was asked, as there always are; no clause
+//! says that they are those that were noted, nor that they are of all who connected. That each connection is given to a
 //! conversation, that connections are served, closed and given places again is tested. So is which error of the listener is waited out: the
 //! listener is a parameter, so that a test can give one that fails. What `raw.rt` notes is what the system answered: its few lines are to be read.
 #![tactic(auto)]
