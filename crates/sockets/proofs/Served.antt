@@ -17,7 +17,7 @@ use Rattle.sockets.specs.Socket.{Event, pieces_of, bytes_of}
 use Rattle.sockets.specs.Host.{reads_in, writes_in}
 use Rattle.sockets.specs.Conversation.{beginning, AreTurns, no_turn, turn, Answers, IsAnswered, StopsIn, InReplies, InNews, InSending, StopsConversing}
 use Rattle.sockets.specs.Ends.{EndsBetween, ends_in_write}
-use Rattle.sockets.specs.Desks.{AreTurnsSoFar, no_turn as none_so_far, in_piece, turn_before, IsConversation, Whole, Cut, AreConversations, in_none, in_one_more, Talks, ServesVisits}
+use Rattle.sockets.specs.Desks.{AreTurnsSoFar, no_turn as none_so_far, in_piece, turn_before, Whole, Cut, AreConversations, in_none, in_one_more, Talks, ServesVisits}
 
 -- turns that were not broken off, and such turns before others
 so_far : (pieces : List (List ℕ)) (calls : List Call) → AreTurns pieces calls → AreTurnsSoFar pieces calls

@@ -1,4 +1,4 @@
-use Rattle.std.proofs.Common.{◌≡◌, ◌∙◌, ◌++◌, ℕ, List, [], Option, None, Result, Ok, Err, OnOk, OnErr, true, drop, is_some, refl, sym, ap, append-nil, true≢false}
+use Rattle.std.proofs.Common.{◌≡◌, ◌∙◌, ◌++◌, ℕ, List, [], Option, None, Result, Ok, Err, OnOk, OnErr, true, drop, is_some, sym, ap, append-nil, true≢false}
 use Rattle.std.proofs.Math.Seq.{drop-nil}
 use Rattle.sockets.proofs.outgoing.Outgoing.finish.Goals as goal
 
