@@ -1,42 +1,66 @@
 -- Desks that came back from those who connected.
-use Rattle.std.proofs.Common.{◌≡◌, true, List, [], ◌∷◌, length, refl, ap, subst, arith, Ok}
+use Rattle.std.proofs.Common.{◌≡◌, ◌∙◌, ◌+◌, ℕ, true, false, List, [], ◌∷◌, length, refl, sym, ap, subst, arith, Ok, true≢false}
 use Rattle.std.specs.Prelude.{All, Result, Err, OnOk, is_ok}
-use Rattle.std.proofs.lemmas.List.Elements.{All-nil, All-cons, All-head, All-tail, All-weaker}
+use Rattle.std.proofs.lemmas.List.Elements.{All-head, All-tail}
 use Rattle.refusal.specs.declared.Refusal.{Refusal}
 use Rattle.revision.specs.State.{State}
 use Rattle.hub_desk.specs.AtHub.{Desk, PassesAtHub}
-use Rattle.sockets.specs.Desks.{HasServed, HaveServed, in_none}
+use Rattle.sockets.specs.declared.attendance.Attendance.{Attendance}
+use Rattle.sockets.specs.declared.raw.Visit.{Visit}
+use Rattle.sockets.specs.Attendance.{visits_of, turned_away_of, IsAttended, IsOfNobody}
+use Rattle.sockets.specs.Desks.{ServesVisits, HaveServed, in_none}
+use Rattle.sockets.specs.Host.{are_unasked}
+use Rattle.sockets.specs.Socket.{Event}
 use Rattle.server_threads.specs.Answers.{first_desk}
-use Rattle.server_threads.specs.Connections.{EachHasServed}
+use Rattle.server_threads.specs.Connections.{EachServes, EachHasServed}
 
 -- desks that were asked for nothing before have served from their beginning on
-pub each_served : (start : State) (desks after : List Desk) → HaveServed (PassesAtHub start) desks after → All (λ (desk : Desk). desk ≡ first_desk) desks
-    → EachHasServed start after
-each_served start [] [] served first = All-nil (HasServed (PassesAtHub start) first_desk)
-each_served start [] (desk' ∷ after) served first = absurd served
-each_served start (desk ∷ desks) [] served first = absurd served
-each_served start (desk ∷ desks) (desk' ∷ after) served first =
-    All-cons (HasServed (PassesAtHub start) first_desk) desk' after
-    (subst (λ (d : Desk). HasServed (PassesAtHub start) d desk') (All-head (λ (d : Desk). d ≡ first_desk) desk desks first) served.0)
-    (each_served start desks after served.1 (All-tail (λ (d : Desk). d ≡ first_desk) desk desks first))
+pub each_served : (start : State) (hall : ℕ) (desks : List Desk) (visits : List (List Visit)) (after : List Desk)
+    → HaveServed (PassesAtHub start) hall desks visits after → All (λ (desk : Desk). desk ≡ first_desk) desks → EachServes start hall visits after
+each_served start hall [] [] [] served first = tt
+each_served start hall [] [] (desk' ∷ after) served first = absurd served
+each_served start hall [] (v ∷ visits) after served first = absurd served
+each_served start hall (desk ∷ desks) [] after served first = absurd served
+each_served start hall (desk ∷ desks) (v ∷ visits) [] served first = absurd served
+each_served start hall (desk ∷ desks) (v ∷ visits) (desk' ∷ after) served first = (
+  subst (λ (d : Desk). ServesVisits (PassesAtHub start) hall v d desk') (All-head (λ (d : Desk). d ≡ first_desk) desk desks first) served.0,
+  each_served start hall desks visits after served.1 (All-tail (λ (d : Desk). d ≡ first_desk) desk desks first),
+)
 
 -- they are as many as before
-pub as_many : (start : State) (desks after : List Desk) → HaveServed (PassesAtHub start) desks after → length after ≡ length desks
-as_many start [] [] served = refl
-as_many start [] (desk' ∷ after) served = absurd served
-as_many start (desk ∷ desks) [] served = absurd served
-as_many start (desk ∷ desks) (desk' ∷ after) served = let others = as_many start desks after served.1 in omega (arith, others)
+pub as_many : (start : State) (hall : ℕ) (desks : List Desk) (visits : List (List Visit)) (after : List Desk)
+    → HaveServed (PassesAtHub start) hall desks visits after → length after ≡ length desks
+as_many start hall [] [] [] served = refl
+as_many start hall [] [] (desk' ∷ after) served = absurd served
+as_many start hall [] (v ∷ visits) after served = absurd served
+as_many start hall (desk ∷ desks) [] after served = absurd served
+as_many start hall (desk ∷ desks) (v ∷ visits) [] served = absurd served
+as_many start hall (desk ∷ desks) (v ∷ visits) (desk' ∷ after) served = let others = as_many start hall desks visits after served.1 in omega (arith, others)
 
 -- desks that nobody asked
-pub unserved : (start : State) (desks : List Desk) → All (λ (desk : Desk). desk ≡ first_desk) desks → EachHasServed start desks
-unserved start desks first =
-    All-weaker (λ (desk : Desk). desk ≡ first_desk) (HasServed (PassesAtHub start) first_desk)
-    (λ desk is. (0, [], record { asked = []; asks = is; conversations = in_none })) desks first
+unasked : (start : State) (desks : List Desk) → All (λ (desk : Desk). desk ≡ first_desk) desks → EachServes start 0 [] desks
+unasked start [] first = tt
+unasked start (desk ∷ desks) first = (
+  record { asked = []; asks = All-head (λ (d : Desk). d ≡ first_desk) desk desks first; conversations = in_none },
+  unasked start desks (All-tail (λ (d : Desk). d ≡ first_desk) desk desks first),
+)
+
+pub unserved : (start : State) (visits : List (List Visit)) (desks : List Desk) → visits ≡ [] → All (λ (desk : Desk). desk ≡ first_desk) desks
+    → EachHasServed start visits desks
+unserved start visits desks none first = subst (λ l. EachHasServed start l desks) (sym none) (0, unasked start desks first)
+
+-- where nobody came, all of them are there
+pub none_came : (old new : List Event) (attendance : Attendance) → IsOfNobody attendance → IsAttended old new attendance
+none_came old new attendance (visits, away, incomplete) = record {
+  unasked = ap are_unasked away;
+  all = λ is. absurd (true≢false (sym is ∙ incomplete));
+  failed = λ is. absurd (true≢false (sym is ∙ incomplete));
+}
 
 -- a life ends well only where its writing did
-pub well_by : (answer written : Result (Unit {0}) Refusal) → OnOk answer (written ≡ Ok tt) → is_ok answer ≡ true → is_ok written ≡ true
-well_by (Ok answer) written is well = ap is_ok is
+pub well_by : {A : Type 0} (answer written : Result (Unit {0}) Refusal) → OnOk answer ((written ≡ Ok tt) × A) → is_ok answer ≡ true → is_ok written ≡ true
+well_by (Ok answer) written is well = ap is_ok is.0
 well_by (Err refusal) written is well = absurd (cc well)
 
-pub nobody_served : (start : State) → EachHasServed start []
-nobody_served start = All-nil (HasServed (PassesAtHub start) first_desk)
+pub nobody_served : (start : State) (visits : List (List Visit)) → visits ≡ [] → EachHasServed start visits []
+nobody_served start visits none = subst (λ l. EachHasServed start l []) (sym none) (0, tt)

@@ -1,5 +1,6 @@
 //! A store over connections.
-ghost use Rattle.std.specs.Prelude.{◌≡◌, ◌+◌, ◌↔◌, true, false, Ok, All, IfOk, IfErr, OnOk, IsErrOf, is_ok, length};
+ghost use Rattle.std.specs.Prelude.{◌≡◌, ◌+◌, ◌↔◌, true, false, Ok, Err, All, IfOk, IfErr, OnOk, IsErrOf, is_ok, length};
+ghost use Rattle.sockets.specs.Attendance.{visits_of, IsAttended, IsOfNobody};
 ghost use Rattle.recovery.specs.Open.{state_of, has_failed};
 ghost use Rattle.flusher.specs.Holding.{store_of};
 ghost use Rattle.server_threads.specs.Answers.{first_desk};
@@ -20,7 +21,7 @@ use hub_desk::HubDesk;
 use published::{Life, Opened};
 use recovery::Store;
 use refusal::Refusal;
-use sockets::{Listen, serve_desks};
+use sockets::{Attendance, Attended, Listen, serve_desks};
 use std::alloc::{AllocError, Global};
 use std::marker::Brand;
 use std::sync::Wait;
@@ -33,6 +34,15 @@ const SEATS: u32 = 64;
 
 /// The parts of the ledger that counts what each seat took: one for each seat, and one that is left.
 const PARTS: u64 = 65;
+
+/// What serving those who connect gives back: the store, the listener, who came, and how it ended.
+#[derive(Drop)]
+pub struct Connected<N, D: Disk> {
+    pub store: Store<D>,
+    pub listener: N,
+    pub attendance: Attendance,
+    pub served: Result<(), Refusal>,
+}
 
 /// Serves a store to those who connect, 64 at once, until the listener can't work any more or the watch ends it; where there are fewer
 /// places for readers than 64, or threads for sessions, as many at once as have one. Then each session ends within 100 milliseconds, what was
@@ -47,24 +57,45 @@ pub fn serve_on<R: Threads + Wait + Clock + Sync, N: Listen, D: Disk + Send + Dr
     rt: &R,
     alloc: Global,
     store: Store<D>,
-    listener: &mut N,
+    listener: N,
     every: u32,
     idle: u32,
     watch: &W,
-) -> (Store<D>, Result<(), Refusal>)
-    // There is one order. The store holds what of it is written, and all of it after an `Ok`. What the desks answered is kept. No clause
-    // says who asked them.
-    ensures served { WasServed (EachHasServed (state_of store)) (is_ok result.1) store result.0 }
+) -> Connected<N, D>
+    // There is one order. The store holds what of it is written, and all of it after an `Ok`. Each desk was asked just what the conversations
+    // of its visits ask, one after another; what it answered is kept, and nothing else was ordered but what its seat counted.
+    ensures served { WasServed (EachHasServed (state_of store) (visits_of result.attendance)) (is_ok result.served) store result.store }
+    // Who was turned away was asked nothing. After an `Ok` all who came by the listener's calls are there, and the newest of these failed.
+    ensures attended { IsAttended (N.arrivals listener) (N.arrivals result.listener) result.attendance }
+    ensures complete { OnOk result.served (result.attendance.is_complete ≡ true) }
     // It fails only with the device.
-    ensures fails { has_failed store ≡ false → (has_failed result.0 ≡ true ↔ IsErrOf result.1 Refusal.Fault) }
+    ensures fails { has_failed store ≡ false → (has_failed result.store ≡ true ↔ IsErrOf result.served Refusal.Fault) }
 {
     let Some(opened) = Opened::new() else {
-        return (store, Err(Refusal::NoMemory));
+        return unserved(alloc, store, listener, Refusal::NoMemory);
     };
     let blank = Blank::new(PARTS);
     serve_run::<Brand, R, N, D, W>(
         rt, alloc, store, opened, blank, listener, every, idle, watch,
     )
+}
+
+// Nobody was served, for this reason.
+fn unserved<N, D: Disk>(
+    alloc: Global,
+    store: Store<D>,
+    listener: N,
+    refusal: Refusal,
+) -> Connected<N, D>
+    ensures back { (result.store ≡ store) × (result.listener ≡ listener) × (result.served ≡ Err refusal) }
+    ensures nobody { IsOfNobody result.attendance }
+{
+    Connected {
+        store,
+        listener,
+        attendance: Attendance::of_nobody(alloc),
+        served: Err(refusal),
+    }
 }
 
 // Serves the run that its ledger, its logs and its store's state name.
@@ -80,22 +111,24 @@ fn serve_run<
     store: Store<D>,
     opened: Opened,
     blank: Blank,
-    listener: &mut N,
+    listener: N,
     every: u32,
     idle: u32,
     watch: &W,
-) -> (Store<D>, Result<(), Refusal>)
+) -> Connected<N, D>
     requires book { opened ≡ L.book }
     requires name { blank.name ≡ L.name }
     requires parts { blank.parts ≡ L.parts }
     requires seats { blank.parts ≡ 65 }
     requires start { state_of store ≡ L.start }
-    ensures served { WasServed (EachHasServed (state_of store)) (is_ok result.1) store result.0 }
-    ensures fails { has_failed store ≡ false → (has_failed result.0 ≡ true ↔ IsErrOf result.1 Refusal.Fault) }
+    ensures served { WasServed (EachHasServed (state_of store) (visits_of result.attendance)) (is_ok result.served) store result.store }
+    ensures attended { IsAttended (N.arrivals listener) (N.arrivals result.listener) result.attendance }
+    ensures complete { OnOk result.served (result.attendance.is_complete ≡ true) }
+    ensures fails { has_failed store ≡ false → (has_failed result.store ≡ true ↔ IsErrOf result.served Refusal.Fault) }
 {
     match begin::<L, R, D>(rt, alloc, store, opened, blank, SEATS) {
         Ok((hub, server)) => serve_from(rt, alloc, hub, server, listener, every, idle, watch),
-        Err((store, refusal)) => (store, Err(refusal)),
+        Err((store, refusal)) => unserved(alloc, store, listener, refusal),
     }
 }
 
@@ -111,30 +144,52 @@ fn serve_from<
     alloc: Global,
     hub: Hub<D, L>,
     server: Server<D, L>,
-    listener: &mut N,
+    listener: N,
     every: u32,
     idle: u32,
     watch: &W,
-) -> (Store<D>, Result<(), Refusal>)
+) -> Connected<N, D>
     requires store { server.held.value ≡ store_of server.flusher }
     requires started { IsStarted server.flusher }
     requires new { All (λ seat. seat ≡ 0) server.seats.items }
     requires parts { length server.seats.items + 1 ≡ L.parts }
     requires none { server.tally ≡ record { seats = 0; counted = 0 } }
-    ensures served { WasServed (EachHasServed L.start) (is_ok result.1) (store_of server.flusher) result.0 }
-    ensures fails { has_failed (store_of server.flusher) ≡ false → (has_failed result.0 ≡ true ↔ IsErrOf result.1 Refusal.Fault) }
+    ensures served { WasServed (EachHasServed L.start (visits_of result.attendance)) (is_ok result.served) (store_of server.flusher) result.store }
+    ensures attended { IsAttended (N.arrivals listener) (N.arrivals result.listener) result.attendance }
+    ensures complete { OnOk result.served (result.attendance.is_complete ≡ true) }
+    ensures fails { has_failed (store_of server.flusher) ≡ false → (has_failed result.store ≡ true ↔ IsErrOf result.served Refusal.Fault) }
 {
     match hold_at(rt, alloc, &hub, server, listener, every, idle, watch) {
-        Ok((past, served)) => {
+        Ok((past, heard)) => {
             let (store, written) = end(rt, hub, past);
-            (store, first_failure(written, served))
+            let Heard {
+                listener,
+                attendance,
+                answer,
+            } = heard;
+            Connected {
+                store,
+                listener,
+                attendance,
+                served: first_failure(written, answer),
+            }
         }
-        Err(flusher) => (flusher.end(rt), Err(Refusal::NoMemory)),
+        Err((flusher, listener)) => {
+            unserved(alloc, flusher.end(rt), listener, Refusal::NoMemory)
+        }
     }
 }
 
+// What is left of a listener whose sessions have ended: who came, and whether all did, whom it took.
+#[derive(Drop)]
+struct Heard<N> {
+    listener: N,
+    attendance: Attendance,
+    answer: Result<(), AllocError>,
+}
+
 // Holds sessions over the connections at the desks of a hub, while a thread of its own writes. Refused where there is no memory or no
-// thread; the flusher is unchanged then.
+// thread; the flusher and the listener are unchanged then.
 fn hold_at<
     L: Life + Sync + Send,
     R: Threads + Wait + Clock + Sync,
@@ -146,19 +201,21 @@ fn hold_at<
     alloc: Global,
     hub: &Hub<D, L>,
     server: Server<D, L>,
-    listener: &mut N,
+    listener: N,
     every: u32,
     idle: u32,
     watch: &W,
-) -> Result<(Ending<D, L>, Result<(), AllocError>), Flusher<D, L>>
+) -> Result<(Ending<D, L>, Heard<N>), (Flusher<D, L>, N)>
     requires store { server.held.value ≡ store_of server.flusher }
     requires started { IsStarted server.flusher }
     requires new { All (λ seat. seat ≡ 0) server.seats.items }
     requires none { server.tally ≡ record { seats = 0; counted = 0 } }
-    ensures held { IfOk result (λ both. HasHeld (EachHasServed L.start) L.start server.flusher both.0.ordered both.0.published both.0.tally.counted
-        both.0.written (store_of both.0.flusher)) }
+    ensures held { IfOk result (λ both. HasHeld (EachHasServed L.start (visits_of both.1.attendance)) L.start server.flusher both.0.ordered
+        both.0.published both.0.tally.counted both.0.written (store_of both.0.flusher)) }
+    ensures attended { IfOk result (λ both. IsAttended (N.arrivals listener) (N.arrivals both.1.listener) both.1.attendance) }
+    ensures complete { IfOk result (λ both. OnOk both.1.answer (both.1.attendance.is_complete ≡ true)) }
     ensures seats { IfOk result (λ both. both.0.tally.seats ≡ length server.seats.items) }
-    ensures refused { IfErr result (λ flusher. flusher ≡ server.flusher) }
+    ensures refused { IfErr result (λ back. (back.0 ≡ server.flusher) × (back.1 ≡ listener)) }
 {
     let Server {
         held,
@@ -178,7 +235,7 @@ fn hold_at<
         seats,
         &mut tally,
     ) else {
-        return Err(flusher);
+        return Err((flusher, listener));
     };
     let shared = Shared {
         rt,
@@ -196,9 +253,11 @@ fn hold_at<
         closer,
         listener,
         desks,
-        |listener, desks| -> (Result<(), AllocError>, Vec<HubDesk<'_, D, L, R>>)
+        |listener, desks| -> (Heard<N>, Vec<HubDesk<'_, D, L, R>>)
             requires { All (λ desk. desk ≡ first_desk) desks.items }
-            ensures served { EachHasServed L.start result.1.items }
+            ensures served { EachHasServed L.start (visits_of result.0.attendance) result.1.items }
+            ensures attended { IsAttended (N.arrivals listener) (N.arrivals result.0.listener) result.0.attendance }
+            ensures complete { OnOk result.0.answer (result.0.attendance.is_complete ≡ true) }
             ensures as_many { length result.1.items ≡ length desks.entry.items }
         { serve_all(rt, alloc, desks, listener, idle, watch) },
     ) {
@@ -209,10 +268,10 @@ fn hold_at<
                 held,
             },
         ) => {
-            let (served, desks) = held;
-            Ok((tally_all(flusher, written, desks, tally), served))
+            let (heard, desks) = held;
+            Ok((tally_all(flusher, written, desks, tally), heard))
         }
-        Err((flusher, _listener)) => Err(flusher),
+        Err(back) => Err(back),
     }
 }
 
@@ -221,14 +280,15 @@ fn first_failure(
     written: Result<(), Refusal>,
     served: Result<(), AllocError>,
 ) -> Result<(), Refusal>
-    ensures ok { OnOk result (written ≡ Ok tt) }
+    ensures ok { OnOk result ((written ≡ Ok tt) × (served ≡ Ok tt)) }
     ensures fault { IsErrOf result Refusal.Fault ↔ IsErrOf written Refusal.Fault }
 {
     written?;
     Ok(served?)
 }
 
-// Takes connections until the listener ends, and gives the desks back once each session has ended. Refused where none got a thread.
+// Takes connections until the listener ends, and gives the desks back once each session has ended. Refused where none got a thread, or where
+// not all are accounted for who came, which doesn't happen.
 fn serve_all<
     'a,
     L: Life + Sync + Send,
@@ -240,17 +300,59 @@ fn serve_all<
     rt: &R,
     alloc: Global,
     desks: Vec<HubDesk<'a, D, L, R>>,
-    listener: &mut N,
+    listener: N,
     idle: u32,
     watch: &W,
-) -> (Result<(), AllocError>, Vec<HubDesk<'a, D, L, R>>)
+) -> (Heard<N>, Vec<HubDesk<'a, D, L, R>>)
     requires first { All (λ desk. desk ≡ first_desk) desks.items }
-    ensures served { EachHasServed L.start result.1.items }
+    ensures served { EachHasServed L.start (visits_of result.0.attendance) result.1.items }
+    ensures attended { IsAttended (N.arrivals listener) (N.arrivals result.0.listener) result.0.attendance }
+    ensures complete { OnOk result.0.answer (result.0.attendance.is_complete ≡ true) }
     ensures as_many { length result.1.items ≡ length desks.entry.items }
 {
     let seated: Seated<'_, D, W> = Seated::new(watch, SEATS as usize);
     match serve_desks(rt, alloc, desks, listener, idle, &seated) {
-        Ok(desks) => (seated.served(), desks),
-        Err(failed) => (Err(AllocError), failed.value),
+        Ok(
+            Attended {
+                desks,
+                listener,
+                attendance,
+            },
+        ) => {
+            let answer = all_accounted_for(seated.served(), &attendance);
+            (
+                Heard {
+                    listener,
+                    attendance,
+                    answer,
+                },
+                desks,
+            )
+        }
+        Err(failed) => {
+            let (desks, listener) = failed.value;
+            (
+                Heard {
+                    listener,
+                    attendance: Attendance::of_nobody(alloc),
+                    answer: Err(AllocError),
+                },
+                desks,
+            )
+        }
     }
+}
+
+// Well only where all are accounted for who came.
+fn all_accounted_for(
+    served: Result<(), AllocError>,
+    attendance: &Attendance,
+) -> Result<(), AllocError>
+    ensures { OnOk result (attendance.now.is_complete ≡ true) }
+{
+    served?;
+    if !attendance.is_complete() {
+        return Err(AllocError);
+    }
+    Ok(())
 }

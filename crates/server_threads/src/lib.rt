@@ -93,9 +93,9 @@ mod watch;
 mod writing;
 mod written;
 
-pub use connections::serve_on;
+pub use connections::{Connected, serve_on};
 pub use flusher::Moment;
 pub use hub_desk::Counters;
-pub use sockets::Peers;
+pub use sockets::{Attendance, Peers};
 pub use streams::{Streamed, serve_streams};
 pub use watch::Watch;

@@ -1,3 +1,4 @@
 mod Turns
 mod Served
+mod Unasked
 mod Ended

@@ -147,7 +147,7 @@ module _ {D : Type 0} (does : D → Exchange → D → Type 0) where
 
     talks_broken : (visit : Visit) (why : Parting) (d e : D) (pieces : List (List ℕ)) (writes : List Event) (old new rest : List ℕ) → old ≡ []
         → pieces_of (reads_in visit) ≡ pieces → writes_in visit ≡ socket.Closed ∷ writes → new ≡ bytes_of writes ++ rest
-        → ends_in_write why writes ≡ true → Broken pieces beginning d e (Some old) (Some new) → Talks does hall visit d e
+        → ends_in_write hall why writes ≡ true → Broken pieces beginning d e (Some old) (Some new) → Talks does hall visit d e
     talks_broken visit why d e pieces writes old new rest none read closed sent ends broken =
         record {
           asked = broken.asked;
@@ -159,7 +159,7 @@ module _ {D : Type 0} (does : D → Exchange → D → Type 0) where
 
     -- a conversation in which a write failed
     talks_cut : (visit : Visit) (why : Parting) (d e : D) (start reads writes : List Event) (old new rest : List ℕ) → start ≡ [] → old ≡ []
-        → reads_in visit ≡ reads → writes_in visit ≡ socket.Closed ∷ writes → new ≡ bytes_of writes ++ rest → ends_in_write why writes ≡ true
+        → reads_in visit ≡ reads → writes_in visit ≡ socket.Closed ∷ writes → new ≡ bytes_of writes ++ rest → ends_in_write hall why writes ≡ true
         → StopsConversing does beginning d e start reads (Some old) (Some new) → Talks does hall visit d e
     talks_cut visit why d e start reads writes old new rest begins none same closed sent ends stops =
         talks_broken visit why d e (stops.front ++ (stops.piece ∷ [])) writes old new rest none
@@ -169,7 +169,7 @@ module _ {D : Type 0} (does : D → Exchange → D → Type 0) where
 
     -- one that had ended, and whose last bytes weren't sent on
     talks_unsent : (visit : Visit) (why : Parting) (d e : D) (start reads writes : List Event) (old new rest : List ℕ) → start ≡ [] → old ≡ []
-        → reads_in visit ≡ reads → writes_in visit ≡ socket.Closed ∷ writes → new ≡ bytes_of writes ++ rest → ends_in_write why writes ≡ true
+        → reads_in visit ≡ reads → writes_in visit ≡ socket.Closed ∷ writes → new ≡ bytes_of writes ++ rest → ends_in_write hall why writes ≡ true
         → IsAnswered does d e start reads (Some old) (Some new) → Talks does hall visit d e
     talks_unsent visit why d e start reads writes old new rest begins none same closed sent ends (last, converses) =
         talks_broken visit why d e converses.pieces writes old new rest none
@@ -179,7 +179,7 @@ module _ {D : Type 0} (does : D → Exchange → D → Type 0) where
     -- a conversation, however it had ended, where a write failed by its end
     pub talks_broken_off : {T E : Type 0} (r : Result T E) (visit : Visit) (why : Parting) (d e : D) (start reads writes : List Event) (old new rest : List ℕ)
         → start ≡ [] → old ≡ [] → reads_in visit ≡ reads → writes_in visit ≡ socket.Closed ∷ writes → new ≡ bytes_of writes ++ rest
-        → ends_in_write why writes ≡ true → OnOk r (IsAnswered does d e start reads (Some old) (Some new))
+        → ends_in_write hall why writes ≡ true → OnOk r (IsAnswered does d e start reads (Some old) (Some new))
         → OnErr r (StopsConversing does beginning d e start reads (Some old) (Some new)) → Talks does hall visit d e
     talks_broken_off (Ok x) visit why d e start reads writes old new rest begins none same closed sent ends whole part =
         talks_unsent visit why d e start reads writes old new rest begins none same closed sent ends whole

@@ -26,7 +26,7 @@ pub data IsConversation (hall : ℕ) (visit : Visit) (asked : List Exchange) : T
   Whole : (why : Parting) (calls : List Call) (last : Session) → EndsBetween hall why (reads_in visit) → AreTurns (pieces_of (reads_in visit)) calls
       → Calls beginning calls asked last (bytes_of (writes_in visit)) → IsConversation hall visit asked
   Cut : (why : Parting) (writes : List Event) (calls : List Call) (last : Session) (text : List ℕ) → writes_in visit ≡ socket.Closed ∷ writes
-      → ends_in_write why writes ≡ true → AreTurnsSoFar (pieces_of (reads_in visit)) calls → Calls beginning calls asked last text
+      → ends_in_write hall why writes ≡ true → AreTurnsSoFar (pieces_of (reads_in visit)) calls → Calls beginning calls asked last text
       → IsPrefix (bytes_of writes) text → IsConversation hall visit asked
 
 -- these visits were conversations, one after another, in which these were asked
@@ -48,13 +48,15 @@ module _ {D : Type 0} (does : D → Exchange → D → Type 0) where
     pub asks : Asks does desk asked desk'
     pub conversations : AreConversations hall visits asked
 
-  -- it has served some
-  abbrev pub HasServed : D → D → Type 0
-  HasServed desk desk' = (hall : ℕ) × (visits : List Visit) × ServesVisits hall visits desk desk'
+  -- each desk has served its visits, in their order
+  abbrev pub HaveServed : ℕ → List D → List (List Visit) → List D → Type 0
+  HaveServed hall [] [] [] = Unit {0}
+  HaveServed hall (desk ∷ desks) (visits ∷ others) (desk' ∷ desks') = ServesVisits hall visits desk desk' × HaveServed hall desks others desks'
+  HaveServed hall [] [] (desk' ∷ desks') = ⊥
+  HaveServed hall [] (visits ∷ others) desks' = ⊥
+  HaveServed hall (desk ∷ desks) [] desks' = ⊥
+  HaveServed hall (desk ∷ desks) (visits ∷ others) [] = ⊥
 
-  -- each desk has, in their order
-  abbrev pub HaveServed : List D → List D → Type 0
-  HaveServed [] [] = Unit {0}
-  HaveServed (desk ∷ desks) (desk' ∷ desks') = HasServed desk desk' × HaveServed desks desks'
-  HaveServed [] (desk' ∷ desks') = ⊥
-  HaveServed (desk ∷ desks) [] = ⊥
+  -- in some one hall
+  abbrev pub HaveServedInHall : List D → List (List Visit) → List D → Type 0
+  HaveServedInHall desks visits desks' = (hall : ℕ) × HaveServed hall desks visits desks'

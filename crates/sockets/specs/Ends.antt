@@ -1,5 +1,5 @@
 -- Why a conversation ends.
-use Rattle.std.specs.Prelude.{◌≡◌, ◌≤◌, ℕ, zero, suc, Bool, true, false, List, [], ◌∷◌}
+use Rattle.std.specs.Prelude.{◌≡◌, ◌≤◌, ◌==◌, ◌&&◌, ℕ, zero, suc, Bool, true, false, List, [], ◌∷◌}
 use Rattle.sockets.specs.declared.parting.Parting.{Parting}
 use Rattle.sockets.specs.declared.parting.Parting.TheVariants.{Ended, ReadFailed, WriteFailed, Slow, Idle, Over, NoMemory}
 use Rattle.sockets.specs.Socket as socket
@@ -28,12 +28,13 @@ newest_waited zero events = true
 newest_waited (suc count) (socket.WriteWaited ∷ events) = newest_waited count events
 newest_waited (suc count) events = false
 
--- In a turn, after these writes: the newest failed, or the 50 newest took no byte in their time, or the newest took none and the hall had ended.
-abbrev pub ends_in_write : Parting → List Event → Bool
-ends_in_write WriteFailed writes = newest_failed writes
-ends_in_write Slow writes = newest_waited 50 writes
-ends_in_write (Over token) writes = newest_waited 1 writes
-ends_in_write Ended writes = false
-ends_in_write ReadFailed writes = false
-ends_in_write Idle writes = false
-ends_in_write NoMemory writes = false
+-- In a turn, after these writes: the newest failed, or the 50 newest took no byte in their time, or the newest took none and the hall of this
+-- name had ended.
+abbrev pub ends_in_write : ℕ → Parting → List Event → Bool
+ends_in_write hall WriteFailed writes = newest_failed writes
+ends_in_write hall Slow writes = newest_waited 50 writes
+ends_in_write hall (Over token) writes = (token.of == hall) && newest_waited 1 writes
+ends_in_write hall Ended writes = false
+ends_in_write hall ReadFailed writes = false
+ends_in_write hall Idle writes = false
+ends_in_write hall NoMemory writes = false

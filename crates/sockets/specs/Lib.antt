@@ -7,5 +7,7 @@ pub mod Ends
 pub mod Conversation
 pub mod Desks
 pub mod Room
+pub mod Door
+pub mod Attendance
 pub mod Begun
 pub mod Idle

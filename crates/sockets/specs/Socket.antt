@@ -1,5 +1,5 @@
 -- What a listener and its connections were asked, and what came of it.
-use Rattle.std.specs.Prelude.{ℕ, ◌+◌, List, [], ◌∷◌, ◌++◌, take}
+use Rattle.std.specs.Prelude.{◌≡◌, ℕ, ◌+◌, List, [], ◌∷◌, ◌++◌, take}
 use Rattle.sockets.specs.declared.raw.Got.{Got}
 use Rattle.sockets.specs.declared.raw.Got.TheVariants as got
 use Rattle.sockets.specs.declared.raw.Put.{Put}
@@ -52,3 +52,13 @@ abbrev pub bytes_of : List Event → List ℕ
 bytes_of [] = []
 bytes_of (Wrote bytes ∷ events) = bytes_of events ++ bytes
 bytes_of (event ∷ events) = bytes_of events
+
+-- how many connections came
+abbrev pub came : List Event → ℕ
+came [] = 0
+came (Came ∷ events) = came events + 1
+came (event ∷ events) = came events
+
+-- Behind these calls of a listener there were others, and the newest of them failed to take a connection.
+abbrev pub HasFailedSince : List Event → List Event → Type 0
+HasFailedSince old new = (since : List Event) × (new ≡ AcceptFailed ∷ (since ++ old))

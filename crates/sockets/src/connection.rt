@@ -1,7 +1,7 @@
 //! A conversation over a connection.
-ghost use Rattle.std.specs.Prelude.{◌≡◌, ◌∷◌};
+ghost use Rattle.std.specs.Prelude.{◌≡◌, [], ◌∷◌};
 ghost use Rattle.sockets.specs.Socket.{Closed};
-ghost use Rattle.sockets.specs.Host.{reads_of, writes_of, reads_in, writes_in};
+ghost use Rattle.sockets.specs.Host.{number_read, number_written, reads_of, writes_of, reads_in, writes_in};
 ghost use Rattle.sockets.specs.Desks.{Talks};
 
 use crate::conversation::converse;
@@ -10,8 +10,10 @@ use crate::outgoing::Outgoing;
 use crate::parting::Parting;
 use crate::patience::Patience;
 use crate::raw::{HostPeer, HostReader, HostWriter, Visit};
+use crate::talk::Talk;
 use session::Desk;
 use std::alloc::Global;
+use std::marker::Brand;
 use std::sync::Wait;
 
 /// Has a conversation over a connection until its peer closes it or is idle for too long, a call on it fails, or the hall ends. Out of memory
@@ -25,11 +27,33 @@ pub fn serve_peer<'h, K: Desk, R: Wait>(
 ) -> (Parting<'h>, Visit)
     ensures { Talks K.does hall.now.ended.id result.1 desk.old desk.new }
 {
-    let Ok((mut reader, writer)) = peer.split(alloc) else {
-        return (Parting::NoMemory, Visit::of_nobody());
-    };
-    let Ok(mut output) = Outgoing::new(alloc, writer, hall) else {
-        return (Parting::NoMemory, Visit::of_nobody());
+    match peer.split(alloc) {
+        Ok((reader, writer)) => {
+            serve_halves::<Brand, K, R>(rt, alloc, hall, desk, reader, writer)
+        }
+        Err(visit) => (Parting::NoMemory, visit),
+    }
+}
+
+// Has a conversation over both halves of its connection.
+fn serve_halves<'h, T: Talk, K: Desk, R: Wait>(
+    rt: &R,
+    alloc: Global,
+    hall: &'h Hall,
+    desk: &mut K,
+    reader: HostReader,
+    writer: HostWriter,
+) -> (Parting<'h>, Visit)
+    requires read { number_read reader ≡ T.connection }
+    requires written { number_written writer ≡ T.connection }
+    requires name { hall.now.ended.id ≡ T.hall }
+    requires new { (reads_of reader ≡ []) × (writes_of writer ≡ []) }
+    ensures { Talks K.does hall.now.ended.id result.1 desk.old desk.new }
+{
+    let mut reader = reader;
+    let mut output = match Outgoing::<'_, T>::new(alloc, writer, hall) {
+        Ok(output) => output,
+        Err(writer) => return (Parting::NoMemory, Visit::of(reader, writer)),
     };
     let mut patience = Patience::new(hall.idle());
     let ended = converse(
@@ -52,6 +76,7 @@ pub fn serve_peer<'h, K: Desk, R: Wait>(
 
 // Shuts a connection down on which a write has failed.
 fn cut_off(reader: HostReader, writer: HostWriter) -> Visit
+    requires { number_written writer ≡ number_read reader }
     ensures reads { reads_in result ≡ reads_of reader }
     ensures writes { writes_in result ≡ Closed ∷ writes_of writer }
 {

@@ -3,7 +3,7 @@ ghost use Rattle.std.specs.Prelude.{◌≡◌, ◌≤◌, ◌<◌, ◌+◌, ◌+
 ghost use Rattle.session.specs.Replies.{Feeds, Stops};
 ghost use Rattle.session.specs.Shelf.{Fits};
 ghost use Rattle.sockets.specs.Socket.{pieces_of, waits_of};
-ghost use Rattle.sockets.specs.Host.{reads_of};
+ghost use Rattle.sockets.specs.Host.{number_read, reads_of};
 ghost use Rattle.sockets.specs.Ends.{EndsBetween};
 ghost use Rattle.sockets.specs.Conversation.{beginning, Answers, Converses, IsAnswered, StopsConversing, StopsIn};
 
@@ -39,6 +39,7 @@ pub fn converse<'h, K: Desk, O: Output, R: Wait>(
         (reads_of reader.old) (reads_of reader.new) (O.contents output.old) (O.contents output.new)) }
     ensures cause { OnErr result (O.has_failed output.new ≡ true) }
     ensures sent { O.has_failed output.old ≡ false → OnOk result (O.has_failed output.new ≡ false) }
+    ensures same { number_read reader.new ≡ number_read reader.old }
 {
     let Ok(mut session) = Session::new(alloc) else {
         return Ok(Parting::NoMemory);
@@ -81,6 +82,7 @@ fn take_turns<'h, K: Desk, O: Output, R: Wait>(
         (reads_of reader.old) (reads_of reader.new) (O.contents output.old) (O.contents output.new)) }
     ensures cause { OnErr result (O.has_failed output.new ≡ true) }
     ensures sent { O.has_failed output.old ≡ false → OnOk result (O.has_failed output.new ≡ false) }
+    ensures same { number_read reader.new ≡ number_read reader.old }
 {
     let mut piece = [0; PIECE];
     'turns: for _ in rt.forever() {
@@ -123,6 +125,7 @@ fn take_turn<'h, K: Desk, O: Output>(
     ensures works { OnOk result (session.new.ended ≡ false) }
     ensures sent { O.has_failed output.old ≡ false → OnOk result (O.has_failed output.new ≡ false) }
     ensures patient { (patience.new.limit ≡ patience.old.limit) × (patience.new.waited ≤ waits_of (reads_of reader.new)) }
+    ensures same { number_read reader.new ≡ number_read reader.old }
 {
     let count = match read_piece(reader, piece) {
         Ok(count) => count,
@@ -142,6 +145,7 @@ fn read_piece<'h>(reader: &mut HostReader, piece: &mut [u8; PIECE]) -> Result<us
     ensures ends { IfErr result (λ why. (hall : ℕ) → EndsBetween hall why (reads_of reader.new)) }
     ensures none { OnErr result ((pieces_of (reads_of reader.new) ≡ pieces_of (reads_of reader.old))
         × (waits_of (reads_of reader.new) ≡ waits_of (reads_of reader.old))) }
+    ensures same { number_read reader.new ≡ number_read reader.old }
 {
     match reader.read(piece) {
         Got::Bytes(count) => Ok(count),

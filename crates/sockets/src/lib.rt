@@ -55,19 +55,25 @@
 #![tactic(auto)]
 
 mod accepting;
+mod attendance;
 mod begun;
 mod connection;
 mod conversation;
+mod door;
+mod guests;
 mod hall;
+mod lobby;
 mod outgoing;
 mod parting;
 mod patience;
 mod pause;
 mod raw;
 mod serving;
+mod talk;
 mod threads;
 mod watch;
 
-pub use raw::{HostListener, HostPeer, Listen, SocketNotes, Visit};
+pub use attendance::{Attendance, Attended};
+pub use raw::{HostListener, HostPeer, Listen, SocketNotes, Visit, Visits};
 pub use serving::serve_desks;
 pub use watch::{ListenerWatch, Peers};

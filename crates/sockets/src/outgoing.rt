@@ -3,13 +3,15 @@ ghost use Rattle.std.specs.Prelude.{◌≡◌, ◌≤◌, ◌<◌, ◌++◌, ℕ
 ghost use Rattle.std.specs.Option.{ForSome};
 ghost use Rattle.sockets.specs.Socket.{bytes_of};
 ghost use Rattle.sockets.specs.Ends.{ends_in_write};
-ghost use Rattle.sockets.specs.Host.{writes_of};
+ghost use Rattle.sockets.specs.Host.{number_written, writes_of};
 
 use crate::hall::Hall;
 use crate::parting::Parting;
 use crate::raw::{HostWriter, Put};
+use crate::talk::Talk;
 use session::{Output, WriteError};
-use std::alloc::{AllocError, Global};
+use std::alloc::Global;
+use std::marker::PhantomData;
 
 /// So many bytes are held back at most.
 const HELD: usize = 8192;
@@ -17,10 +19,10 @@ const HELD: usize = 8192;
 /// So many writes wait for a peer that doesn't read. It fails where none of them took a byte.
 const WRITE_WAITS: u32 = 50;
 
-/// What a peer is sent: it is held back until it fills a piece or is sent on. A write waits for a peer that doesn't read, until the hall ends
+/// What the peer of a conversation is sent: it is held back until it fills a piece or is sent on. A write waits for a peer that doesn't read, until the hall ends
 /// or its waits are over.
 #[derive(Drop)]
-pub struct Outgoing<'h> {
+pub struct Outgoing<'h, T: Talk> {
     writer: HostWriter,
     hall: &'h Hall,
     held: Vec<u8>,
@@ -28,30 +30,40 @@ pub struct Outgoing<'h> {
     sent: usize,
     /// Why a write failed, where one did.
     cut: Option<Parting<'h>>,
+    of: PhantomData<T>,
+    ghost connection: { number_written writer ≡ T.connection },
+    ghost name: { hall.now.ended.id ≡ T.hall },
     ghost within: { sent ≤ length held.items },
     ghost few: { length held.items ≤ 8192 },
     ghost room: { 8192 ≤ vec_capacity held },
-    ghost why: { ForSome cut (λ why. ends_in_write why (writes_of writer) ≡ true) },
+    ghost why: { ForSome cut (λ why. ends_in_write T.hall why (writes_of writer) ≡ true) },
 }
 
-impl<'h> Outgoing<'h> {
+impl<'h, T: Talk> Outgoing<'h, T> {
     ghost use Rattle.sockets.specs.Outgoing.{contents_of};
 
-    /// Nothing is sent yet. Refused out of memory alone.
+    /// Nothing is sent yet. Refused out of memory alone, with the writer.
     pub fn new(
         alloc: Global,
         writer: HostWriter,
         hall: &'h Hall,
-    ) -> Result<Outgoing<'h>, AllocError>
+    ) -> Result<Outgoing<'h, T>, HostWriter>
+        requires connection { number_written writer ≡ T.connection }
+        requires name { hall.now.ended.id ≡ T.hall }
         ensures contents { IfOk result (λ output. contents_of output ≡ bytes_of (writes_of writer)) }
         ensures works { IfOk result (λ output. output.cut ≡ None) }
+        ensures refused { IfErr result (λ back. back ≡ writer) }
     {
+        let Ok(held) = Vec::with_capacity(alloc, HELD) else {
+            return Err(writer);
+        };
         Ok(Outgoing {
             writer,
             hall,
-            held: Vec::with_capacity(alloc, HELD)?,
+            held,
             sent: 0,
             cut: None,
+            of: PhantomData,
         })
     }
 
@@ -60,7 +72,9 @@ impl<'h> Outgoing<'h> {
         ensures whole { IfOk result (λ writer. bytes_of (writes_of writer) ≡ contents_of self.entry) }
         ensures works { OnOk result (self.entry.cut ≡ None) }
         ensures part { IfErr result (λ cut. (rest : List ℕ) × (contents_of self.entry ≡ bytes_of (writes_of cut.0) ++ rest)) }
-        ensures why { IfErr result (λ cut. ends_in_write cut.1 (writes_of cut.0) ≡ true) }
+        ensures why { IfErr result (λ cut. ends_in_write T.hall cut.1 (writes_of cut.0) ≡ true) }
+        ensures connection { IfOk result (λ writer. number_written writer ≡ T.connection) }
+        ensures cut_off { IfErr result (λ cut. number_written cut.0 ≡ T.connection) }
     {
         let mut output = self;
         let _ = output.send();
@@ -70,6 +84,7 @@ impl<'h> Outgoing<'h> {
             held: _,
             sent: _,
             cut,
+            of: _,
         } = output;
         match cut {
             None => Ok(writer),
@@ -122,7 +137,7 @@ impl<'h> Outgoing<'h> {
     }
 }
 
-impl Output for Outgoing<'_> {
+impl<T: Talk> Output for Outgoing<'_, T> {
     ghost use Rattle.sockets.specs.Outgoing.{contents_of};
 
     ghost contents = { λ output. Some (contents_of output) };
@@ -163,7 +178,8 @@ fn write_some<'h>(
     requires { 1 ≤ length bytes.now }
     ensures within { IfOk result (λ count. (1 ≤ count) × (count ≤ length bytes.now)) }
     ensures written { IfOk result (λ count. bytes_of (writes_of writer.new) ≡ bytes_of (writes_of writer.old) ++ take count bytes.now) }
-    ensures why { IfErr result (λ why. ends_in_write why (writes_of writer.new) ≡ true) }
+    ensures why { IfErr result (λ why. ends_in_write hall.now.ended.id why (writes_of writer.new) ≡ true) }
+    ensures same { number_written writer.new ≡ number_written writer.old }
     ensures none { OnErr result (bytes_of (writes_of writer.new) ≡ bytes_of (writes_of writer.old)) }
 {
     for _ in 0..WRITE_WAITS {

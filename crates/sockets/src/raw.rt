@@ -3,20 +3,22 @@
 //! **What is not proved**: that each method here makes the call that it notes, that what it notes is what the system answered, and that the
 //! system brings the bytes that a peer sent, in their order, and takes to it those that are written. So these few lines are to be read. No
 //! other file reads or writes a connection.
-ghost use Rattle.std.specs.Prelude.{◌≡◌, ◌≤◌, List, [], ◌∷◌, length, IfOk, OnOk, OnErr};
+ghost use Rattle.std.specs.Prelude.{◌≡◌, ◌≤◌, List, [], ◌∷◌, length, IfOk, IfErr, OnOk, OnErr};
 ghost use Rattle.sockets.specs.Socket.{Event, Came, AcceptFailed, Closed, event_of_read, event_of_write};
-ghost use Rattle.sockets.specs.Host.{arrivals_of, reads_of, writes_of, reads_in, writes_in};
+ghost use Rattle.sockets.specs.Host.{arrivals_of, number_read, number_written, reads_of, writes_of, reads_in, writes_in};
 ghost use Rattle.sockets.specs.Within.{IsWithin, IsTaken};
 
 mod notes;
+mod visits;
 
 use crate::pause::is_pause;
 pub use notes::SocketNotes;
-use std::alloc::{AllocError, Global};
+use std::alloc::Global;
 use std::io::{self, ErrorKind, Read, Write};
 use std::net::{OpenListener, Shutdown, TcpStream};
 use std::sync::Arc;
 use std::time::Duration;
+pub use visits::Visits;
 
 /// How long a read or a write of a connection waits, in milliseconds.
 const WAIT: u64 = 100;
@@ -25,6 +27,8 @@ const WAIT: u64 = 100;
 #[derive(Drop)]
 pub struct HostListener<N> {
     listener: N,
+    /// So many connections came.
+    count: u64,
     notes: SocketNotes,
 }
 
@@ -35,6 +39,7 @@ impl<N: OpenListener<Stream = TcpStream>> HostListener<N> {
     {
         HostListener {
             listener,
+            count: 0,
             notes: SocketNotes::new(),
         }
     }
@@ -48,7 +53,9 @@ impl<N: OpenListener<Stream = TcpStream> + Drop> Listen for HostListener<N> {
             Ok((stream, _address)) => {
                 if has_options(&stream) {
                     self.notes.note_came();
-                    Ok(HostPeer { stream })
+                    let number = self.count;
+                    self.count = number.saturating_add(1);
+                    Ok(HostPeer { stream, number })
                 } else {
                     self.notes.note_accept_failed();
                     Err(io::Error::from(ErrorKind::ConnectionAborted))
@@ -59,6 +66,10 @@ impl<N: OpenListener<Stream = TcpStream> + Drop> Listen for HostListener<N> {
                 Err(reason)
             }
         }
+    }
+
+    fn stop_waiting(&mut self) {
+        let _ = self.listener.set_nonblocking(true);
     }
 }
 
@@ -80,30 +91,53 @@ pub trait Listen: Drop {
     fn accept(&mut self) -> io::Result<HostPeer>
         ensures came { OnOk result (arrivals self.new ≡ Came ∷ arrivals self.old) }
         ensures failed { OnErr result (arrivals self.new ≡ AcceptFailed ∷ arrivals self.old) };
+
+    /// Waits for no further connection: where none has come by then, taking one fails at once, if the system has that.
+    fn stop_waiting(&mut self)
+        ensures { arrivals self.new ≡ arrivals self.old };
 }
 
 /// A connection from which nothing was read and to which nothing was written. Dropped, it is closed.
 #[derive(Drop)]
 pub struct HostPeer {
     stream: TcpStream,
+    /// So many connections of its listener had come before it.
+    number: u64,
 }
 
 impl HostPeer {
-    /// The half that reads and the half that writes. Refused out of memory alone; the connection is closed then.
-    pub(crate) fn split(self, alloc: Global) -> Result<(HostReader, HostWriter), AllocError>
-        ensures { IfOk result (λ halves. (reads_of halves.0 ≡ []) × (writes_of halves.1 ≡ [])) }
+    /// The half that reads and the half that writes. Out of memory the connection is closed.
+    pub(crate) fn split(self, alloc: Global) -> Result<(HostReader, HostWriter), Visit>
+        ensures new { IfOk result (λ halves. (reads_of halves.0 ≡ []) × (writes_of halves.1 ≡ [])) }
+        ensures one { IfOk result (λ halves. number_written halves.1 ≡ number_read halves.0) }
+        ensures refused { IfErr result (λ visit. (reads_in visit ≡ []) × (writes_in visit ≡ [])) }
     {
-        let HostPeer { stream } = self;
-        let stream = Arc::new(alloc, stream)?;
+        let HostPeer { stream, number } = self;
+        let Ok(stream) = Arc::new(alloc, stream) else {
+            return Err(Visit::without_calls());
+        };
+        let Ok(other) = stream.clone() else {
+            return Err(Visit::without_calls());
+        };
         let reader = HostReader {
-            stream: stream.clone()?,
+            stream: other,
+            number,
             notes: SocketNotes::new(),
         };
         let writer = HostWriter {
             stream,
+            number,
             notes: SocketNotes::new(),
         };
         Ok((reader, writer))
+    }
+
+    /// Closes the connection, which was asked nothing.
+    pub(crate) fn turn_away(self) -> Visit
+        ensures { (reads_in result ≡ []) × (writes_in result ≡ []) }
+    {
+        drop(self);
+        Visit::without_calls()
     }
 }
 
@@ -135,6 +169,7 @@ pub enum Put {
 #[derive(Drop)]
 pub struct HostReader {
     stream: Arc<TcpStream>,
+    number: u64,
     notes: SocketNotes,
 }
 
@@ -144,6 +179,7 @@ impl HostReader {
         requires { 1 ≤ length piece.old }
         ensures within { IsWithin result (length piece.new) }
         ensures noted { reads_of self.new ≡ event_of_read result piece.new ∷ reads_of self.old }
+        ensures same { number_read self.new ≡ number_read self.old }
     {
         let mut stream = &*self.stream;
         match stream.read(piece) {
@@ -167,7 +203,7 @@ impl HostReader {
     }
 }
 
-/// What a peer was asked: the reads, and the writes.
+/// What a connection was asked that is closed: the reads, and the writes. It is made of a connection alone, in this file.
 #[derive(Drop)]
 pub struct Visit {
     reads: SocketNotes,
@@ -175,8 +211,8 @@ pub struct Visit {
 }
 
 impl Visit {
-    /// What a peer was asked for whom there was no memory.
-    pub(crate) fn of_nobody() -> Visit
+    // Of a connection that was asked nothing.
+    fn without_calls() -> Visit
         ensures { (reads_in result ≡ []) × (writes_in result ≡ []) }
     {
         Visit {
@@ -185,8 +221,9 @@ impl Visit {
         }
     }
 
-    /// What both halves of a connection were asked, which is closed.
+    /// What both halves of one connection were asked, which is closed.
     pub(crate) fn of(reader: HostReader, writer: HostWriter) -> Visit
+        requires { number_written writer ≡ number_read reader }
         ensures reads { reads_in result ≡ reads_of reader }
         ensures writes { writes_in result ≡ writes_of writer }
     {
@@ -201,6 +238,7 @@ impl Visit {
 #[derive(Drop)]
 pub struct HostWriter {
     stream: Arc<TcpStream>,
+    number: u64,
     notes: SocketNotes,
 }
 
@@ -209,6 +247,7 @@ impl HostWriter {
     pub(crate) fn write(&mut self, bytes: &[u8]) -> Put
         ensures within { IsTaken result (length bytes.now) }
         ensures noted { writes_of self.new ≡ event_of_write result bytes.now ∷ writes_of self.old }
+        ensures same { number_written self.new ≡ number_written self.old }
     {
         let mut stream = &*self.stream;
         match stream.write(bytes) {
@@ -229,7 +268,8 @@ impl HostWriter {
 
     /// Shuts the connection down for both halves.
     pub(crate) fn close(&mut self)
-        ensures { writes_of self.new ≡ Closed ∷ writes_of self.old }
+        ensures noted { writes_of self.new ≡ Closed ∷ writes_of self.old }
+        ensures same { number_written self.new ≡ number_written self.old }
     {
         let _ = self.stream.shutdown(Shutdown::Both);
         self.notes.note_closed();

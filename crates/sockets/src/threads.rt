@@ -1,44 +1,54 @@
 //! A thread for each desk.
 ghost use Rattle.std.specs.Prelude.{vec_len};
-ghost use Rattle.sockets.specs.Desks.{HasServed};
-ghost use Rattle.sockets.specs.Begun.{IsBegun, AreBegun};
+ghost use Rattle.sockets.specs.Begun.{HasAttended, IsBegun, AreBegun};
 ghost use Rattle.sockets.specs.Room.{HasRoom};
 
 use crate::begun::Begun;
 use crate::connection::serve_peer;
+use crate::guests::{Guests, Peer};
 use crate::hall::Hall;
+use crate::lobby::Lobby;
 use session::Desk;
 use std::alloc::Global;
 use std::snapshot::Snapshot;
 use std::sync::Wait;
+use std::sync::ledger::Ledger;
 use std::thread::{Promise, Scope};
 
-/// Promises what comes of this desk.
+/// A desk, and those whom it has served.
 #[derive(Drop)]
-pub struct ServedBy<K>(Snapshot<K>);
+pub struct Attendant<K, G: Ledger> {
+    pub desk: K,
+    pub guests: Guests<G>,
+}
 
-impl<K: Desk> Promise<K> for ServedBy<K> {
-    ghost use Rattle.sockets.specs.Desks.{HasServed};
+/// Promises what comes of this desk in this hall.
+#[derive(Drop)]
+pub struct ServedBy<K>(Snapshot<K>, Snapshot<Hall>);
 
-    ghost kept_by = { λ by desk. HasServed K.does by.0.value desk };
+impl<K: Desk, G: Ledger> Promise<Attendant<K, G>> for ServedBy<K> {
+    ghost use Rattle.sockets.specs.Begun.{HasAttended};
+
+    ghost kept_by = { λ by attendant. HasAttended K.does by.1.value.ended.id by.0.value attendant };
 }
 
 /// Gives each desk a thread, in which it serves one connection after another until the hall ends.
-pub fn begin_all<'s, E, K: Desk + Send + Drop + 's, R: Wait + Sync>(
+pub fn begin_all<'s, E, G: Ledger, K: Desk + Send + Drop + 's, R: Wait + Sync>(
     scope: &Scope<'s, E>,
     rt: &'s R,
     alloc: Global,
     hall: &'s Hall,
+    lobby: &'s Lobby<G>,
     desks: Vec<K>,
-    begun: Vec<Begun<K, ServedBy<K>>>,
-) -> Vec<Begun<K, ServedBy<K>>>
+    begun: Vec<Begun<Attendant<K, G>, ServedBy<K>>>,
+) -> Vec<Begun<Attendant<K, G>, ServedBy<K>>>
     requires { HasRoom (vec_len desks) begun }
-    ensures { AreBegun K.does desks.items result.items }
+    ensures { AreBegun K.does hall.now.ended.id desks.items result.items }
 {
     let mut begun = begun;
     for desk in desks {
         let place = begun.len();
-        let Ok(()) = begun.push(begin(scope, rt, alloc, hall, place, desk)) else {
+        let Ok(()) = begun.push(begin(scope, rt, alloc, hall, lobby, place, desk)) else {
             unreachable!()
         };
     }
@@ -46,20 +56,24 @@ pub fn begin_all<'s, E, K: Desk + Send + Drop + 's, R: Wait + Sync>(
 }
 
 // Gives a desk a thread. Its place among the desks is its own.
-fn begin<'s, E, K: Desk + Send + Drop + 's, R: Wait + Sync>(
+fn begin<'s, E, G: Ledger, K: Desk + Send + Drop + 's, R: Wait + Sync>(
     scope: &Scope<'s, E>,
     rt: &'s R,
     alloc: Global,
     hall: &'s Hall,
+    lobby: &'s Lobby<G>,
     place: usize,
     desk: K,
-) -> Begun<K, ServedBy<K>>
-    ensures { IsBegun K.does desk result }
+) -> Begun<Attendant<K, G>, ServedBy<K>>
+    ensures { IsBegun K.does hall.now.ended.id desk result }
 {
-    let promise = ServedBy(Snapshot::of(&desk));
-    match scope.spawn_with(promise, move || serve_desk(rt, alloc, hall, place, desk)) {
+    let promise = ServedBy(Snapshot::of(&desk), Snapshot::of(hall));
+    match scope.spawn_with(
+        promise,
+        move || serve_desk(rt, alloc, hall, lobby, place, desk),
+    ) {
         Ok(thread) => {
-            hall.free_one(rt);
+            lobby.free_one(rt);
             Begun::InThread(thread)
         }
         Err(refused) => {
@@ -70,25 +84,28 @@ fn begin<'s, E, K: Desk + Send + Drop + 's, R: Wait + Sync>(
 }
 
 // Serves one connection after another until the hall ends, or nobody where the desk has no thread.
-fn serve_desk<K: Desk + Drop, R: Wait>(
+fn serve_desk<G: Ledger, K: Desk + Drop, R: Wait>(
     rt: &R,
     alloc: Global,
     hall: &Hall,
+    lobby: &Lobby<G>,
     place: usize,
     desk: K,
-) -> K
-    ensures { HasServed K.does desk result }
+) -> Attendant<K, G>
+    ensures { HasAttended K.does hall.now.ended.id desk result }
 {
     let mut desk = desk;
+    let mut guests = lobby.nobody(rt);
     if !hall.has_thread(place) {
-        return desk;
+        return Attendant { desk, guests };
     }
     'peers: for _ in rt.forever() {
-        let Some(peer) = hall.next(rt) else {
-            return desk;
+        let Some(Peer { peer, part }) = lobby.next(rt) else {
+            return Attendant { desk, guests };
         };
-        let (parting, _visit) = serve_peer(rt, alloc, hall, &mut desk, peer);
-        hall.leave(rt, &parting);
+        let (parting, visit) = serve_peer(rt, alloc, hall, &mut desk, peer);
+        guests.add(visit, part);
+        lobby.leave(rt, &parting);
     }
     unreachable!()
 }

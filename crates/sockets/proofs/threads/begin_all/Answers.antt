@@ -12,8 +12,8 @@ loop-desk-preserved g c =
     let rest : into_iter_items at.desk-iterator ≡ c.in-Some.desk ∷ into_iter_items c.next.new.self = steps.0 in
     let pushed : vec_items c.push.new.self ≡ vec_items at.begun ++ c.begin.result ∷ [] = c.in-Ok.ensures.items in
     record {
-      begun = subst (λ l. AreBegun g.K.Desk.does (at.yielded ++ c.in-Some.desk ∷ []) l) (sym pushed)
-          (one_more_begun g.K.Desk.does at.yielded (vec_items at.begun) c.in-Some.desk c.begin.result at.invariant.begun c.begin.ensures);
+      begun = subst (λ l. AreBegun g.K.Desk.does c.args.hall.now.ended.id (at.yielded ++ c.in-Some.desk ∷ []) l) (sym pushed)
+          (one_more_begun g.K.Desk.does c.args.hall.now.ended.id at.yielded (vec_items at.begun) c.in-Some.desk c.begin.result at.invariant.begun c.begin.ensures);
       others = append_assoc at.yielded (c.in-Some.desk ∷ []) (into_iter_items c.next.new.self) ∙ (ap (λ l. at.yielded ++ l) (sym rest) ∙ at.invariant.others);
       count = let left = ap length rest in omega (arith, at.invariant.count, left, steps.1);
       room = omega (arith, at.invariant.room, c.in-Ok.ensures.len, c.push.ensures.capacity, steps.1);

@@ -12,9 +12,9 @@ all_written : (bytes held : List ℕ) (sent : ℕ) → held ≡ [] → bytes ≡
 all_written bytes held sent none = sym (append-nil bytes) ∙ ap (λ l. bytes ++ l) (sym (drop-nil sent) ∙ ap (drop sent) (sym none))
 
 pub returns-in-None-clause-whole : goal.returns-in-None-clause-whole
-returns-in-None-clause-whole c =
+returns-in-None-clause-whole g c =
     let sent = sent_well c.send.result c.send.new.self.cut c.in-None.is c.send.ensures.failed c.send.ensures.sent in
     all_written _ _ c.send.new.self.sent sent.0 ∙ c.send.ensures.kept
 
 pub returns-clause-why : goal.returns-clause-why
-returns-clause-why c = c.send.new.self.why c.in-Some.why c.in-Some.is
+returns-clause-why g c = c.send.new.self.why c.in-Some.why c.in-Some.is

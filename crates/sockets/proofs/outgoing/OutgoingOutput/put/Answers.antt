@@ -10,7 +10,7 @@ front_so_far : (old mid new bytes rest : List ℕ) → (done : List ℕ) × (byt
 front_so_far old mid new bytes rest (done, whole, at) kept = front-of (Some old) (Some new) done rest bytes (sym whole) (kept ∙ at)
 
 pub returns-in_err-count-clause-front : goal.returns-in_err-count-clause-front
-returns-in_err-count-clause-front c =
+returns-in_err-count-clause-front g c =
     on_err c.from_residual.result
     (front_so_far (contents_of c.args.self.now) (contents_of c.loop-rest.self) (contents_of c.hold_some.new.self) c.args.bytes.now c.loop-rest.rest.now
     c.loop-rest.invariant.front c.in_err-count.ensures.kept)

@@ -1,0 +1,86 @@
+//! The count of those who came, and of those who are accounted for.
+ghost use Rattle.std.specs.Prelude.{◌≡◌, ◌≤◌, ◌+◌, [], true, length, nat_lt};
+
+use crate::guests::{Guests, Part, Peer};
+use crate::raw::{HostPeer, Visits};
+use std::sync::ledger::{Blank, Book, Ledger, Share};
+
+/// Counts the peers that a listener took by a ledger. Each has a part of it. Where all parts have come back, all peers are accounted for.
+#[derive(Drop)]
+pub struct Door<G: Ledger> {
+    book: Book<G>,
+    share: Share<G>,
+    left: u64,
+    ghost parts: { left ≤ share.parts },
+}
+
+impl<G: Ledger> Door<G> {
+    ghost use Rattle.sockets.specs.Door.{accounted_for, taken_in};
+
+    /// Nobody came yet.
+    pub fn new(blank: Blank) -> Door<G>
+        requires name { blank.name ≡ G.name }
+        requires parts { blank.parts ≡ G.parts }
+        requires all { blank.parts ≡ 18446744073709551615 }
+        ensures taken { taken_in result ≡ 0 }
+        ensures accounted { accounted_for result ≡ 0 }
+    {
+        let (book, share) = blank.open::<G>();
+        Door {
+            book,
+            share,
+            left: u64::MAX,
+        }
+    }
+
+    /// Nobody, of the same ledger.
+    pub fn nobody(&mut self) -> Guests<G>
+        ensures none { result.visits.list ≡ [] }
+        ensures taken { taken_in self.new ≡ taken_in self.old }
+        ensures accounted { accounted_for self.new ≡ accounted_for self.old }
+    {
+        Guests::new(self.share.empty())
+    }
+
+    /// Whether there is a part for one more, and one that is left then.
+    pub fn is_open(&self) -> bool
+        ensures { result ≡ nat_lt 1 self.now.left }
+    {
+        1 < self.left
+    }
+
+    /// One more came, who gets a part.
+    pub fn take_in(&mut self, peer: HostPeer) -> Peer<G>
+        requires { nat_lt 1 self.old.left ≡ true }
+        ensures taken { taken_in self.new ≡ taken_in self.old + 1 }
+        ensures accounted { accounted_for self.new ≡ accounted_for self.old }
+    {
+        self.book.add(&mut self.share, 1);
+        let part = Part::new(self.share.split_off(1, 1));
+        self.left -= 1;
+        Peer { peer, part }
+    }
+
+    /// These are accounted for.
+    pub fn account_for(&mut self, guests: Guests<G>) -> Visits
+        ensures visits { result ≡ guests.visits }
+        ensures taken { taken_in self.new ≡ taken_in self.old }
+        ensures accounted { accounted_for self.new ≡ accounted_for self.old + length guests.visits.list }
+    {
+        let (visits, share, count) = guests.into_parts();
+        self.share.merge(share);
+        self.left = self.left.saturating_add(count);
+        visits
+    }
+
+    /// Whether all parts have come back.
+    pub fn is_whole(&mut self) -> bool
+        requires { G.parts ≡ 18446744073709551615 }
+        ensures { result ≡ true → accounted_for self.old ≡ taken_in self.old }
+    {
+        let none = self.share.empty();
+        self.share.merge(none);
+        self.book.audit(&mut self.share);
+        self.left == u64::MAX
+    }
+}
