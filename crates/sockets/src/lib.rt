@@ -68,6 +68,6 @@ mod serving;
 mod threads;
 mod watch;
 
-pub use raw::{HostListener, HostPeer, Listen, SocketNotes, Visit};
+pub use raw::{Addresses, HostListener, HostPeer, Listen, SocketNotes, Visit};
 pub use serving::serve_desks;
 pub use watch::{ListenerWatch, Peers};
