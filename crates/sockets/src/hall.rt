@@ -144,7 +144,7 @@ impl Hall {
         self.changed.notify_all();
     }
 
-    /// SocketNotes that the desk at this place got no thread.
+    /// Notes that the desk at this place got no thread.
     pub fn turn_away(&self, place: usize) {
         self.without_thread.store(place, Ordering::SeqCst);
     }
