@@ -1,7 +1,8 @@
 //! The calls of the system by which the files of stores are had, and by which an address is, noted with their answers.
 //!
 //! **What is not proved**: that each method of `HostCalls` makes the calls of the system that its note describes. So the few lines of
-//! `HostCalls` are to be read. No other function of the program names a file or an address, but `Standard` the null device.
+//! `HostCalls` are to be read, and those that it calls for this in other crates: `FileDisk::open` and `create` of disk, `Addresses::listen` of
+//! sockets. No other function of the program names a file or an address, but `Standard` the null device.
 //!
 //! A file that was only read is closed by `close`, whose note has the device's past since it was opened. That a device is closed under the name
 //! by which it was opened is not in its clauses: a command's other file, which is the only other device that it has, could be meant.
@@ -12,19 +13,15 @@ ghost use Rattle.server.specs.Calls.{Call, Found, Missed, Unseen, Opened, Failed
 use crate::notes::Notes;
 use crate::standard::Standard;
 use disk::{Disk, FileDisk, FileError};
+use sockets::{Addresses, HostListener};
 use std::fs::{self, File, Permissions};
 use std::io;
-use std::net::{Net, SocketAddr, TcpListener, TcpStream};
-use std::os::fd::OwnedFd;
+use std::net::SocketAddr;
 use std::os::unix::fs::PermissionsExt;
 use std::rt::Files;
-use std::time::Duration;
 
 /// What the owner of a file may do, who reads and writes it, and nobody else may.
 const OWNER_ALONE: u32 = 0o600;
-
-/// How long a listener waits for a connection before it is asked whether to go on, in milliseconds.
-const BEAT: u64 = 100;
 
 const FOUND: u64 = 0;
 
@@ -82,7 +79,7 @@ pub(crate) trait Calls {
         ensures { made self.new ≡ Removed path.now ∷ made self.old };
 
     /// A listener on an address, and the address that it has. It waits no longer than a beat for the next connection.
-    fn listen(&mut self, address: &str) -> io::Result<(TcpListener, SocketAddr)>
+    fn listen(&mut self, address: &str) -> io::Result<(HostListener, SocketAddr)>
         ensures good { OnOk result (made self.new ≡ Listened address.now ∷ made self.old) }
         ensures failed { OnErr result (made self.new ≡ FailedListening address.now ∷ made self.old) };
 }
@@ -104,8 +101,7 @@ impl<'a, R> HostCalls<'a, R> {
     }
 }
 
-impl<R: Files<File = File> + Net<Listener = TcpListener, Stream = TcpStream>> Calls
-    for HostCalls<'_, R> {
+impl<R: Files<File = File> + Addresses> Calls for HostCalls<'_, R> {
     ghost made = { λ calls. calls.notes.calls };
 
     fn complete(&mut self) -> io::Result<Standard> {
@@ -166,8 +162,8 @@ impl<R: Files<File = File> + Net<Listener = TcpListener, Stream = TcpStream>> Ca
         self.notes.note(&[REMOVED], path.as_bytes());
     }
 
-    fn listen(&mut self, address: &str) -> io::Result<(TcpListener, SocketAddr)> {
-        match bind(self.rt, address) {
+    fn listen(&mut self, address: &str) -> io::Result<(HostListener, SocketAddr)> {
+        match self.rt.listen(address) {
             Ok(bound) => {
                 self.notes.note(&[LISTENED], address.as_bytes());
                 Ok(bound)
@@ -178,21 +174,4 @@ impl<R: Files<File = File> + Net<Listener = TcpListener, Stream = TcpStream>> Ca
             }
         }
     }
-}
-
-fn bind<R: Net<Listener = TcpListener, Stream = TcpStream>>(
-    rt: &R,
-    address: &str,
-) -> io::Result<(TcpListener, SocketAddr)> {
-    let listener = with_beat(TcpListener::bind(rt, address)?)?;
-    let bound = listener.local_addr()?;
-    Ok((listener, bound))
-}
-
-// A listener that waits no longer than a beat for the next connection, so that it is asked then whether to go on. The system keeps the wait with the
-// descriptor, for which a stream has the call.
-fn with_beat(listener: TcpListener) -> io::Result<TcpListener> {
-    let stream = TcpStream::from(OwnedFd::from(listener));
-    stream.set_read_timeout(Some(Duration::from_millis(BEAT)))?;
-    Ok(TcpListener::from(OwnedFd::from(stream)))
 }

@@ -12,18 +12,17 @@
 //! What only reads a store closes its file with a note of all that its device went through, so that these clauses say too that nothing was
 //! written to it: `dump`, `info` and `check`, and `copy` and `migrate` for the store that they read. `dump_store` gives the device back unchanged.
 //!
-//! It stands on `words` for what the words ask for, on `server_threads` for the sessions, on `algebra` for the tasks on deltas and for how a
-//! delta is printed, on `recovery` and `disk` for the store in a file, and on `mio` for whether a stream has room.
+//! It stands on `words` for what the words ask for, on `server_threads` for the sessions, on `sockets` for the listener, on `algebra` for the
+//! tasks on deltas and for how a delta is printed, on `recovery` and `disk` for the store in a file, and on `mio` for whether a stream has room.
 //!
 //! A caller, with its contract, which `server_tests` proves as it stands:
 //!
 //! ```text
 //! ghost use Rattle.std.specs.Prelude.{◌≤◌};
 //!
-//! use server::run;
+//! use server::{Addresses, run};
 //! use std::fs::File;
 //! use std::io::Write;
-//! use std::net::{Net, TcpListener, TcpStream};
 //! use std::rt::Files;
 //! use std::sync::Wait;
 //! use std::thread::Threads;
@@ -31,13 +30,7 @@
 //!
 //! /// Makes a store of the default shape in a file, as `richd format FILE` does. The status is 0 where it did.
 //! pub fn format_file<
-//!     R: Files<File = File>
-//!         + AllocGlobal
-//!         + Net<Listener = TcpListener, Stream = TcpStream>
-//!         + Threads
-//!         + Wait
-//!         + Clock
-//!         + Sync,
+//!     R: Files<File = File> + AllocGlobal + Addresses + Threads + Wait + Clock + Sync,
 //!     O: Write + Send,
 //!     E: Write + Send,
 //! >(rt: &R, path: &str, output: &mut O, errors: &mut E) -> u8
@@ -70,3 +63,4 @@ pub use inspected::Printed;
 pub use patient::Patient;
 pub use program::{run, run_with_args};
 pub use server_threads::serve_on;
+pub use sockets::Addresses;

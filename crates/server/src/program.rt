@@ -22,13 +22,12 @@ use refusal::Refusal;
 use server_threads::{serve_on, serve_streams};
 use serving::InputStream;
 use session::Stream;
-use sockets::HostListener;
+use sockets::Addresses;
 use std::alloc::Global;
 use std::convert::AsStr;
 use std::env::Env;
 use std::fs::File;
 use std::io::{Read, Write};
-use std::net::{Net, TcpListener, TcpStream};
 use std::rt::Files;
 use std::sync::Wait;
 use std::thread::Threads;
@@ -42,13 +41,7 @@ use words::{DeltaCommand, Invocation, Lines, Listening, Making, ShapeOptions, gi
 /// reason; a usage fault there in a text of its own; help that is asked for goes to `output`. Faults are found in the order words,
 /// standard streams, file, store, address.
 pub fn run<
-    R: Files<File = File>
-        + AllocGlobal
-        + Net<Listener = TcpListener, Stream = TcpStream>
-        + Threads
-        + Wait
-        + Clock
-        + Sync,
+    R: Files<File = File> + AllocGlobal + Addresses + Threads + Wait + Clock + Sync,
     S: AsStr,
     I: Read,
     O: Write + Send,
@@ -63,14 +56,7 @@ pub fn run<
 
 /// Runs the program over the words that the system gives it, as `run` does. Words that aren't UTF-8 can't be used.
 pub fn run_with_args<
-    R: Files<File = File>
-        + AllocGlobal
-        + Env
-        + Net<Listener = TcpListener, Stream = TcpStream>
-        + Threads
-        + Wait
-        + Clock
-        + Sync,
+    R: Files<File = File> + AllocGlobal + Env + Addresses + Threads + Wait + Clock + Sync,
     I: Read,
     O: Write + Send,
     E: Write + Send,
@@ -472,13 +458,12 @@ fn listen<
     let before = milliseconds(rt.monotonic());
     let store = open_store(rt.alloc(), calls, path, pick)?;
     let took = milliseconds(rt.monotonic()).saturating_sub(before);
-    let (listener, bound) = match calls.listen(how.address) {
+    let (mut listener, bound) = match calls.listen(how.address) {
         Ok(found) => found,
         Err(reason) => return Err(Ended::fault(LISTENING, how.address, reason)),
     };
     let opened = Opened::of(&store, took);
     let watch = Front::new(rt, path, bound, how, opened, output, errors);
-    let mut listener = HostListener::new(listener);
     let (_store, served) = serve_on(
         rt,
         rt.alloc(),

@@ -1,10 +1,9 @@
 //! The caller that opens `lib.rt` of server.
 ghost use Rattle.std.specs.Prelude.{◌≤◌};
 
-use server::run;
+use server::{Addresses, run};
 use std::fs::File;
 use std::io::Write;
-use std::net::{Net, TcpListener, TcpStream};
 use std::rt::Files;
 use std::sync::Wait;
 use std::thread::Threads;
@@ -12,13 +11,7 @@ use std::time::Clock;
 
 /// Makes a store of the default shape in a file, as `richd format FILE` does. The status is 0 where it did.
 pub fn format_file<
-    R: Files<File = File>
-        + AllocGlobal
-        + Net<Listener = TcpListener, Stream = TcpStream>
-        + Threads
-        + Wait
-        + Clock
-        + Sync,
+    R: Files<File = File> + AllocGlobal + Addresses + Threads + Wait + Clock + Sync,
     O: Write + Send,
     E: Write + Send,
 >(rt: &R, path: &str, output: &mut O, errors: &mut E) -> u8

@@ -74,6 +74,6 @@ mod threads;
 mod watch;
 
 pub use attendance::{Attendance, Attended};
-pub use raw::{HostListener, HostPeer, Listen, SocketNotes, Visit, Visits};
+pub use raw::{Addresses, HostListener, HostPeer, Listen, SocketNotes, Visit, Visits};
 pub use serving::serve_desks;
 pub use watch::{ListenerWatch, Peers};

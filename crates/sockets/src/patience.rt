@@ -25,7 +25,7 @@ impl Patience {
         }
     }
 
-    /// SocketNotes what a read brought to a session, which has answered it: no byte where the read waited in vain. A peer is idle until it ends a
+    /// Notes what a read brought to a session, which has answered it: no byte where the read waited in vain. A peer is idle until it ends a
     /// line, where it has presented itself, and it isn't while it follows a document.
     pub fn note(&mut self, session: &Session, piece: &[u8])
         ensures { self.new ≡ record self.old { waited = waited_after session.now piece.now self.old.limit self.old.waited } }

@@ -2,7 +2,8 @@
 //!
 //! **What is not proved**: that each method here makes the call that it notes, that what it notes is what the system answered, and that the
 //! system brings the bytes that a peer sent, in their order, and takes to it those that are written. So these few lines are to be read. No
-//! other file reads or writes a connection.
+//! other file of the program names the system's listeners and streams, so none reads or writes a connection. The listener is bound here too, by
+//! `Addresses`: who asks for the address notes that.
 ghost use Rattle.std.specs.Prelude.{◌≡◌, ◌≤◌, List, [], ◌∷◌, length, IfOk, IfErr, OnOk, OnErr};
 ghost use Rattle.sockets.specs.Socket.{Event, Came, AcceptFailed, Closed, event_of_read, event_of_write};
 ghost use Rattle.sockets.specs.Host.{arrivals_of, number_read, number_written, reads_of, writes_of, reads_in, writes_in};
@@ -15,7 +16,8 @@ use crate::pause::is_pause;
 pub use notes::SocketNotes;
 use std::alloc::Global;
 use std::io::{self, ErrorKind, Read, Write};
-use std::net::{OpenListener, Shutdown, TcpStream};
+use std::net::{Net, OpenListener, Shutdown, SocketAddr, TcpListener, TcpStream};
+use std::os::fd::OwnedFd;
 use std::sync::Arc;
 use std::time::Duration;
 pub use visits::Visits;
@@ -23,9 +25,35 @@ pub use visits::Visits;
 /// How long a read or a write of a connection waits, in milliseconds.
 const WAIT: u64 = 100;
 
+/// How long a listener waits for a connection before it is asked whether to go on, in milliseconds.
+const BEAT: u64 = 100;
+
+/// The addresses of a host, which are listened on.
+pub trait Addresses {
+    /// A listener on an address, and the address that it has. It has taken nobody yet, and waits no longer than a beat for the next connection.
+    fn listen(&self, address: &str) -> io::Result<(HostListener, SocketAddr)>
+        ensures { IfOk result (λ bound. arrivals_of bound.0 ≡ []) };
+}
+
+impl<R: Net<Listener = TcpListener, Stream = TcpStream>> Addresses for R {
+    fn listen(&self, address: &str) -> io::Result<(HostListener, SocketAddr)> {
+        let listener = with_beat(TcpListener::bind(self, address)?)?;
+        let bound = listener.local_addr()?;
+        Ok((HostListener::new(listener), bound))
+    }
+}
+
+// A listener that waits no longer than a beat for the next connection, so that it is asked then whether to go on. The system keeps the wait with the
+// descriptor, for which a stream has the call.
+fn with_beat(listener: TcpListener) -> io::Result<TcpListener> {
+    let stream = TcpStream::from(OwnedFd::from(listener));
+    stream.set_read_timeout(Some(Duration::from_millis(BEAT)))?;
+    Ok(TcpListener::from(OwnedFd::from(stream)))
+}
+
 /// A listener whose calls are kept, with what came of them.
 #[derive(Drop)]
-pub struct HostListener<N> {
+pub struct HostListener<N = TcpListener> {
     listener: N,
     /// So many connections came.
     count: u64,
