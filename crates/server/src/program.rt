@@ -458,22 +458,14 @@ fn listen<
     let before = milliseconds(rt.monotonic());
     let store = open_store(rt.alloc(), calls, path, pick)?;
     let took = milliseconds(rt.monotonic()).saturating_sub(before);
-    let (mut listener, bound) = match calls.listen(how.address) {
+    let (listener, bound) = match calls.listen(how.address) {
         Ok(found) => found,
         Err(reason) => return Err(Ended::fault(LISTENING, how.address, reason)),
     };
     let opened = Opened::of(&store, took);
     let watch = Front::new(rt, path, bound, how, opened, output, errors);
-    let (_store, served) = serve_on(
-        rt,
-        rt.alloc(),
-        store,
-        &mut listener,
-        every,
-        how.idle,
-        &watch,
-    );
-    Err(watch.ended(how, served))
+    let connected = serve_on(rt, rt.alloc(), store, listener, every, how.idle, &watch);
+    Err(watch.ended(how, connected.served))
 }
 
 fn tell_end<O: Write, E: Write>(ended: Ended<'_>, output: &mut O, errors: &mut E) -> u8

@@ -24,8 +24,9 @@
 //! Callers, which `server_threads_tests` proves:
 //!
 //! ```text
-//! ghost use Rattle.std.specs.Prelude.{true, IfOk, is_ok};
+//! ghost use Rattle.std.specs.Prelude.{◌≡◌, true, IfOk, is_ok};
 //! ghost use Rattle.recovery.specs.Open.{state_of};
+//! ghost use Rattle.sockets.specs.Attendance.{visits_of};
 //! ghost use Rattle.server_threads.specs.Connections.{EachHasServed};
 //! ghost use Rattle.server_threads.specs.Served.{WasServed};
 //! ghost use Rattle.server_threads.specs.Streams.{ByOne, EndsAtHub};
@@ -33,7 +34,7 @@
 //! use disk::Disk;
 //! use recovery::Store;
 //! use refusal::Refusal;
-//! use server_threads::{Streamed, Watch, serve_on, serve_streams};
+//! use server_threads::{Attendance, Connected, Streamed, Watch, serve_on, serve_streams};
 //! use serving::Input;
 //! use session::Output;
 //! use sockets::Listen;
@@ -43,19 +44,25 @@
 //! use std::time::Clock;
 //!
 //! /// Serves a store until the listener fails, with milestones at about every 256 revisions, and gives it back where all that was
-//! /// ordered is written.
+//! /// ordered is written, with those who came: all of them, by the listener's calls.
 //! pub fn serve_store<R: Threads + Wait + Clock + Sync, N: Listen, D: Disk + Send + Drop, W: Watch<D>>(
 //!     rt: &R,
 //!     alloc: Global,
 //!     store: Store<D>,
-//!     listener: &mut N,
+//!     listener: N,
 //!     watch: &W,
-//! ) -> Result<Store<D>, Refusal>
-//!     ensures { IfOk result (λ after. WasServed (EachHasServed (state_of store)) true store after) }
+//! ) -> Result<(Store<D>, Attendance), Refusal>
+//!     ensures served { IfOk result (λ after. WasServed (EachHasServed (state_of store) (visits_of after.1)) true store after.0) }
+//!     ensures complete { IfOk result (λ after. after.1.is_complete ≡ true) }
 //! {
-//!     let (after, served) = serve_on(rt, alloc, store, listener, 256, 0, watch);
+//!     let Connected {
+//!         store,
+//!         listener: _,
+//!         attendance,
+//!         served,
+//!     } = serve_on(rt, alloc, store, listener, 256, 0, watch);
 //!     served?;
-//!     Ok(after)
+//!     Ok((store, attendance))
 //! }
 //!
 //! /// Serves one session over a pair of streams: its output is the replies to its input, and the store holds all that its desk acknowledged.

@@ -1,11 +1,12 @@
 //! The callers that open `lib.rt` of hub_desk, sockets and server_threads.
-ghost use Rattle.std.specs.Prelude.{◌∷◌, [], true, IfErr, IfOk, is_ok};
+ghost use Rattle.std.specs.Prelude.{◌≡◌, ◌∷◌, [], true, IfErr, IfOk, is_ok};
 ghost use Rattle.recovery.specs.Open.{state_of};
 ghost use Rattle.hub_desk.specs.AtHub.{Acknowledges, Refuses};
 ghost use Rattle.server_threads.specs.Connections.{EachHasServed};
 ghost use Rattle.server_threads.specs.Served.{WasServed};
 ghost use Rattle.server_threads.specs.Streams.{ByOne, EndsAtHub};
-ghost use Rattle.sockets.specs.Desks.{HaveServed};
+ghost use Rattle.sockets.specs.Attendance.{visits_of};
+ghost use Rattle.sockets.specs.Desks.{HaveServedInHall};
 
 use disk::Disk;
 use hub_desk::HubDesk;
@@ -13,10 +14,10 @@ use published::Life;
 use recovery::Store;
 use refusal::Refusal;
 use revision::Command;
-use server_threads::{Streamed, Watch, serve_on, serve_streams};
+use server_threads::{Attendance, Connected, Streamed, Watch, serve_on, serve_streams};
 use serving::Input;
 use session::{Desk, Output, Reply};
-use sockets::{Listen, ListenerWatch, serve_desks};
+use sockets::{Attended, Listen, ListenerWatch, serve_desks};
 use std::alloc::{AllocError, Global};
 use std::sync::Wait;
 use std::thread::Threads;
@@ -34,14 +35,15 @@ pub fn answer<D, L: Life, R: Wait>(
     desk.ask(alloc, command)
 }
 
-/// Serves one connection after another by a single desk, until the listener fails. What it exchanged is what conversations ask.
+/// Serves one connection after another by a single desk, until the listener fails. What it exchanged is what the conversations of its visits
+/// ask.
 pub fn serve_in_turn<
     K: Desk + Send + Drop,
     R: Threads + Wait + Clock + Sync,
     N: Listen,
     W: ListenerWatch,
->(rt: &R, alloc: Global, desk: K, listener: &mut N, watch: &W) -> Result<Vec<K>, AllocError>
-    ensures { IfOk result (λ after. HaveServed K.does (desk ∷ []) after.items) }
+>(rt: &R, alloc: Global, desk: K, listener: N, watch: &W) -> Result<Attended<K, N>, AllocError>
+    ensures { IfOk result (λ after. HaveServedInHall K.does (desk ∷ []) (visits_of after.attendance) after.desks.items) }
 {
     let mut desks = Vec::new(alloc);
     desks.push(desk)?;
@@ -49,19 +51,25 @@ pub fn serve_in_turn<
 }
 
 /// Serves a store until the listener fails, with milestones at about every 256 revisions, and gives it back where all that was
-/// ordered is written.
+/// ordered is written, with those who came: all of them, by the listener's calls.
 pub fn serve_store<R: Threads + Wait + Clock + Sync, N: Listen, D: Disk + Send + Drop, W: Watch<D>>(
     rt: &R,
     alloc: Global,
     store: Store<D>,
-    listener: &mut N,
+    listener: N,
     watch: &W,
-) -> Result<Store<D>, Refusal>
-    ensures { IfOk result (λ after. WasServed (EachHasServed (state_of store)) true store after) }
+) -> Result<(Store<D>, Attendance), Refusal>
+    ensures served { IfOk result (λ after. WasServed (EachHasServed (state_of store) (visits_of after.1)) true store after.0) }
+    ensures complete { IfOk result (λ after. after.1.is_complete ≡ true) }
 {
-    let (after, served) = serve_on(rt, alloc, store, listener, 256, 0, watch);
+    let Connected {
+        store,
+        listener: _,
+        attendance,
+        served,
+    } = serve_on(rt, alloc, store, listener, 256, 0, watch);
     served?;
-    Ok(after)
+    Ok((store, attendance))
 }
 
 /// Serves one session over a pair of streams: its output is the replies to its input, and the store holds all that its desk acknowledged.

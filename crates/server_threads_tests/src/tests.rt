@@ -14,7 +14,7 @@ use disk::{Disk, MemDisk};
 use kept::Kept;
 use recovery::{Pick, Shape, Store, format_device};
 use refusal::Refusal;
-use server_threads::serve_on;
+use server_threads::{Connected, serve_on};
 use sockets::HostListener;
 use std::io::{self, ErrorKind, Read, Write};
 use std::net::{Net, OpenListener, SocketAddr, TcpListener, TcpStream};
@@ -148,7 +148,7 @@ fn served_behind<
         .expect(rt, "a listener that doesn't wait");
     let address = listener.local_addr().expect(rt, "an address");
     let over = AtomicBool::new(false);
-    let mut until = HostListener::new(Until {
+    let until = HostListener::new(Until {
         rt,
         listener: &listener,
         passing,
@@ -163,12 +163,27 @@ fn served_behind<
             clients(address);
             over.store(true, Ordering::SeqCst);
         },
-        || serve_on(rt, rt.alloc(), store, &mut until, every, 0, &seen),
+        || served_whole(rt, serve_on(rt, rt.alloc(), store, until, every, 0, &seen)),
     );
     assert_eq!(rt; seen.begins(), 1);
     assert_eq!(rt; seen.ended_by(), last);
     assert_eq!(rt; seen.failures(), if ended.1.is_err() { 1 } else { 0 });
     ended
+}
+
+/// What serving gave back, where all are accounted for who came.
+fn served_whole<N: Drop, D: Disk + Drop>(
+    rt: &impl Abort,
+    connected: Connected<N, D>,
+) -> (Store<D>, Result<(), Refusal>) {
+    let Connected {
+        store,
+        listener: _,
+        attendance,
+        served,
+    } = connected;
+    assert!(rt; attendance.is_complete());
+    (store, served)
 }
 
 /// A listener whose waiting is limited to 100 milliseconds, as a stream's would be.
@@ -200,14 +215,17 @@ fn served_kept<
 {
     let listener = limited_listener(rt);
     let address = listener.local_addr().expect(rt, "an address");
-    let mut listener = HostListener::new(listener);
+    let listener = HostListener::new(listener);
     let (_, ended) = thread::join(
         rt,
         || {
             clients(address);
             kept.end();
         },
-        || serve_on(rt, rt.alloc(), store, &mut listener, EVERY, idle, kept),
+        || served_whole(
+            rt,
+            serve_on(rt, rt.alloc(), store, listener, EVERY, idle, kept),
+        ),
     );
     ended
 }

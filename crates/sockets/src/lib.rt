@@ -14,23 +14,31 @@
 //!
 //! ```text
 //! ghost use Rattle.std.specs.Prelude.{◌∷◌, [], IfOk};
-//! ghost use Rattle.sockets.specs.Desks.{HaveServed};
+//! ghost use Rattle.sockets.specs.Attendance.{visits_of};
+//! ghost use Rattle.sockets.specs.Desks.{HaveServedInHall};
 //!
 //! use session::Desk;
-//! use sockets::{Listen, ListenerWatch, serve_desks};
+//! use sockets::{Attended, Listen, ListenerWatch, serve_desks};
 //! use std::alloc::{AllocError, Global};
 //! use std::sync::Wait;
 //! use std::thread::Threads;
 //! use std::time::Clock;
 //!
-//! /// Serves one connection after another by a single desk, until the listener fails. What it exchanged is what conversations ask.
+//! /// Serves one connection after another by a single desk, until the listener fails. What it exchanged is what the conversations of its visits
+//! /// ask.
 //! pub fn serve_in_turn<
 //!     K: Desk + Send + Drop,
 //!     R: Threads + Wait + Clock + Sync,
 //!     N: Listen,
 //!     W: ListenerWatch,
-//! >(rt: &R, alloc: Global, desk: K, listener: &mut N, watch: &W) -> Result<Vec<K>, AllocError>
-//!     ensures { IfOk result (λ after. HaveServed K.does (desk ∷ []) after.items) }
+//! >(
+//!     rt: &R,
+//!     alloc: Global,
+//!     desk: K,
+//!     listener: N,
+//!     watch: &W,
+//! ) -> Result<Attended<K, N>, AllocError>
+//!     ensures { IfOk result (λ after. HaveServedInHall K.does (desk ∷ []) (visits_of after.attendance) after.desks.items) }
 //! {
 //!     let mut desks = Vec::new(alloc);
 //!     desks.push(desk)?;

@@ -91,7 +91,9 @@ fn serve_counted<
             );
             Ok(end(held, lobby, seats))
         }
-        Err(AllocError) => Err(AllocFailed { value: (desks, listener) }),
+        Err(AllocError) => Err(AllocFailed {
+            value: (desks, listener),
+        }),
     }
 }
 

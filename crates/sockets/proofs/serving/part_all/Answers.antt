@@ -25,7 +25,7 @@ loop-attendant-preserved g c =
     let rest : into_iter_items at.attendant-iterator ≡ one ∷ into_iter_items c.next.new.self = steps.0 in
     let visits : lists_of (vec_items c.push-in-loop-attendant.new.self) ≡ lists_of (vec_items at.seats.visits) ++ one.guests.visits.list ∷ [] =
     ap lists_of c.in-Ok-push.ensures.items ∙ (map-append (λ (v : Visits). v.list) (vec_items at.seats.visits) (c.account_for.result ∷ [])
-        ∙ ap (λ (v : Visits). lists_of (vec_items at.seats.visits) ++ v.list ∷ []) c.account_for.ensures.visits) in
+    ∙ ap (λ (v : Visits). lists_of (vec_items at.seats.visits) ++ v.list ∷ []) c.account_for.ensures.visits) in
     record {
       desks = mapped _ at.yielded (vec_items at.seats.desks) one (vec_items c.push.new.self) at.invariant.desks c.in-Ok.ensures.items;
       visits = mapped _ at.yielded (lists_of (vec_items at.seats.visits)) one (lists_of (vec_items c.push-in-loop-attendant.new.self)) at.invariant.visits visits;

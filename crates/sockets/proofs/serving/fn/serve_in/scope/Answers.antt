@@ -7,9 +7,16 @@ pub end_all-requires : goal.end_all-requires
 end_all-requires g c =
     let desks = c.captures.desks in
     let begun = c.begin_all-begun.result in
-    let room = c.requires.1 in
-    (room.0, omega (arith, room.1, as_many_begun g.K.Desk.does c.captures.hall.now.ended.id (vec_items desks) (vec_items begun) c.begin_all-begun.ensures,
-      desks.ok.0, begun.ok.0))
+    let room = c.requires.1 in (
+      room.0,
+      omega (
+        arith,
+        room.1,
+        as_many_begun g.K.Desk.does c.captures.hall.now.ended.id (vec_items desks) (vec_items begun) c.begin_all-begun.ensures,
+        desks.ok.0,
+        begun.ok.0,
+      ),
+    )
 
 pub returns-clause-attended : goal.returns-clause-attended
 returns-clause-attended g c =
