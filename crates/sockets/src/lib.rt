@@ -7,7 +7,8 @@
 //! one, and the system takes a little more where it seemed full, so that this comes about after 5 to 15 seconds. A peer that is idle for as
 //! many seconds as were asked for is closed (`specs/Idle.antt`), which is counted by the reads in which nothing came: bytes of a line that
 //! has no end neither count nor begin anew. An error of the listener is waited out, but for those by which it can't work any more
-//! (`accepting.rt`). Then, and where the watch ends it, each session ends within 100 milliseconds, in a read or a write. A
+//! (`accepting.rt`). Then, and where the watch ends it, each session ends within 100 milliseconds, in a read or a write. Those who came by then and
+//! weren't given to a thread are closed. A
 //! `ListenerWatch` is told how many desks got a thread, before anybody is taken, what became of the connections, and why the listener ended.
 //!
 //! A caller, with its contract, which is proved as it stands:
@@ -53,13 +54,16 @@
 //! replies to the bytes that were read from it, in order, and the news after each read, also one that waited in vain; it ended since the
 //! peer sends nothing more, since a read or a write failed, since the peer was idle for a second or longer, since it took no byte in 50 writes, since
 //! the hall had ended, or since there was no memory for a session, before anything was read or written; and where it ended in a write, a prefix of what was due is
-//! written. `serve_desks` gives its desks back in their order, each with what it exchanged: what is asked in conversations, one after
-//! another. No connection waits for a thread that isn't free (the hall's own invariant), and a shelf stays right of what its desk shows.
+//! written. `serve_desks` gives its desks back in their order, each with the visits of those whom it served: it was asked just what their
+//! conversations ask, one after another. No connection waits for a thread that isn't free (the lobby's own invariant), and a shelf stays right
+//! of what its desk shows.
 //!
-//! `serve_desks` doesn't give the notes back. Its promise says that there are some that fit what a desk was asked, as there always are; no clause
-//! says that they are those that were noted, nor that they are of all who connected. That each connection is given to a
-//! conversation, that connections are served, closed and given places again is tested. So is which error of the listener is waited out: the
-//! listener is a parameter, so that a test can give one that fails. What `raw.rt` notes is what the system answered: its few lines are to be read.
+//! A visit is what a connection was asked that is closed: `raw.rt` alone makes one, of a connection, and a list of visits, of such. Each peer has
+//! a part of a ledger (`door.rt`), which its visit brings back, or its turning away. So where all parts are back, nobody was dropped, and the visits are as many
+//! as came by the listener's calls (`specs/Attendance.antt`). Of those who were turned away nothing was read, and nothing was written to them.
+//!
+//! Tested, since no clause says it: that a connection is served where a desk is free, and that places are given again. So is which error of the listener is
+//! waited out: the listener is a parameter, so that a test can give one that fails. What `raw.rt` notes is what the system answered: its few lines are to be read.
 #![tactic(auto)]
 
 mod accepting;
