@@ -5,5 +5,5 @@ mod AtCommits
 mod Answered
 mod Served
 mod Ended
-mod Connected
+mod Attending
 mod Tallied

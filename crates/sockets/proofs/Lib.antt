@@ -1,4 +1,5 @@
 mod Turns
 mod Served
+mod Crossing
 mod Unasked
 mod Ended

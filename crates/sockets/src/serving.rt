@@ -55,7 +55,7 @@ pub fn serve_desks<
 
 // Serves those who connect, each of whom has a part of this ledger.
 fn serve_counted<
-    G: Ledger,
+    G: Ledger + Send + Sync,
     K: Desk + Send + Drop,
     R: Threads + Wait + Clock + Sync,
     N: Listen,
@@ -150,7 +150,7 @@ struct Held<K, N, G: Ledger> {
 
 // A thread for each desk, and the loop that takes connections.
 fn serve_in<
-    G: Ledger,
+    G: Ledger + Send + Sync,
     K: Desk + Send + Drop,
     R: Threads + Wait + Clock + Sync,
     N: Listen,
@@ -178,7 +178,7 @@ fn serve_in<
         rt,
         |scope| -> Held<K, N, G>
             requires { HasRoom (vec_len desks) begun × HasRoom (vec_len desks) attendants }
-            ensures attended { HaveAttended K.does hall.now.ended.id desks.items result.attendants.items }
+            ensures attended { HaveAttended K.does hall.entry.now.ended.id desks.items result.attendants.items }
             ensures counted { came (N.arrivals result.listener) + taken_in door ≡ came (N.arrivals listener) + taken_in result.door }
             ensures accounted { accounted_for result.door ≡ accounted_for door }
             ensures failed { result.has_failed ≡ true → HasFailedSince (N.arrivals listener) (N.arrivals result.listener) }

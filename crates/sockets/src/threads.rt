@@ -33,7 +33,7 @@ impl<K: Desk, G: Ledger> Promise<Attendant<K, G>> for ServedBy<K> {
 }
 
 /// Gives each desk a thread, in which it serves one connection after another until the hall ends.
-pub fn begin_all<'s, E, G: Ledger, K: Desk + Send + Drop + 's, R: Wait + Sync>(
+pub fn begin_all<'s, E, G: Ledger + Send + Sync, K: Desk + Send + Drop + 's, R: Wait + Sync>(
     scope: &Scope<'s, E>,
     rt: &'s R,
     alloc: Global,
@@ -56,7 +56,7 @@ pub fn begin_all<'s, E, G: Ledger, K: Desk + Send + Drop + 's, R: Wait + Sync>(
 }
 
 // Gives a desk a thread. Its place among the desks is its own.
-fn begin<'s, E, G: Ledger, K: Desk + Send + Drop + 's, R: Wait + Sync>(
+fn begin<'s, E, G: Ledger + Send + Sync, K: Desk + Send + Drop + 's, R: Wait + Sync>(
     scope: &Scope<'s, E>,
     rt: &'s R,
     alloc: Global,

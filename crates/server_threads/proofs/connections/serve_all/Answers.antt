@@ -7,7 +7,7 @@ use Rattle.std.specs.Prelude.{All}
 use Rattle.sockets.specs.Attendance.{visits_of}
 use Rattle.server_threads.specs.Answers.{first_desk}
 use Rattle.server_threads.proofs.Crossing.{desk_send}
-use Rattle.server_threads.proofs.Connected.{each_served, as_many, none_came, unserved}
+use Rattle.server_threads.proofs.Attending.{each_served, as_many, none_came, unserved}
 use Rattle.server_threads.proofs.connections.serve_all.Goals as goal
 
 pub serve_desks-requires-send-K : goal.serve_desks-requires-send-K

@@ -5,7 +5,7 @@ use Rattle.sockets.specs.Attendance.{visits_of}
 use Rattle.server_threads.specs.Connections.{EachHasServed}
 use Rattle.server_threads.specs.Served.{WasServed}
 use Rattle.server_threads.proofs.Served.{lived_from, served_as, none_served}
-use Rattle.server_threads.proofs.Connected.{well_by, nobody_served, none_came}
+use Rattle.server_threads.proofs.Attending.{well_by, nobody_served, none_came}
 use Rattle.server_threads.proofs.connections.serve_from.Goals as goal
 
 -- the sessions were held, and the life that ended is theirs

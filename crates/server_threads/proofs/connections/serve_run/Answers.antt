@@ -5,7 +5,7 @@ use Rattle.sockets.specs.Attendance.{visits_of}
 use Rattle.server_threads.specs.Connections.{EachHasServed}
 use Rattle.server_threads.specs.Served.{WasServed}
 use Rattle.server_threads.proofs.Served.{none_served}
-use Rattle.server_threads.proofs.Connected.{nobody_served, none_came}
+use Rattle.server_threads.proofs.Attending.{nobody_served, none_came}
 use Rattle.server_threads.proofs.connections.serve_run.Goals as goal
 
 -- nobody was served

@@ -1,4 +1,4 @@
-use Rattle.std.proofs.Common.{◌≤◌, ◌<◌, subst, sym}
+use Rattle.std.proofs.Common.{◌≤◌, ◌<◌, ◌∙◌, refl, subst, sym}
 use Rattle.sockets.specs.Host.{reads_of}
 use Rattle.sockets.proofs.Turns.{on_err, converses_yet, converses_joined, stops_behind}
 use Rattle.sockets.proofs.conversation.take_turns.Goals as goal
@@ -7,6 +7,7 @@ pub turns-init : goal.turns-init
 turns-init g c = record {
   fits = c.requires.fits;
   works = c.requires.works;
+  same = refl;
   sent = λ works. works;
   patient = c.requires.patient;
   answered = converses_yet g.K.Desk.does c.args.session.now c.args.desk.now (reads_of c.args.reader.now) (g.O.Output.contents c.args.output.now);
@@ -16,6 +17,7 @@ pub turns-preserved : goal.turns-preserved
 turns-preserved g c = record {
   fits = c.take_turn.ensures.fits;
   works = c.in_ok-why.ensures.works;
+  same = c.take_turn.ensures.same ∙ c.turns.invariant.same;
   sent = λ works. c.in_ok-why.ensures.sent (c.turns.invariant.sent works);
   patient = (
     c.take_turn.ensures.patient.1,

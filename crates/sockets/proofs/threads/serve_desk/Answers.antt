@@ -24,3 +24,8 @@ pub peers-preserved : goal.peers-preserved
 peers-preserved g c =
     one_visit_more g.K.Desk.does c.args.hall.now.ended.id c.peers.guests.visits.list c.add.new.self.visits.list c.serve_peer-parting.result.1 c.args.desk
     c.peers.desk c.serve_peer-parting.new.desk c.add.ensures c.peers.invariant c.serve_peer-parting.ensures
+
+pub peers-preserved-in-Some-next : goal.peers-preserved-in-Some-next
+peers-preserved-in-Some-next g c =
+    one_visit_more g.K.Desk.does c.args.hall.now.ended.id c.peers.guests.visits.list c.add.new.self.visits.list c.serve_peer-parting.result.1 c.args.desk
+    c.peers.desk c.serve_peer-parting.new.desk c.add.ensures c.peers.invariant c.serve_peer-parting.ensures
