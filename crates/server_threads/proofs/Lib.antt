@@ -7,3 +7,5 @@ mod Served
 mod Ended
 mod Connected
 mod Tallied
+mod LegalOrders
+mod AllLives

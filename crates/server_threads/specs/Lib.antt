@@ -4,3 +4,4 @@ pub mod Streams
 pub mod Connections
 pub mod Written
 pub mod Held
+pub mod Lives

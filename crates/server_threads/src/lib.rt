@@ -85,6 +85,7 @@
 mod beside;
 mod connections;
 mod desks;
+pub mod laws;
 mod life;
 mod moments;
 mod seated;
