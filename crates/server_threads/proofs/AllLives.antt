@@ -44,7 +44,7 @@ use Rattle.hub_desk.specs.AtHub.{Desk, Acknowledges, PassesAtHub}
 use Rattle.hub_desk.proofs.CallerLemmas.{again_held, told_through}
 use Rattle.server_threads.specs.Answers.{HasCause, AllHaveCauses, first_desk}
 use Rattle.server_threads.specs.Served.{KeepsAnswers}
-use Rattle.server_threads.specs.Lives.{Acknowledged, last_taken, IsPromised, IsAnsweredAgain, HasAnswered, Represents, Lived, HasGiven, IsLeftFrom, WasHeard, HasLeft, IsOpenedOn, Lives, First, Next, AllLives, AskedAgain, CrashLeaves, CopyLeaves}
+use Rattle.server_threads.specs.Lives.{Acknowledged, last_taken, IsPromised, IsAnsweredAgain, HasAnswered, Represents, Lived, HasGiven, IsLeftFrom, WasHeard, HasLeft, IsOpenedOn, Lives, First, Next, LivesKept, AllLives, AskedAgain, CrashLeaves, CopyLeaves, OpensAgain}
 use Rattle.server_threads.proofs.Places.{commands_first}
 use Rattle.server_threads.proofs.LegalOrders.{legal_placed, first_takens, first_long, IsMadeIn, acknowledged_made}
 
@@ -116,11 +116,12 @@ consistent start order state acks placed shows limits stand =
       acks = stand;
     }
 
+-- a ticket that names a revision after so many commands
+abbrev made_ticket : Command → ℕ → ℕ → Ticket
+made_ticket command revision count = record { command = command; reply = AgainAt revision; length = count }
+
 -- commands that each have their place in an order after a start
 module _ (start : State) (order : List Entry) (placed : AllPlaced (all_shown start) order) where
-  folded : State
-  folded = fold start (takens order)
-
   once : TakenOnce (world_at start order (fold start (takens order)) [])
   once =
       taken-once (world_at start order (fold start (takens order)) [])
@@ -130,19 +131,16 @@ module _ (start : State) (order : List Entry) (placed : AllPlaced (all_shown sta
   has_taken : (command : Command) (revision : ℕ) → IsMadeIn (all_shown start) order command revision → HasTaken start order command revision
   has_taken command revision made =
       subst (λ (l : List Entry). HasTaken start l command revision) (take_all (length order) order (omega arith))
-      (nothing-taken_back (world_at start order (fold start (takens order)) (ticket ∷ [])) holds (length order) may 0 ticket (omega arith))
+      (nothing-taken_back (world_at start order (fold start (takens order)) (made_ticket command revision made.count ∷ [])) holds (length order) may 0
+      (made_ticket command revision made.count) (omega arith))
     where
-      ticket : Ticket
-      ticket = record { command = command; reply = AgainAt revision; length = made.count }
-
-      holds : IsConsistent (world_at start order (fold start (takens order)) (ticket ∷ []))
-      unfolding ticket
+      holds : IsConsistent (world_at start order (fold start (takens order)) (made_ticket command revision made.count ∷ []))
       holds =
-          consistent start order (fold start (takens order)) (ticket ∷ []) placed (shown-fold start (takens order)) (limits-fold start (takens order))
-          (All-cons (StandsSettled (all_shown start) order (length order)) ticket [] (record { within = made.within; made = made.made }, made.within)
+          consistent start order (fold start (takens order)) (made_ticket command revision made.count ∷ []) placed (shown-fold start (takens order)) (limits-fold start (takens order))
+          (All-cons (StandsSettled (all_shown start) order (length order)) (made_ticket command revision made.count) [] (record { within = made.within; made = made.made }, made.within)
           (All-nil (StandsSettled (all_shown start) order (length order))))
 
-      may : may_leave (world_at start order (fold start (takens order)) (ticket ∷ [])) (length order) ≡ true
+      may : may_leave (world_at start order (fold start (takens order)) (made_ticket command revision made.count ∷ [])) (length order) ≡ true
       may = or_left (length order == length order) (length order == length order) (eq-eqb (length order) (length order) refl)
 
 -- one command sent twice
@@ -235,7 +233,7 @@ module _ (start : State) (stand : List Entry) (acks : List Acknowledged) (now : 
         (after-append (all_shown start) stand (take made.count done) ∙ ap (λ (d : List Shown). after d (take made.count done)) (sym stood.shows)) ∙ made.made);
   }
 
-  -- one order more, of which so much is done
+  -- with so much of one order more
   stood_behind : (done : List Entry) (given : List Acknowledged) (state : State) → AllPlaced (all_shown start) (stand ++ done) → all_shown state ≡ all_shown (fold now (takens done))
       → All (λ (ack : Acknowledged). IsMadeIn (all_shown now) done ack.command ack.revision) given → Stood start (stand ++ done) (acks ++ given) state
   stood_behind done given state placed same made = record {
@@ -328,7 +326,7 @@ module _ {D : Type 0} {disk : Ghosts D} (old new : Store D disk) (life : Lived o
       (subst (λ (l : List Entry). AllPlaced (all_shown start) l) (sym (append_assoc stand done more ∙ ap (λ (l : List Entry). stand ++ l) is))
       (placed_behind start stand acks (state_of old) stood life.order life.is_written.legal))
 
-  -- the life goes on from what stood
+  -- a life adds to what stood
   stands_on : (start : State) (stand : List Entry) (acks : List Acknowledged) (done : List Entry) (given : List Acknowledged) (state : State) → Stood start stand acks (state_of old)
       → IsPrefix done life.order → all_shown state ≡ all_shown (fold (state_of old) (takens done)) → All (HasGiven old new life (takens done)) given
       → Stood start (stand ++ done) (acks ++ given) state
@@ -367,6 +365,9 @@ module _ (D : Type 0) (disk : Ghosts D) where
       stands_on old new life start stand acks left heard (state_of next) (lives_stand start stand acks old before) leaves.first
       (agree_shown (state_of next) leaves.found.there here ∙ leaves.found.shows) leaves.given
 
+  pub lives_kept : LivesKept D disk
+  lives_kept start stand acks store lives = promised start stand acks (state_of store) (lives_stand start stand acks store lives)
+
   pub all_lives : AllLives D disk
   all_lives start stand acks old new life done given lives first gave =
       promised start (stand ++ done) (acks ++ given) (fold (state_of old) (takens done))
@@ -382,9 +383,6 @@ not_last : (start : State) (stand before : List Entry) (entry : Entry) (command 
     → IsSent command entry.command → HasTaken start stand command revision → ⊥
 not_last start stand before entry command revision placed same has = by_case has
   where
-    all : List Entry
-    all = (stand ++ before) ++ entry ∷ []
-
     here : AllPlaced (all_shown start) ((stand ++ before) ++ entry ∷ [])
     here = subst (λ (l : List Entry). AllPlaced (all_shown start) l) (sym (append_assoc stand before (entry ∷ []))) placed
 
@@ -480,19 +478,10 @@ module _ {D : Type 0} {disk : Ghosts D} (old new : Store D disk) (life : Lived o
     pub begins : IsBeginning 0 (state_of old) (life.written ++ life.waiting) content
     pub told : All (IsToldOf (length (commands_of begins.first))) heard
 
-  all_of : has_failed old ≡ false → IsOpen old → IsLeftFrom old new content → (heard : List Acknowledged) → All (WasHeard old new life content) heard → HasAllOf heard
-  all_of works is_open left [] each = record {
-    begins = left_from old new content (life.is_written.goes.any_moment works is_open) left;
-    told = All-nil (IsToldOf (length (commands_of (left_from old new content (life.is_written.goes.any_moment works is_open) left).first)));
-  }
-  all_of works is_open left (ack ∷ others) each = by_length (cases_lt (length (commands_of rest.begins.first)) (length (commands_of heard.answered.mid.told)))
+  -- one more, which was told of more or of fewer
+  one_more_of : has_failed old ≡ false → IsOpen old → (ack : Acknowledged) (others : List Acknowledged) → WasHeard old new life content ack → HasAllOf others → HasAllOf (ack ∷ others)
+  one_more_of works is_open ack others heard rest = by_length (cases_lt (length (commands_of rest.begins.first)) (length (commands_of heard.answered.mid.told)))
     where
-      heard : WasHeard old new life content ack
-      heard = each 0 ack (omega arith)
-
-      rest : HasAllOf others
-      rest = all_of works is_open left others (λ k d less. each (suc k) d (omega (arith, less)))
-
       by_length : (length (commands_of rest.begins.first) < length (commands_of heard.answered.mid.told)) ⊎ (length (commands_of heard.answered.mid.told) ≤ length (commands_of rest.begins.first))
           → HasAllOf (ack ∷ others)
       by_length (inl more) =
@@ -508,6 +497,14 @@ module _ {D : Type 0} {disk : Ghosts D} (old new : Store D disk) (life : Lived o
         begins = rest.begins;
         told = All-cons (IsToldOf (length (commands_of rest.begins.first))) ack others (record { reply = heard.reply; names = heard.names; answered = heard.answered; few = le }) rest.told;
       }
+
+  all_of : has_failed old ≡ false → IsOpen old → IsLeftFrom old new content → (heard : List Acknowledged) → All (WasHeard old new life content) heard → HasAllOf heard
+  all_of works is_open left [] each = record {
+    begins = left_from old new content (life.is_written.goes.any_moment works is_open) left;
+    told = All-nil (IsToldOf (length (commands_of (left_from old new content (life.is_written.goes.any_moment works is_open) left).first)));
+  }
+  all_of works is_open left (ack ∷ others) each =
+      one_more_of works is_open ack others (each 0 ack (omega arith)) (all_of works is_open left others (λ k d less. each (suc k) d (omega (arith, less))))
 
 pub crash_leaves : (D : Type 0) (disk : Ghosts D) → CrashLeaves D disk
 crash_leaves D disk old new life heard content works is_open left each =
@@ -544,3 +541,9 @@ copy_leaves D disk old new life left heard content other there copy limits leave
   };
   given = leaves.given;
 }
+
+pub opens_again : (D : Type 0) (disk : Ghosts D) → OpensAgain D disk
+opens_again D disk old new next life left heard content leaves opened = (
+  (opened.opened.runs_on opened.honest leaves.found.there leaves.found.found).0,
+  opened.opened.works,
+)

@@ -60,7 +60,7 @@ after_one state command given = record (begun state) {
 
 one_holds : (state : State) (command : Command) (taken : Taken) → HasNumber command → answer state command ≡ Takes taken → IsConsistent (after_one state command (Takes taken))
 one_holds state command taken has is =
-    subst IsConsistent (ap (λ b. cond b (with_command (begun state) command) (begun state)) (numbered command has) ∙ ap (after_one state command) is)
+    subst IsConsistent (ap (λ (b : Bool). cond b (with_command (begun state) command) (begun state)) (numbered command has) ∙ ap (after_one state command) is)
     (run-holds (begun state) (Submit command ∷ []) (begun-holds state))
 
 -- what was taken has its place, and from then on its number has its revision
@@ -88,7 +88,7 @@ first_of : {A : Type 0} (xs ys : List A) → IsPrefix xs ys → take (length xs)
 first_of xs ys (more, is) =
     ap (take (length xs)) (sym is) ∙ (take-append-le (length xs) xs more (omega arith) ∙ take_all (length xs) xs (omega arith))
 
--- so are the commands of the first ones
+-- the same of commands
 pub first_takens : (commands : List Taken) (order : List Entry) → IsPrefix commands (takens order) → takens (take (length commands) order) ≡ commands
 first_takens commands order begins = sym (take-map (λ (e : Entry). e.taken) (length commands) order) ∙ first_of commands (takens order) begins
 

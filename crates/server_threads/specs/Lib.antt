@@ -5,3 +5,4 @@ pub mod Connections
 pub mod Written
 pub mod Held
 pub mod Lives
+mod LivesExamples

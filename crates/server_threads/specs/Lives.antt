@@ -108,13 +108,13 @@ module _ {D : Type 0} {disk : Ghosts D} where
     pub answered : HasAnswered (state_of old) life.desks ack.command (Ok reply)
     pub told : IsPrefix (commands_of answered.mid.told) first
 
-  -- A crash at the moment of the first store or later left this content, up to the last one, with which the life ended; or what was left of that.
+  -- A crash left this content, at a moment between two stores of a life or after the last one, with which the life ended.
   abbrev pub IsLeftFrom : Store D disk → Store D disk → List ℕ → Type 0
   IsLeftFrom first last content =
       LeftSince (history_of disk (device_of last)) (length (history_of disk (device_of first)).past) content ⊎ MayLeaveNow disk (device_of last) content
 
-  -- A desk of the life gave an acknowledgement, which may have been heard of when a crash left this content: the crash came no earlier than the
-  -- moment from which on all is kept that the desk had acknowledged by then, by what `KeepsAnswers` says.
+  -- A desk of the life gave an acknowledgement, and it may have been heard of when a crash left this content: the crash came no earlier than a
+  -- moment from which on all is kept that the desk had acknowledged by then. `KeepsAnswers` names one: a commit had ended there.
   pub record WasHeard (old new : Store D disk) (life : Lived old new) (content : List ℕ) (ack : Acknowledged) : Type 0 where
     pub reply : Reply
     pub names : rev_of reply ≡ ack.revision
@@ -122,7 +122,8 @@ module _ {D : Type 0} {disk : Ghosts D} where
     pub kept : IsKeptFrom (state_of old) (answered.earlier ++ Answered ack.command (Ok reply) ∷ []) answered.mid.told (life.written ++ life.waiting) old new
     pub since : IsLeftFrom kept.was.between new content
 
-  -- What a content has of a life: the first commands of its order, and all that the desks had been told of which gave these acknowledgements.
+  -- What a content has of a life: the first commands of its order, among them all that a desk had been told of when it gave one of these
+  -- acknowledgements.
   pub record HasLeft (old new : Store D disk) (life : Lived old new) (left : List Entry) (heard : List Acknowledged) (content : List ℕ) : Type 0 where
     pub first : IsPrefix left life.order
     pub found : Represents content (fold (state_of old) (takens left))
@@ -134,16 +135,22 @@ module _ {D : Type 0} {disk : Ghosts D} where
     pub opened : IsOpenedStore content pick store
     pub honest : disk.honest (device_of store)
 
-  -- Lives that ended, one after another, and the store that was opened after them: the commands that stand, and the acknowledgements that were heard
-  -- of. What a life left is added to what stood, and the next store is opened on that. Before the first one is any store.
+  -- Lives that ended, one after another, and the store that was opened then: the commands that stand, and the acknowledgements that were heard
+  -- of. The first life is of any store. Each further one is of a store that was opened on what the life before it left, and this stands behind
+  -- what stood already.
   pub data Lives (start : State) : List Entry → List Acknowledged → Store D disk → Type 0 where
     First : (store : Store D disk) → state_of store ≡ start → Lives start [] [] store
     Next : (stand : List Entry) (acks : List Acknowledged) (old new next : Store D disk) (life : Lived old new) (left : List Entry) (heard : List Acknowledged) (content : List ℕ)
         → Lives start stand acks old → HasLeft old new life left heard content → IsOpenedOn content next → Lives start (stand ++ left) (acks ++ heard) next
 
 module _ (D : Type 0) (disk : Ghosts D) where
-  -- Whatever lives there were, and however much of its order the present one has: what is promised holds of all that stands with it, of the
-  -- acknowledgements that were heard of before, and of those that its own desks gave when they were told of no more.
+  -- Whatever lives there were: what is promised holds of all that stands, of all acknowledgements that were heard of, and of the state that the next
+  -- store is opened with.
+  abbrev pub LivesKept : Type 0
+  LivesKept = (start : State) (stand : List Entry) (acks : List Acknowledged) (store : Store D disk) → Lives start stand acks store → IsPromised start stand acks (state_of store)
+
+  -- However much of its order the present life has come to, the same holds with that, and with the acknowledgements that its own desks gave when they
+  -- had been told of no more.
   abbrev pub AllLives : Type 0
   AllLives =
       (start : State) (stand : List Entry) (acks : List Acknowledged) (old new : Store D disk) (life : Lived old new) (done : List Entry) (given : List Acknowledged)
@@ -170,3 +177,9 @@ module _ (D : Type 0) (disk : Ghosts D) where
       (old new : Store D disk) (life : Lived old new) (left : List Entry) (heard : List Acknowledged) (content other : List ℕ) (there copy : State) (limits : Limits)
       → HasLeft old new life left heard content → FoundAs content there → FoundAs other copy → Agree copy (record there { limits = limits })
       → HasLeft old new life left heard other
+
+  -- A store that is opened on what was left of a life is open and works, so that all of this applies to its own life.
+  abbrev pub OpensAgain : Type 0
+  OpensAgain =
+      (old new next : Store D disk) (life : Lived old new) (left : List Entry) (heard : List Acknowledged) (content : List ℕ)
+      → HasLeft old new life left heard content → IsOpenedOn content next → IsOpen next × (has_failed next ≡ false)
