@@ -4,9 +4,11 @@ use Rattle.std.specs.Prelude.{All, Any, AllPairs, Result, max, bytes_eq, slice_g
 use Rattle.std.proofs.lemmas.Bool.{and_from, cases_lt, eq-eqb, or_left}
 use Rattle.std.proofs.lemmas.List.{get_or_append_left, get_or_default, length-append, map-append, take_all, take-append-drop}
 use Rattle.std.proofs.lemmas.List.Elements.{All-nil, All-cons, All-append, All-weaker}
+use Rattle.std.proofs.Math.Logic.{∥∥₁_map}
 use mathlib.Core.List.{IsPrefix}
 use Rattle.disk.specs.declared.device.Disk.{Ghosts}
-use Rattle.disk.specs.Crash.{LeavesOnly}
+use Rattle.disk.specs.Device.{History}
+use Rattle.disk.specs.Crash.{LeavesOnly, history_of}
 use Rattle.disk.proofs.CallerLemmas.{leaves_since}
 use Rattle.refusal.specs.declared.Refusal.{Refusal}
 use Rattle.refusal.specs.declared.Refusal.TheVariants.{NoMemory, StoreFailed}
@@ -19,7 +21,8 @@ use Rattle.revision.proofs.CallerLemmas.{itself, limits-fold}
 use Rattle.history.specs.declared.pick.Pick.TheVariants.{Newer}
 use Rattle.recovery.specs.declared.store.Store.{Store}
 use Rattle.recovery.specs.Found.{commands_of, FoundAs}
-use Rattle.recovery.specs.Open.{IsOpen, device_of, state_of, has_failed}
+use Rattle.recovery.specs.Moment.{Moment}
+use Rattle.recovery.specs.Open.{IsOpen, device_of, state_of, moment_now, has_failed}
 use Rattle.recovery.proofs.CallerLemmas.{found_once}
 use Rattle.world.specs.Board.{Ticket}
 use Rattle.world.specs.World.{Entry, entry_of, takens, World, begun, is_of, last_sent}
@@ -43,8 +46,9 @@ use Rattle.session.specs.Reply.{rev_of}
 use Rattle.hub_desk.specs.AtHub.{Desk, Acknowledges, PassesAtHub}
 use Rattle.hub_desk.proofs.CallerLemmas.{again_held, told_through}
 use Rattle.server_threads.specs.Answers.{HasCause, AllHaveCauses, first_desk}
-use Rattle.server_threads.specs.Served.{KeepsAnswers}
-use Rattle.server_threads.specs.Lives.{Acknowledged, last_taken, IsPromised, IsAnsweredAgain, HasAnswered, Represents, Lived, HasGiven, IsLeftFrom, WasHeard, HasLeft, IsOpenedOn, Lives, First, Next, LivesKept, AllLives, AskedAgain, CrashLeaves, CopyLeaves, OpensAgain}
+use Rattle.server_threads.specs.Served.{AreLasting, IsAtMoment, KeepsAnswers}
+use Rattle.server_threads.specs.Lives.{Acknowledged, last_taken, IsPromised, IsAnsweredAgain, HasAnswered, Represents, Lived, HasGiven, history_at, IsLeftFrom, WasHeard, HasLeft, IsOpenedOn, Lives, First, Next, LivesKept, AllLives, AskedAgain, CrashLeaves, CopyLeaves, OpensAgain}
+use Rattle.server_threads.proofs.AtCommits.{was_kept}
 use Rattle.server_threads.proofs.Places.{commands_first}
 use Rattle.server_threads.proofs.LegalOrders.{legal_placed, first_takens, first_long, IsMadeIn, acknowledged_made}
 
@@ -300,13 +304,16 @@ module _ {D : Type 0} {disk : Ghosts D} (old new : Store D disk) (life : Lived o
   kept_of command given has =
       subst (λ (d : Desk). KeepsAnswers life.order life.written life.waiting life.moments old new d) has.after.3 (life.answers has.after.0 has.after.1 has.after.2)
 
-  -- it was told of a prefix of what is written, and of the order
+  -- it was told of a prefix of what is written
+  told_written : (command : Command) (given : Result Told Refusal) (has : HasAnswered (state_of old) life.desks command given) → IsPrefix has.mid.told life.written
+  told_written command given has =
+      prefix_trans has.mid.told has.after.1.told life.written (told_through (state_of old) has.later has.mid has.after.1 has.after.4) (kept_of command given has).told
+
+  -- and so of the order
   told_first : (command : Command) (given : Result Told Refusal) (has : HasAnswered (state_of old) life.desks command given) → IsPrefix (commands_of has.mid.told) (takens life.order)
   told_first command given has =
-      let within : IsPrefix has.mid.told life.written =
-      prefix_trans has.mid.told has.after.1.told life.written (told_through (state_of old) has.later has.mid has.after.1 has.after.4) (kept_of command given has).told in
       prefix_trans (commands_of has.mid.told) (commands_of (life.written ++ life.waiting)) (takens life.order)
-      (commands_first has.mid.told (life.written ++ life.waiting) (prefix_trans has.mid.told life.written (life.written ++ life.waiting) within (life.waiting, refl))) life.is_written.begins
+      (commands_first has.mid.told (life.written ++ life.waiting) (prefix_trans has.mid.told life.written (life.written ++ life.waiting) (told_written command given has) (life.waiting, refl))) life.is_written.begins
 
   acknowledges : (command : Command) (reply : Told) (has : HasAnswered (state_of old) life.desks command (Ok reply))
       → (before : Desk) × Acknowledges (state_of old) before command reply has.mid
@@ -461,9 +468,25 @@ module _ (D : Type 0) (disk : Ghosts D) where
 
 -- what was kept from a moment on is so in what a crash leaves from there on
 left_from : {D : Type 0} {disk : Ghosts D} {P : List ℕ → Type 0} (first last : Store D disk) (content : List ℕ) → LeavesOnly disk P (device_of first) (device_of last)
-    → IsLeftFrom first last content → P content
+    → IsLeftFrom (history_of disk (device_of first)) last content → P content
 left_from first last content leaves (inl since) = leaves_since leaves content since
 left_from first last content leaves (inr now) = leaves.last content now
+
+-- what a device had been through at a moment
+moment_at : (begun : History) (earlier later : List Moment) (moment : Moment) (batch : List Taken) (others : List (List Taken)) → length earlier ≡ length others
+    → history_at begun (earlier ++ moment ∷ later) (batch ∷ others) ≡ moment.device
+moment_at begun [] later moment batch [] same = refl
+moment_at begun [] later moment batch (next ∷ others) same = absurd (omega (arith, same))
+moment_at begun (first ∷ earlier) later moment batch [] same = absurd (omega (arith, same))
+moment_at begun (first ∷ earlier) later moment batch (next ∷ others) same = moment_at first.device earlier later moment next others (omega (arith, same))
+
+module _ {D : Type 0} {disk : Ghosts D} where
+  store_at : (old between : Store D disk) (moments : List Moment) (told : List (List Taken)) → IsAtMoment moments told old between
+      → history_at (history_of disk (device_of old)) moments told ≡ history_of disk (device_of between)
+  store_at old between moments [] same = ap (λ (s : Store D disk). history_of disk (device_of s)) (sym same)
+  store_at old between moments (batch ∷ others) (earlier, later, whole, count) =
+      ap (λ (l : List Moment). history_at (history_of disk (device_of old)) l (batch ∷ others)) whole
+      ∙ moment_at (history_of disk (device_of old)) earlier later (moment_now between) batch others count
 
 module _ {D : Type 0} {disk : Ghosts D} (old new : Store D disk) (life : Lived old new) (content : List ℕ) where
   -- a desk gave an acknowledgement, when it had been told of so many commands at most
@@ -478,15 +501,24 @@ module _ {D : Type 0} {disk : Ghosts D} (old new : Store D disk) (life : Lived o
     pub begins : IsBeginning 0 (state_of old) (life.written ++ life.waiting) content
     pub told : All (IsToldOf (length (commands_of begins.first))) heard
 
+  -- what the content has, where a crash left it after the commit of a batch
+  begins_from : has_failed old ≡ false → IsOpen old → (ack : Acknowledged) (heard : WasHeard old new life content ack) → AreLasting life.written life.waiting life.moments old new
+      → IsBeginning (length (commands_of heard.answered.mid.told)) (state_of old) (life.written ++ life.waiting) content
+  begins_from works is_open ack heard lasting =
+      let (was, at) = was_kept life.written life.waiting life.moments old new life.is_written.goes lasting.each heard.answered.mid.told
+      (told_written old new life ack.command (Ok heard.reply) heard.answered) in
+      left_from was.between new content (was.behind.any_moment (was.works works) (was.before.opens (was.works works) is_open))
+      (subst (λ (h : History). IsLeftFrom h new content) (store_at old was.between life.moments heard.answered.mid.told at) heard.since)
+
   -- one more, which was told of more or of fewer
-  one_more_of : has_failed old ≡ false → IsOpen old → (ack : Acknowledged) (others : List Acknowledged) → WasHeard old new life content ack → HasAllOf others → HasAllOf (ack ∷ others)
-  one_more_of works is_open ack others heard rest = by_length (cases_lt (length (commands_of rest.begins.first)) (length (commands_of heard.answered.mid.told)))
+  one_more_of : has_failed old ≡ false → IsOpen old → AreLasting life.written life.waiting life.moments old new → (ack : Acknowledged) (others : List Acknowledged)
+      → WasHeard old new life content ack → HasAllOf others → HasAllOf (ack ∷ others)
+  one_more_of works is_open lasting ack others heard rest = by_length (cases_lt (length (commands_of rest.begins.first)) (length (commands_of heard.answered.mid.told)))
     where
       by_length : (length (commands_of rest.begins.first) < length (commands_of heard.answered.mid.told)) ⊎ (length (commands_of heard.answered.mid.told) ≤ length (commands_of rest.begins.first))
           → HasAllOf (ack ∷ others)
       by_length (inl more) =
-          let was = heard.kept.was in
-          let here = left_from was.between new content (was.behind.any_moment (was.works works) (was.before.opens (was.works works) is_open)) heard.since in
+          let here = begins_from works is_open ack heard lasting in
           record {
             begins = record { first = here.first; more = here.more; whole = here.whole; enough = omega arith; found = here.found };
             told = All-cons (IsToldOf (length (commands_of here.first))) ack others (record { reply = heard.reply; names = heard.names; answered = heard.answered; few = here.enough })
@@ -498,17 +530,17 @@ module _ {D : Type 0} {disk : Ghosts D} (old new : Store D disk) (life : Lived o
         told = All-cons (IsToldOf (length (commands_of rest.begins.first))) ack others (record { reply = heard.reply; names = heard.names; answered = heard.answered; few = le }) rest.told;
       }
 
-  all_of : has_failed old ≡ false → IsOpen old → IsLeftFrom old new content → (heard : List Acknowledged) → All (WasHeard old new life content) heard → HasAllOf heard
-  all_of works is_open left [] each = record {
+  all_of : has_failed old ≡ false → IsOpen old → AreLasting life.written life.waiting life.moments old new → IsLeftFrom (history_of disk (device_of old)) new content → (heard : List Acknowledged) → All (WasHeard old new life content) heard → HasAllOf heard
+  all_of works is_open lasting left [] each = record {
     begins = left_from old new content (life.is_written.goes.any_moment works is_open) left;
     told = All-nil (IsToldOf (length (commands_of (left_from old new content (life.is_written.goes.any_moment works is_open) left).first)));
   }
-  all_of works is_open left (ack ∷ others) each =
-      one_more_of works is_open ack others (each 0 ack (omega arith)) (all_of works is_open left others (λ k d less. each (suc k) d (omega (arith, less))))
+  all_of works is_open lasting left (ack ∷ others) each =
+      one_more_of works is_open lasting ack others (each 0 ack (omega arith)) (all_of works is_open lasting left others (λ k d less. each (suc k) d (omega (arith, less))))
 
 pub crash_leaves : (D : Type 0) (disk : Ghosts D) → CrashLeaves D disk
-crash_leaves D disk old new life heard content works is_open left each =
-    let all = all_of old new life content works is_open left heard each in
+crash_leaves D disk old new life heard content works is_open left each = ∥∥₁_map life.kept (λ lasting.
+    let all = all_of old new life content works is_open lasting left heard each in
     let commands = commands_of all.begins.first in
     let begins : IsPrefix (commands_of all.begins.first) (takens life.order) =
     prefix_trans (commands_of all.begins.first) (commands_of (life.written ++ life.waiting)) (takens life.order)
@@ -529,7 +561,7 @@ crash_leaves D disk old new life heard content works is_open left each =
                   (takens_begin stand life.order first) (omega (arith, told.few, ap (λ (l : List Taken). length l) same));
             }) heard all.told;
       },
-    )
+    ))
 
 pub copy_leaves : (D : Type 0) (disk : Ghosts D) → CopyLeaves D disk
 copy_leaves D disk old new life left heard content other there copy limits leaves here found same = record {

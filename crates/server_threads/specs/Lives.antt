@@ -3,6 +3,7 @@ use Rattle.std.specs.Prelude.{◌≡◌, ◌⊎◌, ◌≤◌, ◌<◌, ◌+◌,
 use Rattle.std.proofs.lemmas.Bool.{false≢true}
 use mathlib.Core.List.{IsPrefix}
 use Rattle.disk.specs.declared.device.Disk.{Ghosts}
+use Rattle.disk.specs.Device.{History}
 use Rattle.disk.specs.Crash.{LeftSince, MayLeaveNow, history_of}
 use Rattle.refusal.specs.declared.Refusal.{Refusal}
 use Rattle.refusal.specs.declared.Refusal.TheVariants.{NoMemory, StoreFailed}
@@ -14,11 +15,13 @@ use Rattle.revision.specs.Agree.{Agree}
 use Rattle.history.specs.declared.pick.Pick.{Pick}
 use Rattle.recovery.specs.declared.store.Store.{Store}
 use Rattle.recovery.specs.Found.{commands_of, FoundAs}
+use Rattle.recovery.specs.Moment.{Moment}
 use Rattle.recovery.specs.Open.{IsOpen, device_of, state_of, has_failed}
 use Rattle.recovery.specs.Opened.{IsOpenedStore}
 use Rattle.world.specs.World.{Entry, takens, last_sent}
 use Rattle.world.specs.Shown.{all_shown}
 use Rattle.world.specs.Law.{IsSent, window_held, HasTaken}
+use Rattle.flusher.specs.Lasting.{Surely}
 use Rattle.session.specs.declared.reply.Reply.{Reply}
 use Rattle.session.specs.declared.reply.Reply.TheVariants.{Again}
 use Rattle.session.specs.Exchange.{Exchange, Answered}
@@ -26,7 +29,7 @@ use Rattle.session.specs.Replies.{Asks}
 use Rattle.session.specs.Reply.{rev_of}
 use Rattle.hub_desk.specs.AtHub.{Desk, PassesAtHub}
 use Rattle.server_threads.specs.Answers.{first_desk}
-use Rattle.server_threads.specs.Served.{WasServed, IsKeptFrom}
+use Rattle.server_threads.specs.Served.{WasServed}
 
 -- an acknowledgement: a command, and the revision that the reply to it names, as taken or as a retry
 pub record Acknowledged : Type 0 where
@@ -76,6 +79,13 @@ pub record Represents (content : List ℕ) (state : State) : Type 0 where
   pub found : FoundAs content there
   pub shows : all_shown there ≡ all_shown state
 
+-- What a device had been through when the commit of the last of these batches had ended, by the moments at which those of a life's batches had,
+-- in order: where there is no batch, what it had been through at the beginning.
+abbrev pub history_at : History → List Moment → List (List Taken) → History
+history_at begun moments [] = begun
+history_at begun [] (batch ∷ others) = begun
+history_at begun (moment ∷ moments) (batch ∷ others) = history_at moment.device moments others
+
 -- whatever the sessions of a life were
 abbrev pub Whatever : List Desk → Type 0
 Whatever desks = Unit {0}
@@ -108,19 +118,17 @@ module _ {D : Type 0} {disk : Ghosts D} where
     pub answered : HasAnswered (state_of old) life.desks ack.command (Ok reply)
     pub told : IsPrefix (commands_of answered.mid.told) first
 
-  -- A crash left this content, at a moment between two stores of a life or after the last one, with which the life ended.
-  abbrev pub IsLeftFrom : Store D disk → Store D disk → List ℕ → Type 0
-  IsLeftFrom first last content =
-      LeftSince (history_of disk (device_of last)) (length (history_of disk (device_of first)).past) content ⊎ MayLeaveNow disk (device_of last) content
+  -- A crash left this content at a moment from this one on, before the life ended with a store or after that.
+  abbrev pub IsLeftFrom : History → Store D disk → List ℕ → Type 0
+  IsLeftFrom from last content = LeftSince (history_of disk (device_of last)) (length from.past) content ⊎ MayLeaveNow disk (device_of last) content
 
-  -- A desk of the life gave an acknowledgement, and it may have been heard of when a crash left this content: the crash came no earlier than a
-  -- moment from which on all is kept that the desk had acknowledged by then. `KeepsAnswers` names one: a commit had ended there.
+  -- A desk of the life gave an acknowledgement, and it may have been heard of when a crash left this content: the crash came no earlier than the
+  -- moment at which the commit had ended of the last batch that the desk had been told of when it answered.
   pub record WasHeard (old new : Store D disk) (life : Lived old new) (content : List ℕ) (ack : Acknowledged) : Type 0 where
     pub reply : Reply
     pub names : rev_of reply ≡ ack.revision
     pub answered : HasAnswered (state_of old) life.desks ack.command (Ok reply)
-    pub kept : IsKeptFrom (state_of old) (answered.earlier ++ Answered ack.command (Ok reply) ∷ []) answered.mid.told (life.written ++ life.waiting) old new
-    pub since : IsLeftFrom kept.was.between new content
+    pub since : IsLeftFrom (history_at (history_of disk (device_of old)) life.moments answered.mid.told) new content
 
   -- What a content has of a life: the first commands of its order, among them all that a desk had been told of when it gave one of these
   -- acknowledgements.
@@ -168,8 +176,8 @@ module _ (D : Type 0) (disk : Ghosts D) where
   abbrev pub CrashLeaves : Type 0
   CrashLeaves =
       (old new : Store D disk) (life : Lived old new) (heard : List Acknowledged) (content : List ℕ)
-      → has_failed old ≡ false → IsOpen old → IsLeftFrom old new content → All (WasHeard old new life content) heard
-      → (left : List Entry) × HasLeft old new life left heard content
+      → has_failed old ≡ false → IsOpen old → IsLeftFrom (history_of disk (device_of old)) new content → All (WasHeard old new life content) heard
+      → Surely ((left : List Entry) × HasLeft old new life left heard content)
 
   -- So has each copy of that: a content that represents a state which agrees with one that the other represents, but for limits.
   abbrev pub CopyLeaves : Type 0
