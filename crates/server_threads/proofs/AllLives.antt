@@ -1,6 +1,6 @@
 -- What stands over all lives of a server, and what is promised of that.
 use Rattle.std.proofs.Common.{◌≡◌, ◌≤◌, ◌<◌, ◌⊎◌, ℕ, suc, ◌+◌, Bool, true, false, cond, List, [], ◌∷◌, ◌++◌, length, map, take, drop, get_or, Option, Some, Ok, Err, refl, sym, ap, ◌∙◌, subst, arith, append_assoc, append-nil, inl, inr}
-use Rattle.std.specs.Prelude.{All, Any, AllPairs, Result, max, bytes_eq, slice_get, ◌==◌}
+use Rattle.std.specs.Prelude.{All, Any, Result, max, bytes_eq, slice_get, ◌==◌}
 use Rattle.std.proofs.lemmas.Bool.{and_from, cases_lt, eq-eqb, or_left}
 use Rattle.std.proofs.lemmas.List.{get_or_append_left, get_or_default, length-append, map-append, take_all, take-append-drop}
 use Rattle.std.proofs.lemmas.List.Elements.{All-nil, All-cons, All-append, All-weaker}
@@ -14,8 +14,8 @@ use Rattle.refusal.specs.declared.Refusal.{Refusal}
 use Rattle.refusal.specs.declared.Refusal.TheVariants.{NoMemory, StoreFailed}
 use Rattle.revision.specs.Command.{Taken, Command}
 use Rattle.revision.specs.Window.{Window, longest, revision_in}
-use Rattle.revision.specs.State.{Limits, DocumentRecord, State, find, fold}
-use Rattle.revision.specs.Acceptance.{Repeats, Refuses, Reply, TakenAt, AgainAt, Refused, answer}
+use Rattle.revision.specs.State.{DocumentRecord, State, find, fold}
+use Rattle.revision.specs.Acceptance.{Repeats, Reply, TakenAt, AgainAt, Refused, answer}
 use Rattle.revision.specs.Agree.{DocumentsAgree, PlacesAgree, Agree}
 use Rattle.revision.proofs.CallerLemmas.{itself, limits-fold}
 use Rattle.history.specs.declared.pick.Pick.TheVariants.{Newer}
@@ -47,10 +47,10 @@ use Rattle.hub_desk.specs.AtHub.{Desk, Acknowledges, PassesAtHub}
 use Rattle.hub_desk.proofs.CallerLemmas.{again_held, told_through}
 use Rattle.server_threads.specs.Answers.{HasCause, AllHaveCauses, first_desk}
 use Rattle.server_threads.specs.Served.{AreLasting, IsAtMoment, KeepsAnswers}
-use Rattle.server_threads.specs.Lives.{Acknowledged, last_taken, IsPromised, IsAnsweredAgain, HasAnswered, Represents, Lived, HasGiven, history_at, IsLeftFrom, WasHeard, HasLeft, IsOpenedOn, Lives, First, Next, LivesKept, AllLives, AskedAgain, CrashLeaves, CopyLeaves, OpensAgain}
+use Rattle.server_threads.specs.Lives.{Acknowledged, last_taken, IsPromised, HasAnswered, Lived, HasGiven, history_at, IsLeftFrom, WasHeard, Lives, First, Next, LivesKept, AllLives, AskedAgain, CrashLeaves, CopyLeaves, OpensAgain}
 use Rattle.server_threads.proofs.AtCommits.{was_kept}
 use Rattle.server_threads.proofs.Places.{commands_first}
-use Rattle.server_threads.proofs.LegalOrders.{legal_placed, first_takens, first_long, IsMadeIn, acknowledged_made}
+use Rattle.server_threads.proofs.LegalOrders.{legal_placed, first_takens, IsMadeIn, acknowledged_made}
 
 -- what was sent stays sent
 sent_behind : (name source : List ℕ) (first : Command) (others : List Command) → last_sent name source others ≤ last_sent name source (first ∷ others)

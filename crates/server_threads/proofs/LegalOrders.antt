@@ -1,15 +1,14 @@
 -- A legal order as worlds have it: each of its commands has its place, and what a desk acknowledged of it a window has.
-use Rattle.std.proofs.Common.{◌≡◌, ◌≤◌, ◌<◌, ℕ, ◌+◌, Bool, true, false, cond, List, [], ◌∷◌, ◌++◌, length, map, take, Some, None, Ok, refl, sym, ap, ◌∙◌, subst, arith, inl, inr, le-leb}
-use Rattle.std.specs.Prelude.{bytes_eq, nat_le, option_to_list, All}
-use Rattle.std.proofs.lemmas.Bool.{and_from, eq-eqb, or_left}
-use Rattle.std.proofs.lemmas.List.{append-nil, length-append, length-map, map-append, take_all, take-append-le, take-map}
-use Rattle.std.proofs.lemmas.List.Elements.{All-nil, All-cons, All-weaker}
+use Rattle.std.proofs.Common.{◌≡◌, ◌≤◌, ℕ, ◌+◌, Bool, true, false, cond, List, [], ◌∷◌, ◌++◌, length, map, take, Some, Ok, refl, sym, ap, ◌∙◌, subst, arith, le-leb}
+use Rattle.std.specs.Prelude.{bytes_eq, nat_le, option_to_list}
+use Rattle.std.proofs.lemmas.Bool.{and_from}
+use Rattle.std.proofs.lemmas.List.{length-append, length-map, map-append, take_all, take-append-le, take-map}
 use mathlib.Core.List.{IsPrefix}
 use Rattle.revision.specs.Command.{Taken, Command}
-use Rattle.revision.specs.Window.{Window, nothing_taken, revision_in}
+use Rattle.revision.specs.Window.{revision_in}
 use Rattle.revision.specs.Sources.{window_of}
 use Rattle.revision.specs.State.{DocumentRecord, State, sources_of, find, last_of_all, fold, grown}
-use Rattle.revision.specs.Acceptance.{Answer, Takes, Repeats, Reply, TakenAt, AgainAt, Refused, answer}
+use Rattle.revision.specs.Acceptance.{Answer, Takes, Reply, TakenAt, AgainAt, Refused, answer}
 use Rattle.world.specs.Board.{submitted_by, ticket_by}
 use Rattle.world.specs.Event.{Submit}
 use Rattle.world.specs.World.{Entry, entry_of, takens, World, begun}

@@ -1,5 +1,5 @@
 -- The lives of a server, one after another, each on what the one before it left; and what is promised over all of them.
-use Rattle.std.specs.Prelude.{◌≡◌, ◌⊎◌, ◌≤◌, ◌<◌, ◌+◌, ℕ, Bool, true, false, List, [], ◌∷◌, ◌++◌, length, map, All, Any, AllPairs, Result, Ok, Err}
+use Rattle.std.specs.Prelude.{◌≡◌, ◌⊎◌, ◌≤◌, ◌<◌, ◌+◌, ℕ, Bool, false, List, [], ◌∷◌, ◌++◌, length, map, All, Any, AllPairs, Result, Ok, Err}
 use Rattle.std.proofs.lemmas.Bool.{false≢true}
 use mathlib.Core.List.{IsPrefix}
 use Rattle.disk.specs.declared.device.Disk.{Ghosts}
@@ -87,13 +87,13 @@ history_at begun [] (batch ∷ others) = begun
 history_at begun (moment ∷ moments) (batch ∷ others) = history_at moment.device moments others
 
 -- whatever the sessions of a life were
-abbrev pub Whatever : List Desk → Type 0
-Whatever desks = Unit {0}
+abbrev pub AnySessions : List Desk → Type 0
+AnySessions desks = Unit {0}
 
 module _ {D : Type 0} {disk : Ghosts D} where
   -- A life of a server, as `serve_on` and `serve_streams` leave it, where neither its sessions nor how it ended matters.
   abbrev pub Lived : Store D disk → Store D disk → Type 0
-  Lived old new = WasServed Whatever false old new
+  Lived old new = WasServed AnySessions false old new
 
   -- each of theirs is one
   abbrev pub lived : {Sessions : List Desk → Type 0} {well : Bool} {old new : Store D disk} → WasServed Sessions well old new → Lived old new
