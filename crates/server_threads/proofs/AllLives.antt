@@ -18,12 +18,10 @@ use Rattle.revision.specs.State.{DocumentRecord, State, find, fold}
 use Rattle.revision.specs.Acceptance.{Repeats, Reply, TakenAt, AgainAt, Refused, answer}
 use Rattle.revision.specs.Agree.{DocumentsAgree, PlacesAgree, Agree}
 use Rattle.revision.proofs.CallerLemmas.{itself, limits-fold}
-use Rattle.history.specs.declared.pick.Pick.TheVariants.{Newer}
 use Rattle.recovery.specs.declared.store.Store.{Store}
-use Rattle.recovery.specs.Found.{commands_of, FoundAs}
+use Rattle.recovery.specs.Found.{commands_of}
 use Rattle.recovery.specs.Moment.{Moment}
 use Rattle.recovery.specs.Open.{IsOpen, device_of, state_of, moment_now, has_failed}
-use Rattle.recovery.proofs.CallerLemmas.{found_once}
 use Rattle.world.specs.Board.{Ticket}
 use Rattle.world.specs.World.{Entry, entry_of, takens, World, begun, is_of, last_sent}
 use Rattle.world.specs.Step.{may_leave}
@@ -354,12 +352,6 @@ all-shown (x ∷ xs) (y ∷ ys) same = λ i. one-shown x y (same 0) i ∷ all-sh
 agree_shown : (a b : State) → Agree a b → all_shown a ≡ all_shown b
 agree_shown a b same = all-shown a.documents b.documents same.documents
 
-found_shown : (content : List ℕ) (a b : State) → FoundAs content a → FoundAs content b → all_shown a ≡ all_shown b
-found_shown content a b here there =
-    let one = here.by_either Newer in
-    let other = there.by_either Newer in
-    sym (agree_shown one.there a one.agrees) ∙ (ap all_shown (found_once content Newer one.there other.there one.found other.found) ∙ agree_shown other.there b other.agrees)
-
 module _ (D : Type 0) (disk : Ghosts D) where
   lives_stand : (start : State) (stand : List Entry) (acks : List Acknowledged) (store : Store D disk) → Lives start stand acks store → Stood start stand acks (state_of store)
   lives_stand start _ _ _ (First store same) = record {
@@ -368,7 +360,7 @@ module _ (D : Type 0) (disk : Ghosts D) where
     kept = All-nil (λ (ack : Acknowledged). HasTaken start [] ack.command ack.revision);
   }
   lives_stand start _ _ _ (Next stand acks old new next life left heard content before leaves opened) =
-      let here = (opened.opened.runs_on opened.honest leaves.found.there leaves.found.found).1 in
+      let here = (opened.opened.1.runs_on opened.honest leaves.found.there leaves.found.found).1 in
       stands_on old new life start stand acks left heard (state_of next) (lives_stand start stand acks old before) leaves.first
       (agree_shown (state_of next) leaves.found.there here ∙ leaves.found.shows) leaves.given
 
@@ -564,18 +556,18 @@ crash_leaves D disk old new life heard content works is_open left each = ∥∥�
     ))
 
 pub copy_leaves : (D : Type 0) (disk : Ghosts D) → CopyLeaves D disk
-copy_leaves D disk old new life left heard content other there copy limits leaves here found same = record {
+copy_leaves D disk old new life left heard content other copy limits leaves found same = record {
   first = leaves.first;
   found = record {
     there = copy;
     found = found;
-    shows = agree_shown copy (record there { limits = limits }) same ∙ (found_shown content there leaves.found.there here leaves.found.found ∙ leaves.found.shows);
+    shows = agree_shown copy (record leaves.found.there { limits = limits }) same ∙ leaves.found.shows;
   };
   given = leaves.given;
 }
 
 pub opens_again : (D : Type 0) (disk : Ghosts D) → OpensAgain D disk
 opens_again D disk old new next life left heard content leaves opened = (
-  (opened.opened.runs_on opened.honest leaves.found.there leaves.found.found).0,
-  opened.opened.works,
+  (opened.opened.1.runs_on opened.honest leaves.found.there leaves.found.found).0,
+  opened.opened.1.works,
 )

@@ -12,7 +12,6 @@ use Rattle.revision.specs.Window.{longest}
 use Rattle.revision.specs.State.{Limits, State, fold}
 use Rattle.revision.specs.Acceptance.{Repeats, answer}
 use Rattle.revision.specs.Agree.{Agree}
-use Rattle.history.specs.declared.pick.Pick.{Pick}
 use Rattle.recovery.specs.declared.store.Store.{Store}
 use Rattle.recovery.specs.Found.{commands_of, FoundAs}
 use Rattle.recovery.specs.Moment.{Moment}
@@ -118,7 +117,7 @@ module _ {D : Type 0} {disk : Ghosts D} where
     pub answered : HasAnswered (state_of old) life.desks ack.command (Ok reply)
     pub told : IsPrefix (commands_of answered.mid.told) first
 
-  -- A crash left this content at a moment from this one on, before the life ended with a store or after that.
+  -- A crash left this content at a moment from this one on, before the life had ended with this store or after that.
   abbrev pub IsLeftFrom : History → Store D disk → List ℕ → Type 0
   IsLeftFrom from last content = LeftSince (history_of disk (device_of last)) (length from.past) content ⊎ MayLeaveNow disk (device_of last) content
 
@@ -137,10 +136,9 @@ module _ {D : Type 0} {disk : Ghosts D} where
     pub found : Represents content (fold (state_of old) (takens left))
     pub given : All (HasGiven old new life (takens left)) heard
 
-  -- A store was opened on a content by whichever cells, as `Store::open` says, and its device has kept its word.
+  -- A store was opened on a content by some pick of cells, as `Store::open` says, and its device has kept its word.
   pub record IsOpenedOn (content : List ℕ) (store : Store D disk) : Type 0 where
-    pub pick : Pick
-    pub opened : IsOpenedStore content pick store
+    pub opened : (pick : _) × IsOpenedStore content pick store
     pub honest : disk.honest (device_of store)
 
   -- Lives that ended, one after another, and the store that was opened then: the commands that stand, and the acknowledgements that were heard
@@ -179,11 +177,11 @@ module _ (D : Type 0) (disk : Ghosts D) where
       → has_failed old ≡ false → IsOpen old → IsLeftFrom (history_of disk (device_of old)) new content → All (WasHeard old new life content) heard
       → Surely ((left : List Entry) × HasLeft old new life left heard content)
 
-  -- So has each copy of that: a content that represents a state which agrees with one that the other represents, but for limits.
+  -- So has each copy of that: a content that represents a state which agrees, but for limits, with the one that the other represents.
   abbrev pub CopyLeaves : Type 0
   CopyLeaves =
-      (old new : Store D disk) (life : Lived old new) (left : List Entry) (heard : List Acknowledged) (content other : List ℕ) (there copy : State) (limits : Limits)
-      → HasLeft old new life left heard content → FoundAs content there → FoundAs other copy → Agree copy (record there { limits = limits })
+      (old new : Store D disk) (life : Lived old new) (left : List Entry) (heard : List Acknowledged) (content other : List ℕ) (copy : State) (limits : Limits)
+      → (leaves : HasLeft old new life left heard content) → FoundAs other copy → Agree copy (record leaves.found.there { limits = limits })
       → HasLeft old new life left heard other
 
   -- A store that is opened on what was left of a life is open and works, so that all of this applies to its own life.
