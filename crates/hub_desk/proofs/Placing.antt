@@ -30,7 +30,8 @@ use Rattle.hub_desk.specs.Laws.{PlacedStands}
 use Rattle.hub_desk.specs.Standing.{Reaches, StandsIn}
 use Rattle.hub_desk.proofs.Batches.{grow_behind}
 use Rattle.hub_desk.proofs.Finding.{noted, window-changed}
-use Rattle.hub_desk.proofs.StandsOn.{StandsWhere, reaches-new, stands_later}
+use Rattle.hub_desk.proofs.StandsOn.{StandsWhere, reaches-new, stands_answered, stands_later}
+use Rattle.world.specs.Law.{window_held}
 use Rattle.world.proofs.CallerLemmas.{by_found}
 use Rattle.hub.proofs.CallerLemmas.{fold-more}
 
@@ -344,6 +345,14 @@ module _ (state : State) (command : Command) where
 
   stands_again : (revision : ℕ) → answer state command ≡ Repeats revision → StandsIn state command revision
   stands_again revision is = again-to command.action (find command.name 0 state.documents) revision is
+
+-- what is answered as a retry has its number in its source's window, as that revision
+pub again_held : (state : State) (command : Command) (revision : ℕ) → answer state command ≡ Repeats revision
+    → revision_in command.number (window_held state command) ≡ Some revision
+again_held state command revision is = elim (stands_answered state command revision (stands_again state command revision is)) [
+  | inl made ↦ made.0
+  | inr old ↦ let refused = old.2 in absurd (cc (is, refused))
+]
 
 -- what the order of a ticket makes has its command
 placed-there : (start : State) (order : List Entry) (command : Command) (due : Reply) (reply : Told) → PlacedBy start order command due → answered due ≡ Ok reply

@@ -11,7 +11,7 @@ use Rattle.revision.specs.Window.{Window, taken_as, taken_next, revision_in}
 use Rattle.revision.specs.Sources.{Sources, window_of}
 use Rattle.revision.proofs.CallerLemmas.{shifts, one_revision}
 use Rattle.revision.specs.State.{DocumentRecord, State, sources_of, is_live, find, grows, grown, all_grow, fold}
-use Rattle.revision.specs.Acceptance.{Answer, Repeats, Refuses, by_retry, by_number, if_live, revive, edit, undo, delete, answer_to}
+use Rattle.revision.specs.Acceptance.{Answer, Repeats, Refuses, by_retry, by_number, if_live, revive, edit, undo, delete, answer, answer_to}
 use Rattle.revision.specs.Agree.{DocumentsAgree, PlacesAgree}
 use Rattle.world.specs.Law.{window_found, window_held}
 use Rattle.hub_desk.specs.Standing.{Reaches, StandsIn}
@@ -164,8 +164,12 @@ module _ (state : State) (command : Command) (found : ℕ × DocumentRecord) whe
   answered-old Delete none lower =
       by_number-old (window_of command.source (sources_of found.1)) command.number (if_live found.1 (delete state found.0 found.1 command)) none lower
 
-pub not_taken_again : IsNotTakenAgain
-not_taken_again state command revision some stands = by_found (find command.name 0 state.documents) stands
+-- what is answered to a command that stands
+pub stands_answered : (state : State) (command : Command) (revision : ℕ) → StandsIn state command revision
+    → ((revision_in command.number (window_held state command) ≡ Some revision) × (answer state command ≡ Repeats revision))
+    ⊎ ((revision_in command.number (window_held state command) ≡ None) × (command.number < (window_held state command).number)
+    × (answer state command ≡ Refuses (refusal_of_old command.action (lives (find command.name 0 state.documents)))))
+stands_answered state command revision stands = by_found (find command.name 0 state.documents) stands
   where
     by_found : (there : Option (ℕ × DocumentRecord)) → StandsWhere command revision there
         → ((revision_in command.number (window_found command.source there) ≡ Some revision) × (answer_to state command command.action there ≡ Repeats revision))
@@ -174,6 +178,9 @@ not_taken_again state command revision some stands = by_found (find command.name
     by_found None stands = absurd stands
     by_found (Some found) (inl made) = inl (made, answered-again state command found command.action revision made)
     by_found (Some found) (inr old) = inr (old.0, old.1, answered-old state command found command.action old.0 old.1)
+
+pub not_taken_again : IsNotTakenAgain
+not_taken_again state command revision some stands = stands_answered state command revision stands
 
 -- a document keeps its number
 number-stays : (name : List ℕ) (state : State) (commands : List Taken) (number : ℕ) (found : DocumentRecord) → all_grow state commands ≡ true

@@ -6,6 +6,5 @@ pub mod Fitting
 pub mod Answering
 pub mod Resting
 pub mod Scheduling
-pub mod Living
 pub mod Refusing
 pub mod Counting

@@ -1,5 +1,4 @@
 pub mod Run
 pub mod Driving
 pub mod Schedule
-pub mod Lives
 mod ScheduleExamples

@@ -1,4 +1,4 @@
--- A run as a schedule, and a life behind another, computed. What comes of them is worked out by hand.
+-- A run as a schedule, computed. What comes of it is worked out by hand.
 use Rattle.std.specs.Prelude.{◌≡◌, ℕ, Some, None, List, [], ◌∷◌, length, map, refl, codes}
 use Rattle.std.specs.Char.{encode_utf8}
 use Rattle.std.specs.Char.Utf16.{utf16_chars}
@@ -16,7 +16,6 @@ use Rattle.lives.specs.declared.calls.Call.TheVariants.{Submit, Turn, Ack, Miles
 use Rattle.lives.specs.declared.calls.Answer.{Answer}
 use Rattle.lives.specs.declared.calls.Answer.TheVariants.{Submitted, Turned, Acked, Put, Retired}
 use Rattle.lives.specs.Schedule.{schedule, acked}
-use Rattle.lives.specs.Lives.{counted_from}
 
 -- a store without documents
 abbrev empty_store : State
@@ -67,8 +66,3 @@ its_counts = refl
 its_milestone : after.composed ≡ (0, 1) ∷ []
 unfolding utf16_chars encode_utf8 insert
 its_milestone = refl
-
--- the tickets of a second life, behind three commands
-its_tickets_later : map said (counted_from 3 after.tickets) ≡ (TakenAt 1, 4) ∷ (AgainAt 1, 4) ∷ []
-unfolding utf16_chars encode_utf8 insert
-its_tickets_later = refl

@@ -1,6 +1,5 @@
-//! What holds of every run of a thread, and over all lives of a server: laws, as contracts of functions that do nothing.
+//! What holds of every run of a thread: laws, as contracts of functions that do nothing.
 ghost use Rattle.lives.specs.Schedule.{AreNumbered, FirstIsSchedule, IsNumbered, RunIsSchedule};
-ghost use Rattle.lives.specs.Lives.{AllLives, LivesGoOn, OneLife, RunGoesOn};
 
 use crate::calls::Call;
 use disk::Disk;
@@ -13,16 +12,6 @@ use published::Life;
 pub fn run_is_a_schedule<D: Disk, L: Life>()
     ensures goes_on { RunIsSchedule D L ⟦<D as Disk>⟧ }
     ensures first { FirstIsSchedule D L ⟦<D as Disk>⟧ }
-{}
-
-/// Over all lives of a server, where each began with what the crash before it had left: no acknowledged edit is missing, none is taken
-/// twice, and none changes its revision. What was acknowledged in any life and comes again is answered as a retry, with its revision,
-/// unless its source has sent a greater number since.
-pub fn lives<D: Disk, L: Life>()
-    ensures one { OneLife D L ⟦<D as Disk>⟧ }
-    ensures all { AllLives D L ⟦<D as Disk>⟧ }
-    ensures run { RunGoesOn D L ⟦<D as Disk>⟧ }
-    ensures go_on { LivesGoOn D L ⟦<D as Disk>⟧ }
 {}
 
 /// The number of each command of these calls is one that a world takes, since a command's type keeps it so.

@@ -1,5 +1,5 @@
-//! One thread's runs over a board and a flusher, and what holds over all lives of such runs. No program makes them: what `richd` runs is
-//! `turns`, and these are what the law over all lives is tied to.
+//! One thread's runs over a board and a flusher. No program makes them: what `richd` runs is `turns`, and these are what the laws of
+//! `world` are tied to.
 //!
 //! `turn` takes a run off a board of the same thread, writes it and settles it: specs/Run.antt says by `RunGoes` which batches a crash at
 //! any moment of it leaves.
@@ -22,13 +22,10 @@
 //! What a crash leaves is said of a store that is open as `IsOpen` of recovery says, which `Store::open` gives for an honest device. A
 //! turn that publishes a batch before its commit can't be written: a publish shows what was accepted by the receipt of its commit.
 //!
-//! # Over all lives
+//! # A run as events
 //!
 //! A run is a list of a world's events: specs/Schedule.antt says which, and `laws::run_is_a_schedule` that they make just the run's board,
-//! tickets and acknowledgements. specs/Lives.antt says what a life is (runs of `drive` over a store that was opened once), how a crash ends
-//! it, and how the next one begins; `laws::lives` promises of all of them that no acknowledged edit is missing, none is taken twice, none
-//! changes its revision, and that what was acknowledged and comes again is answered as a retry, unless its source has sent a greater number
-//! since.
+//! tickets and acknowledgements. The law over all lives of a server is one of `server_threads`.
 //!
 //! A caller, with its contract, which `flusher_tests` proves:
 //!

@@ -7,3 +7,5 @@ mod Served
 mod Ended
 mod Attending
 mod Tallied
+mod LegalOrders
+mod AllLives

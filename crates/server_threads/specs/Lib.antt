@@ -4,3 +4,5 @@ pub mod Streams
 pub mod Connections
 pub mod Written
 pub mod Held
+pub mod Lives
+mod LivesExamples

@@ -21,6 +21,9 @@
 //! `specs/Streams.antt` says what was written. Of sockets nothing can be said: so the desks of `serve_on` are some desks; that they are those
 //! of its sessions is in `serve_all` and `hold_at`, and no clause says it, nor which bytes went through which of them.
 //!
+//! Over all lives of a server, one after another, `laws::lives` promises that nothing which a desk acknowledged is missing later, taken twice, or has
+//! another revision, and that each of a source's last 16 numbers is answered as a retry when it comes again. `specs/Lives.antt` says what lives are.
+//!
 //! Callers, which `server_threads_tests` proves:
 //!
 //! ```text
@@ -92,6 +95,7 @@
 mod beside;
 mod connections;
 mod desks;
+pub mod laws;
 mod life;
 mod moments;
 mod seated;
