@@ -10,7 +10,7 @@ use Rattle.core.proofs.once.OnceLock.TheSendSync as once
 use Rattle.sockets.specs.contracts.raw.HostPeer as host
 use Rattle.sockets.specs.contracts.guests.Guests as guests
 use Rattle.sockets.specs.contracts.guests.Part as part
-use Rattle.sockets.specs.contracts.guests.Peer as peer
+use Rattle.sockets.specs.contracts.guests.Guest as guest
 use Rattle.sockets.specs.contracts.hall.Hall as hall
 use Rattle.sockets.specs.contracts.lobby.Lobby as lobby
 use Rattle.sockets.specs.contracts.lobby.Places as places
@@ -32,15 +32,15 @@ module _ (T : RattleType) (l : ledger.Ghosts T.Denot) (sends : IsSend T) where
     (search (share.the_send, sendable, crosses) depth 40 fits 20000, (search sendable depth 10, tt)),
   )
 
-  peer_fields : AllSend (shape (peer.the_type T l)).fields
-  peer_fields = (struct_send (shape host.the_type) host_fields, (struct_send (shape (part.the_type T l)) part_fields, tt))
+  guest_fields : AllSend (shape (guest.the_type T l)).fields
+  guest_fields = (struct_send (shape host.the_type) host_fields, (struct_send (shape (part.the_type T l)) part_fields, tt))
 
-  peer_send : IsSend (peer.the_row T l)
-  peer_send = recorded_send (Struct (shape (peer.the_type T l))) _ _ (peer.the_type T l).to_one (struct_send (shape (peer.the_type T l)) peer_fields)
+  guest_send : IsSend (guest.the_row T l)
+  guest_send = recorded_send (Struct (shape (guest.the_type T l))) _ _ (guest.the_type T l).to_one (struct_send (shape (guest.the_type T l)) guest_fields)
 
   places_fields : AllSend (shape (places.the_type T l)).fields
   places_fields = (
-    Deque-send (peer.the_row T l) peer_send,
+    Deque-send (guest.the_row T l) guest_send,
     (
       search (sendable, crosses) depth 20,
       (search (sendable, crosses) depth 20, (search (sendable, crosses) depth 20, (struct_send (shape (guests.the_type T l)) guests_fields, tt))),

@@ -4,7 +4,7 @@ ghost use Rattle.sockets.specs.Socket.{AcceptFailed, Event, came, HasFailedSince
 ghost use Rattle.sockets.specs.Door.{accounted_for, taken_in};
 
 use crate::door::Door;
-use crate::guests::Peer;
+use crate::guests::Guest;
 use crate::lobby::Lobby;
 use crate::raw::Listen;
 use crate::watch::ListenerWatch;
@@ -102,7 +102,7 @@ fn accept_one<G: Ledger, N: Listen>(
 }
 
 // Hands a connection to a thread that is free, or closes it: where none is, or where nobody is served any more.
-fn let_in<G: Ledger>(rt: &impl Wait, lobby: &Lobby<G>, peer: Peer<G>, is_going: bool) {
+fn let_in<G: Ledger>(rt: &impl Wait, lobby: &Lobby<G>, peer: Guest<G>, is_going: bool) {
     if is_going {
         lobby.offer(rt, peer);
     } else {

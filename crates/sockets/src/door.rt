@@ -1,7 +1,7 @@
 //! The count of those who came, and of those who are accounted for.
 ghost use Rattle.std.specs.Prelude.{◌≡◌, ◌≤◌, ◌+◌, [], true, length, nat_lt};
 
-use crate::guests::{Guests, Part, Peer};
+use crate::guests::{Guest, Guests, Part};
 use crate::raw::{HostPeer, Visits};
 use std::sync::ledger::{Blank, Book, Ledger, Share};
 
@@ -50,7 +50,7 @@ impl<G: Ledger> Door<G> {
     }
 
     /// One more came, who gets a part.
-    pub fn take_in(&mut self, peer: HostPeer) -> Peer<G>
+    pub fn take_in(&mut self, peer: HostPeer) -> Guest<G>
         requires { nat_lt 1 self.old.left ≡ true }
         ensures taken { taken_in self.new ≡ taken_in self.old + 1 }
         ensures accounted { accounted_for self.new ≡ accounted_for self.old }
@@ -58,7 +58,7 @@ impl<G: Ledger> Door<G> {
         self.book.add(&mut self.share, 1);
         let part = Part::new(self.share.split_off(1, 1));
         self.left -= 1;
-        Peer { peer, part }
+        Guest { peer, part }
     }
 
     /// These are accounted for.

@@ -24,7 +24,7 @@ impl<G: Ledger> Part<G> {
 
 /// A peer that a listener took, with its part.
 #[derive(Drop)]
-pub struct Peer<G: Ledger> {
+pub struct Guest<G: Ledger> {
     pub peer: HostPeer,
     pub part: Part<G>,
 }
@@ -70,7 +70,7 @@ impl<G: Ledger> Guests<G> {
     }
 
     /// A peer is closed, which was asked nothing.
-    pub fn turn_away(&mut self, peer: Peer<G>)
+    pub fn turn_away(&mut self, peer: Guest<G>)
         requires { are_unasked self.old.visits.list ≡ true }
         ensures { are_unasked self.new.visits.list ≡ true }
     {

@@ -2,7 +2,7 @@
 ghost use Rattle.std.specs.Prelude.{◌≡◌, ◌≤◌, [], true, length};
 ghost use Rattle.sockets.specs.Host.{are_unasked};
 
-use crate::guests::{Guests, Peer};
+use crate::guests::{Guest, Guests};
 use crate::parting::Parting;
 use crate::watch::Peers;
 use std::alloc::{AllocError, Global};
@@ -14,7 +14,7 @@ use std::sync::{Condvar, Mutex, Wait};
 /// free, and nobody who was turned away was read from or written to.
 #[derive(Drop)]
 struct Places<G: Ledger> {
-    waiting: VecDeque<Peer<G>>,
+    waiting: VecDeque<Guest<G>>,
     free: usize,
     ended: bool,
     peers: Peers,
@@ -25,7 +25,7 @@ struct Places<G: Ledger> {
 
 impl<G: Ledger> Places<G> {
     // Lets a connection wait where a thread is free for it, and else closes it.
-    fn offer(&mut self, peer: Peer<G>) {
+    fn offer(&mut self, peer: Guest<G>) {
         if self.waiting.len() < self.free {
             if let Err(refused) = self.waiting.push_back(peer) {
                 self.turn_away(refused.value);
@@ -36,13 +36,13 @@ impl<G: Ledger> Places<G> {
     }
 
     // Closes a connection without a byte.
-    fn turn_away(&mut self, peer: Peer<G>) {
+    fn turn_away(&mut self, peer: Guest<G>) {
         count(&mut self.peers.turned_away);
         self.away.turn_away(peer);
     }
 
     // Gives the next connection to a thread, which is free no longer.
-    fn take(&mut self) -> Option<Peer<G>> {
+    fn take(&mut self) -> Option<Guest<G>> {
         if self.ended {
             return None;
         }
@@ -101,7 +101,7 @@ pub struct Lobby<G: Ledger> {
 }
 
 impl<G: Ledger> Lobby<G> {
-    /// A lobby of as many threads at most, none of which is free yet. Refused as out of memory alone.
+    /// A lobby for so many threads at most. None is free yet. Refused as out of memory alone.
     pub fn new(alloc: Global, threads: usize, nobody: Guests<G>) -> Result<Lobby<G>, AllocError>
         requires { nobody.visits.list ≡ [] }
     {
@@ -150,18 +150,18 @@ impl<G: Ledger> Lobby<G> {
     }
 
     /// Hands a connection to a thread that is free, or closes it where none is.
-    pub fn offer(&self, rt: &impl Wait, peer: Peer<G>) {
+    pub fn offer(&self, rt: &impl Wait, peer: Guest<G>) {
         self.places.lock(rt).offer(peer);
         self.changed.notify_one();
     }
 
     /// Closes a connection.
-    pub fn turn_away(&self, rt: &impl Wait, peer: Peer<G>) {
+    pub fn turn_away(&self, rt: &impl Wait, peer: Guest<G>) {
         self.places.lock(rt).turn_away(peer);
     }
 
     /// Waits for a connection, which the calling thread then serves. `None` where the lobby is closed.
-    pub fn next(&self, rt: &impl Wait) -> Option<Peer<G>> {
+    pub fn next(&self, rt: &impl Wait) -> Option<Guest<G>> {
         let mut places = self.changed.wait_while(
             rt,
             self.places.lock(rt),

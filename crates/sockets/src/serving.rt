@@ -141,7 +141,7 @@ impl<K: Desk + Drop, G: Ledger> Room<K, G> {
 /// What is left when each session has ended: the desks with those whom they served, the listener, the count of those who came, and whether the
 /// newest call of the listener failed.
 #[derive(Drop)]
-struct Held<K, N, G: Ledger> {
+struct Leavings<K, N, G: Ledger> {
     attendants: Vec<Attendant<K, G>>,
     listener: N,
     door: Door<G>,
@@ -166,7 +166,7 @@ fn serve_in<
     begun: Vec<Begun<Attendant<K, G>, ServedBy<K>>>,
     attendants: Vec<Attendant<K, G>>,
     watch: &W,
-) -> Held<K, N, G>
+) -> Leavings<K, N, G>
     requires room { HasRoom (vec_len desks) begun × HasRoom (vec_len desks) attendants }
     ensures attended { HaveAttended K.does hall.now.ended.id desks.items result.attendants.items }
     ensures counted { came (N.arrivals result.listener) + taken_in door ≡ came (N.arrivals listener) + taken_in result.door }
@@ -176,7 +176,7 @@ fn serve_in<
     thread::scope(
         thread::scope_env(),
         rt,
-        |scope| -> Held<K, N, G>
+        |scope| -> Leavings<K, N, G>
             requires { HasRoom (vec_len desks) begun × HasRoom (vec_len desks) attendants }
             ensures attended { HaveAttended K.does hall.entry.now.ended.id desks.items result.attendants.items }
             ensures counted { came (N.arrivals result.listener) + taken_in door ≡ came (N.arrivals listener) + taken_in result.door }
@@ -189,7 +189,7 @@ fn serve_in<
             let has_failed = accept_all(rt, lobby, &mut door, &mut listener, watch);
             hall.end(rt);
             lobby.close(rt);
-            Held {
+            Leavings {
                 attendants: end_all(rt, begun, attendants),
                 listener,
                 door,
@@ -201,7 +201,7 @@ fn serve_in<
 
 // Parts the desks from their visits, and counts these.
 fn end<G: Ledger, K: Desk + Drop, N: Listen>(
-    held: Held<K, N, G>,
+    held: Leavings<K, N, G>,
     lobby: Lobby<G>,
     seats: Seats<K>,
 ) -> Attended<K, N>
@@ -215,7 +215,7 @@ fn end<G: Ledger, K: Desk + Drop, N: Listen>(
     ensures all { result.attendance.is_complete ≡ true
         → (held.has_failed ≡ true) × (count_all (visits_of result.attendance) + length (turned_away_of result.attendance) ≡ taken_in held.door) }
 {
-    let Held {
+    let Leavings {
         attendants,
         listener,
         door,

@@ -5,7 +5,7 @@ ghost use Rattle.sockets.specs.Room.{HasRoom};
 
 use crate::begun::Begun;
 use crate::connection::serve_peer;
-use crate::guests::{Guests, Peer};
+use crate::guests::{Guest, Guests};
 use crate::hall::Hall;
 use crate::lobby::Lobby;
 use session::Desk;
@@ -100,7 +100,7 @@ fn serve_desk<G: Ledger, K: Desk + Drop, R: Wait>(
         return Attendant { desk, guests };
     }
     'peers: for _ in rt.forever() {
-        let Some(Peer { peer, part }) = lobby.next(rt) else {
+        let Some(Guest { peer, part }) = lobby.next(rt) else {
             return Attendant { desk, guests };
         };
         let (parting, visit) = serve_peer(rt, alloc, hall, &mut desk, peer);
