@@ -1,5 +1,5 @@
 -- What desks exchange in conversations, one after another.
-use Rattle.std.proofs.Common.{◌≡◌, ◌∙◌, ◌++◌, ℕ, List, [], ◌∷◌, true, take, drop, Option, Some, Result, Ok, Err, OnOk, OnErr, refl, sym, ap, subst, append_assoc, append-nil, inl}
+use Rattle.std.proofs.Common.{◌≡◌, ◌∙◌, ◌++◌, ℕ, List, [], ◌∷◌, true, false, take, drop, Option, Some, Result, Ok, Err, OnOk, OnErr, refl, sym, ap, subst, append_assoc, append-nil, inl}
 use Rattle.std.proofs.lemmas.List.{take-append-drop}
 use mathlib.Core.List.{IsPrefix}
 use Rattle.session.specs.Session.{Session}
@@ -16,7 +16,7 @@ use Rattle.sockets.specs.Socket as socket
 use Rattle.sockets.specs.Socket.{Event, pieces_of, bytes_of}
 use Rattle.sockets.specs.Host.{reads_in, writes_in}
 use Rattle.sockets.specs.Conversation.{beginning, AreTurns, no_turn, turn, Answers, IsAnswered, StopsIn, InReplies, InNews, InSending, StopsConversing}
-use Rattle.sockets.specs.Ends.{EndsBetween, ends_in_write}
+use Rattle.sockets.specs.Ends.{EndsBetween, ends_in_write, was_closed}
 use Rattle.sockets.specs.Desks.{AreTurnsSoFar, no_turn as none_so_far, in_piece, turn_before, Whole, Cut, AreConversations, in_none, in_one_more, Talks, ServesVisits}
 
 -- turns that were not broken off, and such turns before others
@@ -125,14 +125,14 @@ module _ {D : Type 0} (does : D → Exchange → D → Type 0) where
     talks_with_nobody visit d (reads, writes) = record {
       asked = [];
       asks = refl;
-      conversation = Whole NoMemory [] beginning reads (subst (λ l. AreTurns (pieces_of l) []) (sym reads) no_turn) (refl, refl, ap bytes_of writes);
+      conversation = Whole NoMemory [] beginning reads (ap was_closed writes) (subst (λ l. AreTurns (pieces_of l) []) (sym reads) no_turn) (refl, refl, ap bytes_of writes);
     }
 
     -- a conversation that ended between two turns
     pub talks_whole : (visit : Visit) (why : Parting) (d e : D) (start reads : List Event) (old new : List ℕ) → start ≡ [] → old ≡ []
-        → reads_in visit ≡ reads → bytes_of (writes_in visit) ≡ new → EndsBetween hall why reads
+        → reads_in visit ≡ reads → bytes_of (writes_in visit) ≡ new → was_closed (writes_in visit) ≡ false → EndsBetween hall why reads
         → IsAnswered does d e start reads (Some old) (Some new) → Talks does hall visit d e
-    talks_whole visit why d e start reads old new begins none same sent ends (last, converses) =
+    talks_whole visit why d e start reads old new begins none same sent unshut ends (last, converses) =
         let answers = converses.answers in
         let read : pieces_of (reads_in visit) ≡ converses.pieces =
         ap pieces_of same ∙ (converses.read ∙ ap (λ l. pieces_of l ++ converses.pieces) begins) in
@@ -140,51 +140,51 @@ module _ {D : Type 0} (does : D → Exchange → D → Type 0) where
         record {
           asked = answers.asked;
           asks = answers.asks;
-          conversation = Whole why answers.calls last (subst (EndsBetween hall why) (sym same) ends)
+          conversation = Whole why answers.calls last (subst (EndsBetween hall why) (sym same) ends) unshut
               (subst (λ l. AreTurns l answers.calls) (sym read) answers.turns)
               (subst (Calls beginning answers.calls answers.asked last) (sym text) answers.comes);
         }
 
     talks_broken : (visit : Visit) (why : Parting) (d e : D) (pieces : List (List ℕ)) (writes : List Event) (old new rest : List ℕ) → old ≡ []
-        → pieces_of (reads_in visit) ≡ pieces → writes_in visit ≡ socket.Closed ∷ writes → new ≡ bytes_of writes ++ rest
+        → pieces_of (reads_in visit) ≡ pieces → writes_in visit ≡ socket.Closed ∷ writes → was_closed writes ≡ false → new ≡ bytes_of writes ++ rest
         → ends_in_write hall why writes ≡ true → Broken pieces beginning d e (Some old) (Some new) → Talks does hall visit d e
-    talks_broken visit why d e pieces writes old new rest none read closed sent ends broken =
+    talks_broken visit why d e pieces writes old new rest none read closed unshut sent ends broken =
         record {
           asked = broken.asked;
           asks = broken.asks;
-          conversation = Cut why writes broken.calls broken.last broken.text closed ends
+          conversation = Cut why writes broken.calls broken.last broken.text closed unshut ends
               (subst (λ l. AreTurnsSoFar l broken.calls) (sym read) broken.turns) broken.comes
               (prefix_of_front (bytes_of writes) rest old new broken.text none sent broken.front);
         }
 
     -- a conversation in which a write failed
     talks_cut : (visit : Visit) (why : Parting) (d e : D) (start reads writes : List Event) (old new rest : List ℕ) → start ≡ [] → old ≡ []
-        → reads_in visit ≡ reads → writes_in visit ≡ socket.Closed ∷ writes → new ≡ bytes_of writes ++ rest → ends_in_write hall why writes ≡ true
+        → reads_in visit ≡ reads → writes_in visit ≡ socket.Closed ∷ writes → was_closed writes ≡ false → new ≡ bytes_of writes ++ rest → ends_in_write hall why writes ≡ true
         → StopsConversing does beginning d e start reads (Some old) (Some new) → Talks does hall visit d e
-    talks_cut visit why d e start reads writes old new rest begins none same closed sent ends stops =
+    talks_cut visit why d e start reads writes old new rest begins none same closed unshut sent ends stops =
         talks_broken visit why d e (stops.front ++ (stops.piece ∷ [])) writes old new rest none
-        (ap pieces_of same ∙ (stops.read ∙ ap (λ l. pieces_of l ++ (stops.front ++ (stops.piece ∷ []))) begins)) closed sent ends
+        (ap pieces_of same ∙ (stops.read ∙ ap (λ l. pieces_of l ++ (stops.front ++ (stops.piece ∷ []))) begins)) closed unshut sent ends
         (broken_behind stops.front (stops.piece ∷ []) beginning stops.mid d stops.desk_mid e (Some old) stops.output_mid (Some new) stops.answers
         (broken_in stops.piece stops.mid stops.desk_mid e stops.output_mid (Some new) stops.stops))
 
     -- one that had ended, and whose last bytes weren't sent on
     talks_unsent : (visit : Visit) (why : Parting) (d e : D) (start reads writes : List Event) (old new rest : List ℕ) → start ≡ [] → old ≡ []
-        → reads_in visit ≡ reads → writes_in visit ≡ socket.Closed ∷ writes → new ≡ bytes_of writes ++ rest → ends_in_write hall why writes ≡ true
+        → reads_in visit ≡ reads → writes_in visit ≡ socket.Closed ∷ writes → was_closed writes ≡ false → new ≡ bytes_of writes ++ rest → ends_in_write hall why writes ≡ true
         → IsAnswered does d e start reads (Some old) (Some new) → Talks does hall visit d e
-    talks_unsent visit why d e start reads writes old new rest begins none same closed sent ends (last, converses) =
+    talks_unsent visit why d e start reads writes old new rest begins none same closed unshut sent ends (last, converses) =
         talks_broken visit why d e converses.pieces writes old new rest none
-        (ap pieces_of same ∙ (converses.read ∙ ap (λ l. pieces_of l ++ converses.pieces) begins)) closed sent ends
+        (ap pieces_of same ∙ (converses.read ∙ ap (λ l. pieces_of l ++ converses.pieces) begins)) closed unshut sent ends
         (broken_unsent converses.pieces beginning last d e (Some old) (Some new) converses.answers)
 
     -- a conversation, however it had ended, where a write failed by its end
     pub talks_broken_off : {T E : Type 0} (r : Result T E) (visit : Visit) (why : Parting) (d e : D) (start reads writes : List Event) (old new rest : List ℕ)
-        → start ≡ [] → old ≡ [] → reads_in visit ≡ reads → writes_in visit ≡ socket.Closed ∷ writes → new ≡ bytes_of writes ++ rest
+        → start ≡ [] → old ≡ [] → reads_in visit ≡ reads → writes_in visit ≡ socket.Closed ∷ writes → was_closed writes ≡ false → new ≡ bytes_of writes ++ rest
         → ends_in_write hall why writes ≡ true → OnOk r (IsAnswered does d e start reads (Some old) (Some new))
         → OnErr r (StopsConversing does beginning d e start reads (Some old) (Some new)) → Talks does hall visit d e
-    talks_broken_off (Ok x) visit why d e start reads writes old new rest begins none same closed sent ends whole part =
-        talks_unsent visit why d e start reads writes old new rest begins none same closed sent ends whole
-    talks_broken_off (Err x) visit why d e start reads writes old new rest begins none same closed sent ends whole part =
-        talks_cut visit why d e start reads writes old new rest begins none same closed sent ends part
+    talks_broken_off (Ok x) visit why d e start reads writes old new rest begins none same closed unshut sent ends whole part =
+        talks_unsent visit why d e start reads writes old new rest begins none same closed unshut sent ends whole
+    talks_broken_off (Err x) visit why d e start reads writes old new rest begins none same closed unshut sent ends whole part =
+        talks_cut visit why d e start reads writes old new rest begins none same closed unshut sent ends part
 
     pub served_nobody : (d : D) → ServesVisits does hall [] d d
     served_nobody d = record { asked = []; asks = refl; conversations = in_none }

@@ -1,5 +1,5 @@
 -- What desks exchange with the sessions of those whom they serve.
-use Rattle.std.specs.Prelude.{◌≡◌, ℕ, true, List, [], ◌∷◌, ◌++◌}
+use Rattle.std.specs.Prelude.{◌≡◌, ℕ, true, false, List, [], ◌∷◌, ◌++◌}
 use mathlib.Core.List.{IsPrefix}
 use Rattle.session.specs.Session.{Session}
 use Rattle.session.specs.Exchange.{Exchange}
@@ -11,7 +11,7 @@ use Rattle.sockets.specs.Socket as socket
 use Rattle.sockets.specs.Socket.{Event, pieces_of, bytes_of}
 use Rattle.sockets.specs.Host.{reads_in, writes_in}
 use Rattle.sockets.specs.Conversation.{beginning, AreTurns}
-use Rattle.sockets.specs.Ends.{EndsBetween, ends_in_write}
+use Rattle.sockets.specs.Ends.{EndsBetween, ends_in_write, was_closed}
 
 -- These are turns, and the last one may have been broken off: a part of its piece was fed, and then one part more.
 pub data AreTurnsSoFar : List (List ℕ) → List Call → Type 0 where
@@ -21,12 +21,12 @@ pub data AreTurnsSoFar : List (List ℕ) → List Call → Type 0 where
       → AreTurnsSoFar (piece ∷ pieces) (Fed piece ∷ news ∷ calls)
 
 -- What a peer was sent in a conversation is the replies to what was got of it, in order, and the news, told after each read and each wait,
--- where these were asked; and it ended for a cause. Where a write failed it was a prefix of that.
+-- where these were asked; and it ended for a cause, until when the connection wasn't shut down. Where a write failed it was a prefix of that.
 pub data IsConversation (hall : ℕ) (visit : Visit) (asked : List Exchange) : Type 0 where
-  Whole : (why : Parting) (calls : List Call) (last : Session) → EndsBetween hall why (reads_in visit) → AreTurns (pieces_of (reads_in visit)) calls
+  Whole : (why : Parting) (calls : List Call) (last : Session) → EndsBetween hall why (reads_in visit) → was_closed (writes_in visit) ≡ false → AreTurns (pieces_of (reads_in visit)) calls
       → Calls beginning calls asked last (bytes_of (writes_in visit)) → IsConversation hall visit asked
   Cut : (why : Parting) (writes : List Event) (calls : List Call) (last : Session) (text : List ℕ) → writes_in visit ≡ socket.Closed ∷ writes
-      → ends_in_write hall why writes ≡ true → AreTurnsSoFar (pieces_of (reads_in visit)) calls → Calls beginning calls asked last text
+      → was_closed writes ≡ false → ends_in_write hall why writes ≡ true → AreTurnsSoFar (pieces_of (reads_in visit)) calls → Calls beginning calls asked last text
       → IsPrefix (bytes_of writes) text → IsConversation hall visit asked
 
 -- these visits were conversations, one after another, in which these were asked

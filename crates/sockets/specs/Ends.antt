@@ -16,6 +16,12 @@ EndsBetween hall NoMemory reads = reads ≡ []
 EndsBetween hall WriteFailed reads = ⊥
 EndsBetween hall Slow reads = ⊥
 
+-- the connection was shut down among these calls
+abbrev pub was_closed : List Event → Bool
+was_closed [] = false
+was_closed (socket.Closed ∷ events) = true
+was_closed (event ∷ events) = was_closed events
+
 -- the newest call was a write that failed
 abbrev pub newest_failed : List Event → Bool
 newest_failed [] = false

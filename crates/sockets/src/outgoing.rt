@@ -1,8 +1,8 @@
 //! What a peer is sent.
-ghost use Rattle.std.specs.Prelude.{◌≡◌, ◌≤◌, ◌<◌, ◌++◌, ℕ, List, [], true, Some, None, length, take, is_some, vec_len, vec_capacity, OnOk, OnErr, IfOk, IfErr, IsErr};
+ghost use Rattle.std.specs.Prelude.{◌≡◌, ◌≤◌, ◌<◌, ◌++◌, ℕ, List, [], true, false, Some, None, length, take, is_some, vec_len, vec_capacity, OnOk, OnErr, IfOk, IfErr, IsErr};
 ghost use Rattle.std.specs.Option.{ForSome};
 ghost use Rattle.sockets.specs.Socket.{bytes_of};
-ghost use Rattle.sockets.specs.Ends.{ends_in_write};
+ghost use Rattle.sockets.specs.Ends.{ends_in_write, was_closed};
 ghost use Rattle.sockets.specs.Host.{number_written, writes_of};
 
 use crate::hall::Hall;
@@ -33,6 +33,7 @@ pub struct Outgoing<'h, T: Talk> {
     of: PhantomData<T>,
     ghost connection: { number_written writer ≡ T.connection },
     ghost name: { hall.now.ended.id ≡ T.hall },
+    ghost unshut: { was_closed (writes_of writer) ≡ false },
     ghost within: { sent ≤ length held.items },
     ghost few: { length held.items ≤ 8192 },
     ghost room: { 8192 ≤ vec_capacity held },
@@ -50,6 +51,7 @@ impl<'h, T: Talk> Outgoing<'h, T> {
     ) -> Result<Outgoing<'h, T>, HostWriter>
         requires connection { number_written writer ≡ T.connection }
         requires name { hall.now.ended.id ≡ T.hall }
+        requires unshut { was_closed (writes_of writer) ≡ false }
         ensures contents { IfOk result (λ output. contents_of output ≡ bytes_of (writes_of writer)) }
         ensures works { IfOk result (λ output. output.cut ≡ None) }
         ensures refused { IfErr result (λ back. back ≡ writer) }
@@ -75,6 +77,8 @@ impl<'h, T: Talk> Outgoing<'h, T> {
         ensures why { IfErr result (λ cut. ends_in_write T.hall cut.1 (writes_of cut.0) ≡ true) }
         ensures connection { IfOk result (λ writer. number_written writer ≡ T.connection) }
         ensures cut_off { IfErr result (λ cut. number_written cut.0 ≡ T.connection) }
+        ensures unshut { IfOk result (λ writer. was_closed (writes_of writer) ≡ false) }
+        ensures cut_unshut { IfErr result (λ cut. was_closed (writes_of cut.0) ≡ false) }
     {
         let mut output = self;
         let _ = output.send();
@@ -180,6 +184,7 @@ fn write_some<'h>(
     ensures written { IfOk result (λ count. bytes_of (writes_of writer.new) ≡ bytes_of (writes_of writer.old) ++ take count bytes.now) }
     ensures why { IfErr result (λ why. ends_in_write hall.now.ended.id why (writes_of writer.new) ≡ true) }
     ensures same { number_written writer.new ≡ number_written writer.old }
+    ensures unshut { was_closed (writes_of writer.new) ≡ was_closed (writes_of writer.old) }
     ensures none { OnErr result (bytes_of (writes_of writer.new) ≡ bytes_of (writes_of writer.old)) }
 {
     for _ in 0..WRITE_WAITS {

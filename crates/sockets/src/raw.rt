@@ -273,6 +273,7 @@ pub struct HostWriter {
 impl HostWriter {
     /// Writes what the system takes, now or in its time. A write that takes no byte of some has failed.
     pub(crate) fn write(&mut self, bytes: &[u8]) -> Put
+        requires { 1 ≤ length bytes.now }
         ensures within { IsTaken result (length bytes.now) }
         ensures noted { writes_of self.new ≡ event_of_write result bytes.now ∷ writes_of self.old }
         ensures same { number_written self.new ≡ number_written self.old }
