@@ -1,5 +1,5 @@
 -- What stands over all lives of a server, and what is promised of that.
-use Rattle.std.proofs.Common.{◌≡◌, ◌≤◌, ◌<◌, ◌⊎◌, ℕ, suc, ◌+◌, Bool, true, false, cond, List, [], ◌∷◌, ◌++◌, length, map, take, drop, get_or, Option, Some, Ok, Err, refl, sym, ap, ◌∙◌, subst, arith, append_assoc, append-nil, inl, inr}
+use Rattle.std.proofs.Common.{◌≡◌, ◌<◌, ◌⊎◌, ℕ, suc, ◌+◌, Bool, true, false, cond, List, [], ◌∷◌, ◌++◌, length, map, take, drop, get_or, Option, Some, Ok, Err, refl, sym, ap, ◌∙◌, subst, arith, append_assoc, append-nil, inl, inr}
 use Rattle.std.specs.Prelude.{All, Any, Result, max, bytes_eq, slice_get, ◌==◌}
 use Rattle.std.proofs.lemmas.Bool.{and_from, cases_lt, eq-eqb, or_left}
 use Rattle.std.proofs.lemmas.List.{get_or_append_left, get_or_default, length-append, map-append, take_all, take-append-drop}
@@ -38,12 +38,13 @@ use Rattle.hub.specs.Placed.{PlacedBy}
 use Rattle.session.specs.declared.reply.Reply.{Reply as Told}
 use Rattle.session.specs.declared.reply.Reply.TheVariants.{Taken as TookAt, Again as WasAt}
 use Rattle.session.specs.Alone.{answered}
-use Rattle.session.specs.Exchange.{Exchange, Answered, Shown as Showed}
+use Rattle.session.specs.Exchange.{Exchange, Answered}
 use Rattle.session.specs.Replies.{Asks}
 use Rattle.session.specs.Reply.{rev_of}
-use Rattle.hub_desk.specs.AtHub.{Desk, Acknowledges, PassesAtHub}
+use Rattle.hub.specs.Found.{IsRefusedAfter}
+use Rattle.hub_desk.specs.AtHub.{Desk, Acknowledges, Refuses, PassesAtHub}
 use Rattle.hub_desk.proofs.CallerLemmas.{again_held, told_through}
-use Rattle.server_threads.specs.Answers.{HasCause, AllHaveCauses, first_desk}
+use Rattle.server_threads.specs.Answers.{first_desk}
 use Rattle.server_threads.specs.Served.{AreLasting, IsAtMoment, KeepsAnswers}
 use Rattle.server_threads.specs.Lives.{Acknowledged, last_taken, IsPromised, HasAnswered, Lived, HasGiven, history_at, IsLeftFrom, WasHeard, Lives, First, Next, LivesKept, AllLives, AskedAgain, CrashLeaves, CopyLeaves, OpensAgain}
 use Rattle.server_threads.proofs.AtCommits.{was_kept}
@@ -57,15 +58,6 @@ sent_behind name source first others = by_test (is_of name source first)
     by_test : (b : Bool) → last_sent name source others ≤ cond b (max first.number (last_sent name source others)) (last_sent name source others)
     by_test true = omega arith
     by_test false = omega arith
-
-sent_before : (name source : List ℕ) (first more : List Command) → last_sent name source first ≤ last_sent name source (first ++ more)
-sent_before name source [] more = omega arith
-sent_before name source (command ∷ others) more = by_test (is_of name source command) (sent_before name source others more)
-  where
-    by_test : (b : Bool) → last_sent name source others ≤ last_sent name source (others ++ more)
-        → cond b (max command.number (last_sent name source others)) (last_sent name source others) ≤ cond b (max command.number (last_sent name source (others ++ more))) (last_sent name source (others ++ more))
-    by_test true less = omega (arith, less)
-    by_test false less = less
 
 abbrev sent_of : List Entry → List Command
 sent_of order = map (λ (entry : Entry). entry.command) order
@@ -274,11 +266,6 @@ asks_split start old (exchange ∷ others) more new (next, does, rest) =
     let parts = asks_split start next others more new rest in
     (parts.0, (next, does, parts.1), parts.2)
 
-asks_join : (start : State) (old : Desk) (first more : List Exchange) (mid new : Desk) → Asks (PassesAtHub start) old first mid → Asks (PassesAtHub start) mid more new
-    → Asks (PassesAtHub start) old (first ++ more) new
-asks_join start old [] more mid new same asks = subst (λ (d : Desk). Asks (PassesAtHub start) d more new) same asks
-asks_join start old (exchange ∷ others) more mid new (next, does, rest) asks = (next, does, asks_join start next others more mid new rest asks)
-
 -- the last of some exchanges
 passed_last : (start : State) (old : Desk) (earlier : List Exchange) (exchange : Exchange) (new : Desk) → Asks (PassesAtHub start) old (earlier ++ exchange ∷ []) new
     → (before : Desk) × PassesAtHub start before exchange new
@@ -286,14 +273,6 @@ passed_last start old earlier exchange new asks =
     let parts = asks_split start old earlier (exchange ∷ []) new asks in
     let (next, does, same) = parts.2 in
     (parts.0, subst (λ (d : Desk). PassesAtHub start parts.0 exchange d) (sym same) does)
-
--- one of refused commands has its cause
-cause_of : (start : State) (order : List Taken) (earlier later : List Exchange) (command : Command) (refusal : Refusal)
-    → AllHaveCauses start order ((earlier ++ Answered command (Err refusal) ∷ []) ++ later) → HasCause start order command refusal
-cause_of start order [] later command refusal causes = causes.0
-cause_of start order (Answered asked (Ok reply) ∷ others) later command refusal causes = cause_of start order others later command refusal causes
-cause_of start order (Answered asked (Err why) ∷ others) later command refusal causes = cause_of start order others later command refusal causes.1
-cause_of start order (Showed state ∷ others) later command refusal causes = cause_of start order others later command refusal causes
 
 module _ {D : Type 0} {disk : Ghosts D} (old new : Store D disk) (life : Lived old new) where
   -- what is kept of the desk that gave an answer
@@ -423,31 +402,25 @@ again_at start stand acks old new life command revision reply stood has answers 
 
 module _ (D : Type 0) (disk : Ghosts D) where
   refused_again : (start : State) (stand : List Entry) (acks : List Acknowledged) (old new : Store D disk) (life : Lived old new) (command : Command) (revision : ℕ) (refusal : Refusal)
-      → Lives start stand acks old → HasTaken start stand command revision → HasAnswered (state_of old) life.desks command (Err refusal)
-      → 1 ≤ command.number → last_taken command (stand ++ life.order) < command.number + longest → (refusal ≡ NoMemory) ⊎ (refusal ≡ StoreFailed)
+      → Lives start stand acks old → HasTaken start stand command revision → (answers : HasAnswered (state_of old) life.desks command (Err refusal))
+      → 1 ≤ command.number → last_taken command (stand ++ answers.mid.found) < command.number + longest → (refusal ≡ NoMemory) ⊎ (refusal ≡ StoreFailed)
   refused_again start stand acks old new life command revision refusal lives has answers some last =
-      by_cause (cause_of (state_of old) (takens life.order) answers.earlier answers.later command refusal
-      ((kept_of old new life command (Err refusal) answers).causes ((answers.earlier ++ Answered command (Err refusal) ∷ []) ++ answers.later)
-      (asks_join (state_of old) first_desk (answers.earlier ++ Answered command (Err refusal) ∷ []) answers.later answers.mid answers.after.1 answers.before answers.after.4)))
+      by_desk (passed_last (state_of old) first_desk answers.earlier (Answered command (Err refusal)) answers.mid answers.before)
     where
-      by_cause : HasCause (state_of old) (takens life.order) command refusal → (refusal ≡ NoMemory) ⊎ (refusal ≡ StoreFailed)
-      by_cause (inl memory) = inl memory
-      by_cause (inr (inl failed)) = inr failed
-      by_cause (inr (inr (before, begins, refused))) =
-          let done = take (length before) life.order in
-          let rest = drop (length before) life.order in
-          let whole : done ++ rest ≡ life.order = take-append-drop (length before) life.order in
-          let kept = all_lives D disk start stand acks old new life done [] lives (rest, whole) (All-nil (HasGiven old new life (takens done))) in
-          let all : sent_of ((stand ++ done) ++ rest) ≡ sent_of (stand ++ life.order) =
-          ap sent_of (append_assoc stand done rest ∙ ap (λ (l : List Entry). stand ++ l) whole) in
-          let longer : last_taken command (stand ++ done) ≤ last_taken command (stand ++ life.order) =
-          subst (λ (l : List Command). last_taken command (stand ++ done) ≤ last_sent command.name command.source l)
-          (sym (map-append (λ (e : Entry). e.command) (stand ++ done) rest) ∙ all) (sent_before command.name command.source (sent_of (stand ++ done)) (sent_of rest)) in
+      by_rule : IsRefusedAfter (state_of old) answers.mid.found command refusal → (refusal ≡ NoMemory) ⊎ (refusal ≡ StoreFailed)
+      by_rule (inl (memory, may)) = inl memory
+      by_rule (inr refused) =
+          let done = answers.mid.found in
+          let begins : IsPrefix done life.order = (kept_of old new life command (Err refusal) answers).found answers.later answers.mid answers.after.4 in
+          let kept = all_lives D disk start stand acks old new life done [] lives begins (All-nil (HasGiven old new life (takens done))) in
           let repeats : answer (fold (state_of old) (takens done)) command ≡ Repeats revision =
-          kept.again command revision some (taken_more start stand done command revision has) (omega (arith, longer, last)) in
-          let same : answer (fold (state_of old) before) command ≡ Repeats revision =
-          subst (λ (l : List Taken). answer (fold (state_of old) l) command ≡ Repeats revision) (first_takens before life.order begins) repeats in
-          absurd (cc (same, refused))
+          kept.again command revision some (taken_more start stand done command revision has) last in
+          absurd (cc (repeats, refused))
+
+      by_desk : (before : Desk) × Refuses (state_of old) before command refusal answers.mid → (refusal ≡ NoMemory) ⊎ (refusal ≡ StoreFailed)
+      by_desk (before, inl (same, memory)) = inl memory
+      by_desk (before, inr (inl at)) = by_rule at.refused
+      by_desk (before, inr (inr (failed, stops))) = inr failed
 
   pub asked_again : AskedAgain D disk
   asked_again start stand acks old new life command revision (Ok (WasAt at)) lives has answers =

@@ -163,12 +163,13 @@ module _ (D : Type 0) (disk : Ghosts D) where
       → Lives start stand acks old → IsPrefix done life.order → All (HasGiven old new life (takens done)) given
       → IsPromised start (stand ++ done) (acks ++ given) (fold (state_of old) (takens done))
 
-  -- And what was taken in them isn't taken again in the present one, whichever desk is asked.
+  -- And what was taken in them isn't taken again in the present one, whichever desk is asked: of the present order counts what the desk had
+  -- found of it when it answered.
   abbrev pub AskedAgain : Type 0
   AskedAgain =
       (start : State) (stand : List Entry) (acks : List Acknowledged) (old new : Store D disk) (life : Lived old new) (command : Command) (revision : ℕ) (given : Result Reply Refusal)
-      → Lives start stand acks old → HasTaken start stand command revision → HasAnswered (state_of old) life.desks command given
-      → IsAnsweredAgain (stand ++ life.order) command revision given
+      → Lives start stand acks old → HasTaken start stand command revision → (answered : HasAnswered (state_of old) life.desks command given)
+      → IsAnsweredAgain (stand ++ answered.mid.found) command revision given
 
   -- What a crash leaves of a life, at any moment of it or after it, has all that was heard of by then.
   abbrev pub CrashLeaves : Type 0

@@ -312,23 +312,7 @@ fn serve_all<
 {
     let seated: Seated<'_, D, W> = Seated::new(watch, SEATS as usize);
     match serve_desks(rt, alloc, desks, listener, idle, &seated) {
-        Ok(
-            Attended {
-                desks,
-                listener,
-                attendance,
-            },
-        ) => {
-            let answer = all_accounted_for(seated.served(), &attendance);
-            (
-                Heard {
-                    listener,
-                    attendance,
-                    answer,
-                },
-                desks,
-            )
-        }
+        Ok(attended) => heard_of(attended, seated.served()),
         Err(failed) => {
             let (desks, listener) = failed.value;
             (
@@ -341,6 +325,32 @@ fn serve_all<
             )
         }
     }
+}
+
+// The desks apart from who came to them. Refused where none got a thread, or not all are accounted for.
+fn heard_of<K: Drop, N: Drop>(
+    attended: Attended<K, N>,
+    served: Result<(), AllocError>,
+) -> (Heard<N>, Vec<K>)
+    ensures desks { result.1 ≡ attended.desks }
+    ensures listener { result.0.listener ≡ attended.listener }
+    ensures attendance { result.0.attendance ≡ attended.attendance }
+    ensures complete { OnOk result.0.answer (result.0.attendance.is_complete ≡ true) }
+{
+    let Attended {
+        desks,
+        listener,
+        attendance,
+    } = attended;
+    let answer = all_accounted_for(served, &attendance);
+    (
+        Heard {
+            listener,
+            attendance,
+            answer,
+        },
+        desks,
+    )
 }
 
 // Well only where all are accounted for who came.

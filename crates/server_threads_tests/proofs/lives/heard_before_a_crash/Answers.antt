@@ -10,7 +10,7 @@ use Rattle.server_threads_tests.proofs.lives.heard_before_a_crash.Goals as goal
 
 -- the first life leaves all that was heard of, the second begins with that, and so it answers what comes again
 pub returns : goal.returns
-returns g c = λ old after next last one two content ack reply works is_open left heard opened answers.
+returns g c = λ old after next last visits others one two content ack reply works is_open left heard opened answers.
     let same : IsProp (reply ≡ Again ack.revision) = hlevel (ℕ_set, ⊎_set) in
     ∥∥₁_elim
     (c.lives.ensures.crash old after (lived one) (ack ∷ []) content works is_open left
