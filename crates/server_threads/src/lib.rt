@@ -18,11 +18,10 @@
 //! `serve_on` holds sessions over the connections of a listener, by `serve_desks` of `sockets`, and `serve_streams` one over a pair of streams,
 //! by `serve_session` of `serving`. A `Watch` is told when somebody can be served, what becomes of connections, and of a store that fails,
 //! when it does; it may end the serving. Of streams
-//! `specs/Streams.antt` says what was written. Of sockets nothing can be said: so the desks of `serve_on` are some desks; that they are those
-//! of its sessions is in `serve_all` and `hold_at`, and no clause says it, nor which bytes went through which of them.
-//!
-//! Over all lives of a server, one after another, `laws::lives` promises that nothing which a desk acknowledged is missing later, taken twice, or has
-//! another revision, and that each of a source's last 16 numbers is answered as a retry when it comes again. `specs/Lives.antt` says what lives are.
+//! `specs/Streams.antt` says what was written. Over connections the visits are given back, desk by desk, and those who were turned away
+//! (`Attendance` of `sockets`): each desk was asked just what the conversations of its visits ask (`specs/Connections.antt`), and after an `Ok` all
+//! are there who came by the listener's calls. Lives of a server follow one another, each on what a crash left of the one before: `laws` says what
+//! holds over all of them.
 //!
 //! Callers, which `server_threads_tests` proves:
 //!
