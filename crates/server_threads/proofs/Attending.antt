@@ -58,9 +58,15 @@ none_came old new attendance (visits, away, incomplete) = record {
 }
 
 -- a life ends well only where its writing did
-pub well_by : {A : Type 0} (answer written : Result (Unit {0}) Refusal) → OnOk answer ((written ≡ Ok tt) × A) → is_ok answer ≡ true → is_ok written ≡ true
-well_by (Ok answer) written is well = ap is_ok is.0
-well_by (Err refusal) written is well = absurd (cc well)
+pub well_by : (A : Type 0) (answer written : Result (Unit {0}) Refusal) → OnOk answer ((written ≡ Ok tt) × A) → is_ok answer ≡ true → is_ok written ≡ true
+well_by A (Ok answer) written is well = ap is_ok is.0
+well_by A (Err refusal) written is well = absurd (cc well)
+
+-- and where its serving did, with what is so then
+pub complete_by : {E : Type 0} (A B : Type 0) (answer : Result (Unit {0}) Refusal) (served : Result (Unit {0}) E) → OnOk answer (A × (served ≡ Ok tt)) → OnOk served B
+    → OnOk answer B
+complete_by A B (Ok answer) served is complete = subst (λ r. OnOk r B) is.1 complete
+complete_by A B (Err refusal) served is complete = tt
 
 pub nobody_served : (start : State) (visits : List (List Visit)) → visits ≡ [] → EachHasServed start visits []
 nobody_served start visits none = subst (λ l. EachHasServed start l []) (sym none) (0, tt)

@@ -12,7 +12,7 @@ use Rattle.server_threads.proofs.connections.serve_on.Goals as goal
 pub returns-in_default-clause-served : goal.returns-in_default-clause-served
 returns-in_default-clause-served g c =
     let each = EachHasServed (state_of c.args.store) (visits_of c.unserved.result.attendance) in
-    subst (λ r. WasServed each (is_ok r) c.args.store c.unserved.result.store) (sym c.unserved.ensures.back.1.1)
+    subst (λ r. WasServed each (is_ok r) c.args.store c.unserved.result.store) (sym c.unserved.ensures.back.2)
     (subst (λ s. WasServed each false c.args.store s) (sym c.unserved.ensures.back.0)
     (none_served each c.args.store (nobody_served (state_of c.args.store) (visits_of c.unserved.result.attendance) c.unserved.ensures.nobody.0)))
 
