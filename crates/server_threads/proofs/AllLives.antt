@@ -1,5 +1,5 @@
 -- What stands over all lives of a server, and what is promised of that.
-use Rattle.std.proofs.Common.{◌≡◌, ◌<◌, ◌⊎◌, ℕ, suc, ◌+◌, Bool, true, false, cond, List, [], ◌∷◌, ◌++◌, length, map, take, drop, get_or, Option, Some, Ok, Err, refl, sym, ap, ◌∙◌, subst, arith, append_assoc, append-nil, inl, inr}
+use Rattle.std.proofs.Common.{◌≡◌, ◌≤◌, ◌<◌, ◌⊎◌, ℕ, suc, ◌+◌, Bool, true, false, cond, List, [], ◌∷◌, ◌++◌, length, map, take, drop, get_or, Option, Some, Ok, Err, refl, sym, ap, ◌∙◌, subst, arith, append_assoc, append-nil, inl, inr}
 use Rattle.std.specs.Prelude.{All, Any, Result, max, bytes_eq, slice_get, ◌==◌}
 use Rattle.std.proofs.lemmas.Bool.{and_from, cases_lt, eq-eqb, or_left}
 use Rattle.std.proofs.lemmas.List.{get_or_append_left, get_or_default, length-append, map-append, take_all, take-append-drop}
