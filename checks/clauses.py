@@ -22,7 +22,7 @@ CLAUSE = re.compile(r"^ *(requires|ensures) (\w+)? ?\{", re.M)
 
 
 def is_test(crate):
-    return crate.endswith("_tests") or crate in ("fixtures", "plain_rule", "rows")
+    return crate.startswith("test_")
 
 
 # A folder crates/: the functions by crate, type and name, each with the names of its clauses; and the counts.

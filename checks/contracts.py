@@ -121,7 +121,7 @@ def table_of(crate, rows):
 def page():
     text, functions, clauses, edits = [], 0, 0, 0
     for crate in sorted(CRATES.iterdir()):
-        if crate.name.endswith("_tests") or not (crate / "src/lib.rt").exists():
+        if crate.name.startswith("test_") or not (crate / "src/lib.rt").exists():
             continue
         rows = list(rows_of(crate))
         if not rows:

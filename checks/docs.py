@@ -52,11 +52,11 @@ PHRASES = {
 
 # names that types of two crates or more have today (docs/WORDS.md says what some of them mean). A new type gets a name of its own.
 TWICE = {
-    "Action", "Ahead", "Answer", "AreMarked", "AreParts", "Batch", "Begun", "Board", "Call", "Change", "ComesOf", "Command", "Content", "Cursor",
-    "Desk", "Ended", "Event", "Exchange", "Fits", "FitsNow", "Found", "Front", "HasRoom", "IsAppended", "IsFree", "IsKeptFrom", "IsNext",
-    "IsPart", "IsReadAs", "IsStep", "IsWritten", "Kept", "Key", "Kind", "Limits", "Log", "Mark", "Moment", "Moments", "News",
-    "Nothing", "Opened", "Order", "Part", "Place", "Record", "Reply", "Run", "Sent", "Shown", "Shows", "Spells", "Stands",
-    "StandsFor", "State", "Step", "Stops", "Tally", "Ticket", "Told", "Waiting", "Written",
+    "Ahead", "Answer", "AreMarked", "AreParts", "Batch", "Begun", "Board", "Call", "Change", "ComesOf", "Content", "Cursor", "Desk",
+    "Ended", "Event", "Exchange", "Fits", "FitsNow", "Found", "Front", "HasRoom", "IsAppended", "IsFree", "IsKeptFrom", "IsNext", "IsPart",
+    "IsReadAs", "IsStep", "IsWritten", "Kept", "Key", "Kind", "Log", "Mark", "Moment", "Moments", "News", "Nothing", "Opened", "Order",
+    "Part", "Place", "Record", "Reply", "Run", "Sent", "Shown", "Shows", "Spells", "Stands", "StandsFor", "State", "Step", "Stops",
+    "Ticket", "Told", "Waiting", "Written",
 }
 
 SUFFIXES = (".rt", ".antt", ".edit", ".md", ".py", ".mjs", ".txt")
@@ -167,7 +167,7 @@ FUNCTION = re.compile(r"(?:^///[^\n]*\n)*^(?:pub )?fn .*?^\}$", re.M | re.S)
 
 def check_callers():
     proved = {}
-    for path in [it for crate in CRATES.glob("*_tests") for it in files(crate, ".rt")]:
+    for path in [it for crate in CRATES.glob("test_*") for it in files(crate, ".rt")]:
         text = path.read_text()
         imports = imports_of(text)
         proved.update({flat(it, imports): (path, imports) for it in FUNCTION.findall(text)})
@@ -235,10 +235,10 @@ def check_lengths():
 # What docs/TESTS.md counts of the gate.
 def check_counts():
     document = TOP / "docs/TESTS.md"
-    tests = [it.read_text().count("#[test]") for crate in CRATES.glob("*_tests") for it in files(crate, ".rt")]
-    rows = [line for line in (CRATES / "rows/stdin").read_text().splitlines() if line and not line.startswith("#")]
-    calls = [int(it) for it in re.findall(r"^    calls: (\d+),", (CRATES / "hostile_tests/src/scripts.rt").read_text(), re.M)]
-    crates, edits = len([*CRATES.glob("*_tests")]), len([*CRATES.glob("*/must-fail/*.edit")])
+    tests = [sum(it.read_text().count("#[test]") for it in files(crate, ".rt")) for crate in CRATES.glob("test_*")]
+    rows = [line for line in (CRATES / "test_rows/stdin").read_text().splitlines() if line and not line.startswith("#")]
+    calls = [int(it) for it in re.findall(r"^    calls: (\d+),", (CRATES / "test_hostile/src/scripts.rt").read_text(), re.M)]
+    crates, edits = sum(it > 0 for it in tests), len([*CRATES.glob("*/must-fail/*.edit")])
     count = f"{sum(tests)} tests in {crates} crates, {len(rows)} rows of deltas, {edits} wrong bodies"
     for wanted in (count, f"scripts of {sum(calls)} calls"):
         if wanted not in document.read_text():
@@ -286,7 +286,7 @@ def check_phrases():
 def check_names():
     crates = {}
     for folder, kinds, suffix in (("src", "struct|enum|trait", ".rt"), ("specs", "record|data", ".antt")):
-        for crate in sorted(it for it in CRATES.iterdir() if not it.name.endswith("_tests")):
+        for crate in sorted(it for it in CRATES.iterdir() if not it.name.startswith("test_")):
             for path in files(crate / folder, suffix):
                 for name in re.findall(rf"^ *(?:pub(?:\(\w+\))? )?(?:{kinds}) (\w+)", path.read_text(), re.M):
                     crates.setdefault(name, []).append(crate.name)

@@ -5,7 +5,7 @@ usage: checks/rows.py
 
 A row is an input over a new store. `richd serve` has it over standard input, and `richd serve --listen` over a connection whose sending
 half is closed behind it: whole, in pieces of 7 bytes, and a byte at a time. What is written has to be the same bytes each time, and one
-line for each line of the input. Which bytes these are, server_tests and session_tests say. Rows that fix when news are told are left out.
+line for each line of the input. Which bytes these are, test_server and test_session say. Rows that fix when news are told are left out.
 
 Run ./demo first, which builds crates/richd/out/richd, or name another program in RICHD. The stores lie in a temporary folder (TMPDIR).
 """

@@ -82,7 +82,7 @@ def is_public(function):
 # The crates of tests, and the programs.
 def runs(path):
     crate = crate_of(path)
-    return crate.name.endswith("_tests") or (crate / "src/main.rt").exists()
+    return crate.name.startswith("test_") or (crate / "src/main.rt").exists()
 
 
 # The functions that these call, directly or not.

@@ -32,7 +32,7 @@ const CALLS = {
 };
 
 test("the rows of deltas", () => {
-  const [rows, answers] = ["stdin", "stdout"].map((name) => readFileSync(`${ROOT}/crates/rows/${name}`, "utf8").split("\n"));
+  const [rows, answers] = ["stdin", "stdout"].map((name) => readFileSync(`${ROOT}/crates/test_rows/${name}`, "utf8").split("\n"));
   let count = 0;
   for (const [line, row] of rows.entries()) {
     const [call, ...words] = row.split("\t");

@@ -8,7 +8,7 @@
 //! The crate promises that what comes of a job by its halves is what `compose_job` makes of it, and that nothing but memory refuses it. It
 //! stands on `milestone` and on the channels of `crossbeam_channel`.
 //!
-//! A caller, with its contract, which `composers_tests` proves:
+//! A caller, with its contract, which `test_composers` proves:
 //!
 //! ```text
 //! ghost use Rattle.std.specs.Prelude.{◌≡◌, length, IfOk};

@@ -16,7 +16,7 @@
 //! agrees with the one in memory, and runs on over the same history; and a store runs on as a batch is committed, a cell is closed or
 //! put, and the oldest entries are retired. The crate stands on the rule of acceptance, `revision`.
 //!
-//! A caller, with its contract, which `revision_tests` proves:
+//! A caller, with its contract, which `test_revision` proves:
 //!
 //! ```text
 //! ghost use Rattle.std.specs.Prelude.{List};

@@ -40,7 +40,7 @@
 //! wakes them with one call (specs/Waiting.antt; the head of src/hub.rt says why nobody sleeps past that). Once the end was called nothing
 //! more is submitted.
 //!
-//! A caller, with its contract, which `hub_tests` proves as it stands:
+//! A caller, with its contract, which `test_hub` proves as it stands:
 //!
 //! ```text
 //! ghost use Rattle.std.specs.Prelude.{◌≡◌, IfOk};

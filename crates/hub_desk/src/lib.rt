@@ -13,7 +13,7 @@
 //!
 //! It is a crate of its own, so that `session` stands on nothing of stores and threads.
 //!
-//! A caller, with its contract, which `server_threads_tests` proves:
+//! A caller, with its contract, which `test_server_threads` proves:
 //!
 //! ```text
 //! ghost use Rattle.std.specs.Prelude.{IfErr, IfOk};

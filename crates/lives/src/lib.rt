@@ -27,7 +27,7 @@
 //! A run is a list of a world's events: specs/Schedule.antt says which, and `laws::run_is_a_schedule` that they make just the run's board,
 //! tickets and acknowledgements. The law over all lives of a server is one of `server_threads`.
 //!
-//! A caller, with its contract, which `flusher_tests` proves:
+//! A caller, with its contract, which `test_flusher` proves:
 //!
 //! ```text
 //! ghost use Rattle.std.specs.Prelude.{◌≡◌, None, false};

@@ -12,7 +12,7 @@
 //! specs/OneCell.antt, and what a crash at any moment of a call leaves of them in specs/Cells.antt. Milestones of many documents are put by three
 //! steps, each made for all of them before one sync (specs/Together.antt). The crate stands on `history`, whose cells it holds, on `revision` and `compose`, and on `journal` and `disk`.
 //!
-//! A caller, with its contract, which `store_tests` proves as it stands:
+//! A caller, with its contract, which `test_store` proves as it stands:
 //!
 //! ```text
 //! ghost use Rattle.std.specs.Prelude.{◌≡◌, length, IfOk, IfErr};

@@ -11,7 +11,7 @@
 //! which names the run: its logs, its ledger of seats, and the state that its store was opened with. The crate stands on `revision`, on
 //! `world` for the order's entries, on `recovery` for the receipt, on `disk` for what a device has been through, and on `ownlog`.
 //!
-//! A caller, with its contract, which `view_tests` proves as it stands:
+//! A caller, with its contract, which `test_view` proves as it stands:
 //!
 //! ```text
 //! ghost use Rattle.std.specs.Prelude.{◌≡◌, ◌≤◌, ◌<◌, ◌^◌, [], ◌∷◌, length};

@@ -8,7 +8,7 @@
 //! specs/Past.antt, and how an edit is made late in specs/Late.antt; what every state keeps, in specs/Invariants.antt, and when two
 //! states hold the same, in specs/Agree.antt. `laws` has what holds of them. It stands on `delta`, `document`, `compose` and `xform`.
 //!
-//! A caller, with its contract, which `revision_tests` proves as it stands:
+//! A caller, with its contract, which `test_revision` proves as it stands:
 //!
 //! ```text
 //! ghost use Rattle.std.specs.Prelude.{◌≡◌, ◌⊎◌, IfOk, IfErr};

@@ -5,7 +5,7 @@
 //! moment of a call leaves of the table of slots. It knows bytes alone: what a body means is up to the layer above. It
 //! stands on `journal` and `disk`.
 //!
-//! A caller, with its contract, which `store_tests` proves as it stands:
+//! A caller, with its contract, which `test_store` proves as it stands:
 //!
 //! ```text
 //! ghost use Rattle.std.specs.Prelude.{◌≡◌, ◌≤◌, [], ◌∷◌, Option, List, length};

@@ -15,7 +15,7 @@
 //! It stands on `words` for what the words ask for, on `server_threads` for the sessions, on `sockets` for the listener, on `algebra` for the
 //! tasks on deltas and for how a delta is printed, on `recovery` and `disk` for the store in a file, and on `mio` for whether a stream has room.
 //!
-//! A caller, with its contract, which `server_tests` proves as it stands:
+//! A caller, with its contract, which `test_server` proves as it stands:
 //!
 //! ```text
 //! ghost use Rattle.std.specs.Prelude.{◌≤◌};

@@ -23,7 +23,7 @@
 //! are there who came by the listener's calls. Lives of a server follow one another, each on what a crash left of the one before: `laws` says what
 //! holds over all of them.
 //!
-//! Callers, which `server_threads_tests` proves:
+//! Callers, which `test_server_threads` proves:
 //!
 //! ```text
 //! ghost use Rattle.std.specs.Prelude.{◌≡◌, true, IfOk, is_ok};

@@ -14,7 +14,7 @@
 //! with, and what `flush_all` does, are tokens that the hub alone makes: that it settled, that it was told of a failure, that it was ended
 //! and nothing is left to take. A refusal without such a token is `NoMemory`, after which the next turn continues.
 //!
-//! A caller, with its contract, which `flusher_tests` proves:
+//! A caller, with its contract, which `test_flusher` proves:
 //!
 //! ```text
 //! ghost use Rattle.std.specs.Prelude.{◌≡◌, ◌++◌, List, OnOk};

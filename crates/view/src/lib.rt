@@ -11,7 +11,7 @@
 //! viewer shows what was published. `left_right` makes two kinds of step on the view, publish and enter; the run's log stands in the proofs
 //! alone.
 //!
-//! A caller, with its contract, which `view_tests` proves as it stands:
+//! A caller, with its contract, which `test_view` proves as it stands:
 //!
 //! ```text
 //! ghost use mathlib.Core.List.{IsPrefix};

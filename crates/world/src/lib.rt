@@ -16,7 +16,7 @@
 //! world, event by event (specs/Stepping.antt). A `Follower` is a plainer one, which goes through a schedule of one source's commands
 //! to one document, with what the rule of acceptance says told to it; `laws::follower_follows` ties it to worlds.
 //!
-//! A caller, with its contract, which `world_tests` proves as it stands:
+//! A caller, with its contract, which `test_world` proves as it stands:
 //!
 //! ```text
 //! ghost use Rattle.std.specs.Prelude.{IfOk};

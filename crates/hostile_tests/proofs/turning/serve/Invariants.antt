@@ -1,8 +1,0 @@
-use Rattle.recovery.specs.Open.{state_of}
-use Rattle.hostile_tests.proofs.turning.serve.Given as goal
-
-abbrev pub ghosts-lived-L-Life : goal.ghosts-lived-L-Life
-ghosts-lived-L-Life g a = record { book = a.opened; start = state_of a.store }
-
-abbrev pub ghosts-lived-L-Ledger : goal.ghosts-lived-L-Ledger
-ghosts-lived-L-Ledger g a = record { name = a.blank.name; parts = a.blank.parts }

@@ -1,8 +1,0 @@
-use Rattle.recovery.specs.Open.{state_of}
-use Rattle.hub_tests.proofs.threads.who_waits_is_told_of_a_failure.Given as goal
-
-abbrev pub ghosts-both-L-Life : goal.ghosts-both-L-Life
-ghosts-both-L-Life g a = record { book = a.opened; start = state_of a.store }
-
-abbrev pub ghosts-both-L-Ledger : goal.ghosts-both-L-Ledger
-ghosts-both-L-Ledger g a = record { name = a.blank.name; parts = a.blank.parts }

@@ -1,0 +1,115 @@
+//! What commits and publishes in these tests, in the place of the flusher and the view.
+ghost use Rattle.std.specs.Prelude.{◌≡◌, ◌≤◌, [], length};
+ghost use Rattle.recovery.specs.Found.{commands_of};
+ghost use Rattle.recovery.specs.Open.{state_of};
+
+use disk::MemDisk;
+use document::Document;
+use hub::Run;
+use published::{Life, Log, Told};
+use recovery::{Receipt, Store};
+use refusal::Refusal;
+use std::alloc::Global;
+use std::marker::Model;
+use std::process::Abort;
+use test_fixtures::commit;
+
+/// A store, the log of what is published of it, which is all that was committed, and a token of all of that. Contracts see it as its batches.
+#[derive(Drop)]
+pub struct Publishing<L: Life> {
+    store: Store<MemDisk>,
+    log: Log<MemDisk, L>,
+    told: Told<MemDisk, L>,
+}
+
+impl<L: Life> Model for Publishing<L> {
+    ghost use Rattle.std.specs.Prelude.{◌≡◌, List};
+    ghost use Rattle.revision.specs.Command.{Taken};
+    ghost use Rattle.revision.specs.State.{fold};
+    ghost use Rattle.recovery.specs.Found.{commands_of};
+    ghost use Rattle.recovery.specs.Open.{state_of};
+
+    ghost Value = { List (List Taken) };
+
+    ghost view = { λ p. p.told };
+
+    ghost invariant = { λ p. (p.log.batches ≡ p.told) × (state_of p.store ≡ fold L.start (commands_of p.told)) };
+}
+
+impl<L: Life> Publishing<L> {
+    /// A store without a published batch.
+    pub fn new(store: Store<MemDisk>, log: Log<MemDisk, L>, told: Told<MemDisk, L>) -> Publishing<L>
+        requires none { (log.batches ≡ []) × (told ≡ []) }
+        requires start { state_of store ≡ L.start }
+        ensures { result ≡ [] }
+    {
+        Publishing { store, log, told }
+    }
+
+    /// The token of all that is published.
+    pub fn told(&self) -> &Told<MemDisk, L>
+        ensures { result.now ≡ self.now }
+    {
+        &self.told
+    }
+
+    /// Gives the store back.
+    pub fn into_store(self) -> Store<MemDisk> {
+        let Publishing {
+            store,
+            log: _,
+            told: _,
+        } = self;
+        store
+    }
+
+    /// Commits a run that follows what is published, and publishes it. Gives its receipt, and the documents that its first commands leave.
+    #[tactic(auto, using(published::proofs::CallerLemmas::committed_moment, published::proofs::CallerLemmas::committed_state))]
+    pub fn write(
+        &mut self,
+        rt: &(impl Abort + AllocGlobal),
+        run: Run<MemDisk, L>,
+    ) -> (Receipt<MemDisk>, Vec<Document>)
+        requires place { run.place ≡ length (commands_of self.old) }
+        requires some { 1 ≤ length run.commands }
+    {
+        let ordered = run.goes_on(&self.told);
+        match commit(rt.alloc(), &mut self.store, run.batch()) {
+            Ok(receipt) => {
+                let made = run.committed(&receipt, &self.told);
+                self.told = self.told.add(&mut self.log, &receipt, &ordered);
+                (receipt, made)
+            }
+            Err(refusal) => panic!(rt; "{refusal}"),
+        }
+    }
+
+    /// The same by one that gives up where the commit is refused.
+    #[tactic(auto, using(published::proofs::CallerLemmas::committed_moment, published::proofs::CallerLemmas::committed_state))]
+    pub fn write_or_end(
+        self,
+        alloc: Global,
+        run: Run<MemDisk, L>,
+    ) -> Result<(Publishing<L>, Receipt<MemDisk>), Refusal>
+        requires place { run.place ≡ length (commands_of self) }
+        requires some { 1 ≤ length run.commands }
+    {
+        let Publishing {
+            mut store,
+            mut log,
+            told,
+        } = self;
+        let ordered = run.goes_on(&told);
+        match commit(alloc, &mut store, run.batch()) {
+            Ok(receipt) => {
+                let _made = run.committed(&receipt, &told);
+                let told = told.add(&mut log, &receipt, &ordered);
+                Ok((Publishing { store, log, told }, receipt))
+            }
+            Err(refusal) => {
+                let _ = run.unwritten(store);
+                Err(refusal)
+            }
+        }
+    }
+}

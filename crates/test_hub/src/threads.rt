@@ -1,0 +1,203 @@
+//! A hub between threads: one orders commands and waits for each, another writes what was ordered in batches.
+ghost use Rattle.std.specs.Prelude.{◌≡◌};
+ghost use Rattle.recovery.specs.Open.{state_of};
+
+use crate::publishing::Publishing;
+use crate::rows::{CAP, SHAPE};
+use disk::MemDisk;
+use hub::{Board, Closer, Hub, Seat, Ticket, Writer};
+use published::{Life, Opened};
+use recovery::{Receipt, Shape, Store};
+use refusal::Refusal;
+use std::alloc::Global;
+use std::marker::Brand;
+use std::process::Abort;
+use std::sync::Wait;
+use std::sync::ledger::Blank;
+use std::thread::{Threads, join};
+use test_fixtures::{command, new_store};
+
+// Waits until a ticket is acknowledged, and counts the commands that the token holds.
+fn acknowledged<L: Life, R: Wait>(
+    rt: &R,
+    hub: &Hub<MemDisk, L>,
+    ticket: &Ticket<L>,
+) -> Result<u64, Refusal> {
+    let told = match hub.wait_ack(rt, ticket) {
+        Ok(told) => told,
+        Err(stopped) => return Err(stopped.refusal()),
+    };
+    if told.len() < ticket.length() as u64 {
+        return Err(Refusal::Stranger);
+    }
+    match hub.ack(rt, ticket) {
+        Ok(Some(told)) => Ok(told.len()),
+        Ok(None) => Err(Refusal::Stranger),
+        Err(stopped) => Err(stopped.refusal()),
+    }
+}
+
+// Submits a command of this number and length, and waits for it.
+fn submitted_one<L: Life, R: Wait>(
+    rt: &R,
+    alloc: Global,
+    hub: &Hub<MemDisk, L>,
+    seat: &mut Seat<L>,
+    edit: &(u64, u32),
+) -> Result<u64, Refusal> {
+    let command = command(alloc, edit.0, edit.1)?;
+    match hub.submit(rt, alloc, seat, &command) {
+        Ok(ticket) => acknowledged(rt, hub, &ticket),
+        Err(why) => Err(why.refusal()),
+    }
+}
+
+// Submits commands of these numbers and lengths, each after the one before was acknowledged, and counts the commands that the last
+// token holds.
+fn submitted<L: Life, R: Wait>(
+    rt: &R,
+    alloc: Global,
+    hub: &Hub<MemDisk, L>,
+    seat: &mut Seat<L>,
+    edits: &[(u64, u32)],
+) -> Result<u64, Refusal> {
+    let mut held = 0;
+    for edit in edits {
+        held = submitted_one(rt, alloc, hub, seat, edit)?;
+    }
+    Ok(held)
+}
+
+// Submits them, and then ends the hub.
+fn submitted_all<L: Life, R: Wait>(
+    rt: &R,
+    alloc: Global,
+    hub: &Hub<MemDisk, L>,
+    closer: &mut Closer<L>,
+    seat: &mut Seat<L>,
+    edits: &[(u64, u32)],
+) -> Result<u64, Refusal> {
+    let answer = submitted(rt, alloc, hub, seat, edits);
+    hub.end(rt, closer);
+    answer
+}
+
+// Commits the next run and publishes it, and gives what publishes back with the receipt.
+fn committed<L: Life, R: Wait>(
+    rt: &R,
+    alloc: Global,
+    hub: &Hub<MemDisk, L>,
+    writer: &mut Writer<L>,
+    publishing: Publishing<L>,
+) -> Result<(Publishing<L>, Receipt<MemDisk>), Refusal> {
+    let run = hub.take(rt, alloc, writer, CAP)?;
+    if run.len() == 0 {
+        run.nothing();
+        return Err(Refusal::Stranger);
+    }
+    if run.place() as u64 != publishing.told().len() {
+        run.apart(publishing.told());
+        return Err(Refusal::Stranger);
+    }
+    publishing.write_or_end(alloc, run)
+}
+
+// Settles a batch by the token of all that is published.
+fn settled<L: Life, R: Wait>(
+    rt: &R,
+    hub: &Hub<MemDisk, L>,
+    writer: &mut Writer<L>,
+    publishing: &Publishing<L>,
+    receipt: &Receipt<MemDisk>,
+) -> Result<(), Refusal> {
+    match hub.settle(rt, writer, receipt, publishing.told().copy()) {
+        Ok(_settled) => Ok(()),
+        Err(_) => Err(Refusal::Stranger),
+    }
+}
+
+// Writes what was ordered until the hub's end, and counts the batches.
+fn written<L: Life, R: Wait>(
+    rt: &R,
+    alloc: Global,
+    hub: &Hub<MemDisk, L>,
+    writer: &mut Writer<L>,
+    publishing: Publishing<L>,
+) -> Result<u64, Refusal> {
+    let mut publishing = publishing;
+    let mut batches: u64 = 0;
+    for _ in rt.forever() {
+        if let Err(_idle) = hub.wait_work(rt, writer) {
+            return Ok(batches);
+        }
+        let (after, receipt) = committed(rt, alloc, hub, writer, publishing)?;
+        publishing = after;
+        settled(rt, hub, writer, &publishing, &receipt)?;
+        batches = batches.saturating_add(1);
+    }
+    unreachable!()
+}
+
+// And tells the hub where the store failed.
+fn written_or_failed<L: Life, R: Wait>(
+    rt: &R,
+    alloc: Global,
+    hub: &Hub<MemDisk, L>,
+    writer: &mut Writer<L>,
+    publishing: Publishing<L>,
+) -> Result<u64, Refusal> {
+    match written(rt, alloc, hub, writer, publishing) {
+        Ok(batches) => Ok(batches),
+        Err(refusal) => Err(hub.fail(rt, writer, refusal).refusal()),
+    }
+}
+
+fn both<L: Life + Send + Sync, R: Threads + Wait + Abort + AllocGlobal + Sync>(
+    rt: &R,
+    store: Store<MemDisk>,
+    opened: Opened,
+    blank: Blank,
+    edits: &[(u64, u32)],
+) -> (Result<u64, Refusal>, Result<u64, Refusal>)
+    requires book { opened ≡ L.book }
+    requires name { blank.name ≡ L.name }
+    requires parts { blank.parts ≡ L.parts }
+    requires seats { blank.parts ≡ 65 }
+    requires start { state_of store ≡ L.start }
+{
+    let alloc = rt.alloc();
+    let state = store.state().copy(alloc).expect(rt, "memory");
+    let (log, told, order) = opened.named::<_, L>(store.state());
+    let board = Board::new(alloc, &store, state, told.copy(), order, blank, 64);
+    let publishing = Publishing::new(store, log, told);
+    let (hub, mut writer, mut closer) = Hub::new(board);
+    let mut seat = hub.seat(rt, &mut closer).expect(rt, "a seat");
+    join(
+        rt,
+        || submitted_all(rt, alloc, &hub, &mut closer, &mut seat, edits),
+        || written_or_failed(rt, alloc, &hub, &mut writer, publishing),
+    )
+}
+
+// Five batches of one command each: an acknowledgement is waited for before the next.
+#[test]
+fn one_submits_while_the_other_writes(rt: HostRuntime) {
+    let shape = Shape { slots: 8, ..SHAPE };
+    let store = new_store(rt.alloc(), shape).expect(&rt, "a store");
+    let opened = Opened::new().expect(&rt, "logs");
+    let edits = [(1, 1), (2, 14), (3, 20), (3, 20), (4, 9)];
+    let (held, batches) = both::<Brand, _>(&rt, store, opened, Blank::new(65), &edits);
+    assert!(rt; held.expect(&rt, "acknowledged") == 4);
+    assert!(rt; batches.expect(&rt, "written") == 4);
+}
+
+// The journal is full after the second slot: who waits is told that the store failed.
+#[test]
+fn who_waits_is_told_of_a_failure(rt: HostRuntime) {
+    let store = new_store(rt.alloc(), SHAPE).expect(&rt, "a store");
+    let opened = Opened::new().expect(&rt, "logs");
+    let edits = [(1, 190), (2, 199), (3, 199)];
+    let (held, batches) = both::<Brand, _>(&rt, store, opened, Blank::new(65), &edits);
+    assert!(rt; matches!(held, Err(Refusal::StoreFailed)));
+    assert!(rt; matches!(batches, Err(Refusal::JournalFull)));
+}

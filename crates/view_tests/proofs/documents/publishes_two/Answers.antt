@@ -1,6 +1,0 @@
-use Rattle.view_tests.proofs.Publishing.{published_kept}
-use Rattle.view_tests.proofs.documents.publishes_two.Goals as goal
-
-pub returns-clause-kept : goal.returns-clause-kept
-returns-clause-kept g c =
-    published_kept _ _ _ _ c.in-Ok-Some.field-0-is c.in-Ok-Some.ensures.batch c.in-Ok-Some.ensures.told c.in-Ok-Some.ensures.shown _ _ c.hand_on.ensures.kept
