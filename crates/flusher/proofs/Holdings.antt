@@ -28,7 +28,7 @@ use Rattle.view.specs.Published.{Published}
 use Rattle.view.specs.Stages.{IsNext}
 use Rattle.hub.specs.Runs.{Run}
 use Rattle.flusher.specs.declared.flusher.Flusher.{Flusher}
-use Rattle.flusher.specs.Flushers.{IsCommittedTo, IsLeftWithout, IsHeldCommitted, IsGivenUp}
+use Rattle.flusher.specs.Flushers.{IsOneAtMost, IsCommittedTo, IsLeftWithout, IsHeldCommitted, IsGivenUp}
 use Rattle.flusher.specs.Holding.{store_of, told_of, committed_of, waiting_of, opened_of}
 use Rattle.flusher.specs.Upkeep.{KeepsUp}
 use Rattle.flusher.proofs.Beginnings.{commands-append, fold-append}
@@ -238,10 +238,9 @@ pub kept_moved : (start state : State) (old new : Published) → (new ≡ old) �
 kept_moved start state old new (inl same) kept = kept ∙ ap (λ (p : Published). fold start (commands_of (p.told ++ p.unpublished))) (sym same)
 kept_moved start state old new (inr is) kept = kept_published start state old new kept is
 
-pub few_moved : (old new : Published) → (new ≡ old) ⊎ (new ≡ all_published old)
-    → length old.unpublished ≤ 1 → length new.unpublished ≤ 1
-few_moved old new (inl same) few = omega (arith, few, ap (λ (p : Published). length p.unpublished) same)
-few_moved old new (inr is) few = omega (arith, ap (λ (p : Published). length p.unpublished) is)
+pub few_moved : (old new : Published) → (new ≡ old) ⊎ (new ≡ all_published old) → IsOneAtMost old.unpublished → IsOneAtMost new.unpublished
+few_moved old new (inl same) few = subst (λ (p : Published). IsOneAtMost p.unpublished) (sym same) few
+few_moved old new (inr is) few = subst (λ (p : Published). IsOneAtMost p.unpublished) (sym is) (omega arith, omega arith)
 
 -- the moments stay
 pub moments_moved : (old new : Published) → (new ≡ old) ⊎ (new ≡ all_published old) → new.moments ≡ old.moments

@@ -1,5 +1,5 @@
 -- What a write leaves, and when it is refused, by what its commit and its publish left.
-use Rattle.std.proofs.Common.{◌≡◌, ◌≢◌, ◌⊎◌, inl, inr, Bool, true, false, List, [], ◌∷◌, ◌++◌, Option, Some, None, refl, sym, ◌∙◌, ap, subst, append-nil}
+use Rattle.std.proofs.Common.{◌≡◌, ◌≢◌, ◌⊎◌, inl, inr, Bool, true, false, List, [], ◌∷◌, ◌++◌, Option, Some, None, refl, sym, ◌∙◌, ap, subst, arith, length, append-nil, length-append}
 use Rattle.std.specs.Prelude.{Result, Ok, Err, IfSome, IfNone, IsErrOf}
 use Rattle.std.proofs.lemmas.Bool.{false≢true}
 use Rattle.disk.specs.declared.device.Disk.{Ghosts}
@@ -7,12 +7,13 @@ use Rattle.refusal.specs.declared.Refusal.{Refusal}
 use Rattle.refusal.specs.declared.Refusal.TheVariants.{JournalFull, StillNeeded, NoMemory, Fault}
 use Rattle.revision.specs.Command.{Taken}
 use Rattle.recovery.specs.declared.store.Store.{Store}
+use Rattle.recovery.specs.Found.{commands_of}
 use Rattle.recovery.specs.Faults.{FailsAtFaults}
 use Rattle.recovery.specs.Moment.{Receipt}
 use Rattle.recovery.specs.Open.{IsOpen, IsCommittedNow, has_failed, has_room}
 use Rattle.view.specs.Published.{Published}
 use Rattle.flusher.specs.declared.flusher.Flusher.{Flusher}
-use Rattle.flusher.specs.Flushers.{IsWritten, IsHeldCommitted}
+use Rattle.flusher.specs.Flushers.{IsOneAtMost, IsWritten, IsHeldCommitted}
 use Rattle.flusher.specs.Holding.{HasNoRoom, store_of, told_of, committed_of, waiting_of, under_way, opened_of}
 use Rattle.flusher.specs.Writing.{HasCommitted, HasPublished, LeavesHeld, IsUnpublished, IsWriteRefused, TellsFaults}
 use Rattle.flusher.proofs.Holdings.{no_error, no_batch, same_batch, same_refusal, told_of_error}
@@ -122,14 +123,15 @@ module _ {D L : Type 0} {disk : Ghosts D} where
   pub published_behind : (given : Option (Receipt D × List (List Taken))) {old mid new : Flusher D L disk} → HasCommitted old mid → store_of new ≡ store_of mid → waiting_of new ≡ waiting_of mid
       → opened_of new ≡ opened_of mid → IfSome given (λ p. mid.publisher.unpublished ≡ p.0.batch ∷ []) → IfSome given (λ p. p.1 ≡ mid.publisher.told ++ p.0.batch ∷ [])
       → IfSome given (λ p. new.publisher ≡ record { told = p.1; unpublished = []; moments = mid.publisher.moments })
-      → IfNone given ((mid.publisher.unpublished ≡ []) × (new.publisher ≡ mid.publisher)) → HasPublished given old new
-  published_behind (Some p) {old} {mid} {new} done same waits opened batch told shown none =
+      → IfNone given ((mid.publisher.unpublished ≡ []) × (new.publisher ≡ mid.publisher)) → IsOneAtMost mid.publisher.unpublished → HasPublished given old new
+  published_behind (Some p) {old} {mid} {new} done same waits opened batch told shown none few =
       let one : under_way old ≡ p.0.batch ∷ [] = sym done.committed ∙ batch in
       let shows : told_of new ≡ p.1 = ap (λ (q : Published). q.told) shown in
       let written : IsWritten (told_of old) (under_way old) (told_of new) p.0.batch p.1 = record {
         batch = one;
         published = shows ∙ told ∙ ap (λ (l : List (List Taken)). l ++ p.0.batch ∷ []) done.told ∙ ap (λ (l : List (List Taken)). told_of old ++ l) (sym one);
         token_is = sym shows;
+        some = omega (arith, few.1, ap length batch, ap (λ (l : List (List Taken)). length (commands_of l)) batch, length-append p.0.batch []);
       } in
       record {
         some = written;
@@ -140,7 +142,7 @@ module _ {D L : Type 0} {disk : Ghosts D} where
         store = subst (λ (s : Store D disk). IsHeldCommitted (waiting_of old) (store_of old) s) (sym same) done.store;
         opened = opened ∙ done.opened;
       }
-  published_behind None {old} {mid} {new} done same waits opened batch told shown none = record {
+  published_behind None {old} {mid} {new} done same waits opened batch told shown none few = record {
     some = tt;
     none = (sym done.committed ∙ none.0, ap (λ (q : Published). q.told) none.1 ∙ done.told);
     committed = ap (λ (q : Published). q.unpublished) none.1 ∙ none.0;

@@ -6,6 +6,7 @@ use Rattle.revision.specs.State.{State}
 use Rattle.segments.specs.Numbers.{newest_number}
 use Rattle.segments.specs.Ring.{known_numbers}
 use Rattle.recovery.specs.declared.store.Store.{Store}
+use Rattle.recovery.specs.Found.{commands_of}
 use Rattle.recovery.specs.Open.{FitsSlot, IsOpen, IsCommittedNow, IsCommittedBehind, IsUnchanged, IsFreedNow, IsHalfFreed, has_room, ring_of}
 
 -- A batch that is held has a command, its count has four bytes, and it fits a slot; and nothing else is still to be published.
@@ -15,12 +16,17 @@ pub record MayCommit (state : State) (batch : List Taken) (committed : List (Lis
   pub fits : FitsSlot state batch
   pub alone : committed ≡ []
 
+-- one batch at most, which has a command
+abbrev pub IsOneAtMost : List (List Taken) → Type 0
+IsOneAtMost batches = (length batches ≤ 1) × (length batches ≤ length (commands_of batches))
+
 -- A write published the one batch that was held, after those that were published before, and gave the receipt of it and the token that
--- ends with it.
+-- ends with it. It has a command.
 pub record IsWritten (told held after : List (List Taken)) (receipt : List Taken) (token : List (List Taken)) : Type 0 where
   pub batch : held ≡ receipt ∷ []
   pub published : after ≡ told ++ held
   pub token_is : token ≡ after
+  pub some : 1 ≤ length receipt
 
 -- how many bytes a batch may have
 abbrev pub cap_of : State → ℕ

@@ -7,7 +7,7 @@ ghost use Rattle.recovery.specs.Found.{commands_of};
 ghost use Rattle.recovery.specs.Open.{FitsSlot, device_of, state_of};
 ghost use Rattle.world.specs.World.{takens};
 ghost use Rattle.published.specs.Order.{IsLegal};
-ghost use Rattle.flusher.specs.Flushers.{MayCommit};
+ghost use Rattle.flusher.specs.Flushers.{IsOneAtMost, MayCommit};
 ghost use Rattle.flusher.specs.Lasting.{Lasts, Surely};
 
 use crate::begun::Begun;
@@ -34,7 +34,7 @@ pub struct Flusher<D: Disk, L: Life> {
     begun: Begun<L>,
     opened: Snapshot<Store<D>>,
     ghost kept: { state_of store ≡ fold begun (commands_of (publisher.told ++ publisher.unpublished)) },
-    ghost few: { length publisher.unpublished ≤ 1 },
+    ghost few: { IsOneAtMost publisher.unpublished },
     ghost fits: { ForSome waiting (λ run. MayCommit (state_of store) run.commands publisher.unpublished) },
     ghost placed: { ForSome waiting (λ run. run.place ≡ length (commands_of publisher.told)) },
     ghost lasts: { Surely (Lasts begun opened.value publisher waiting store) },

@@ -1,10 +1,10 @@
 //! A batch that was written and isn't settled yet.
-ghost use Rattle.std.specs.Prelude.{◌≡◌, length, IsOk, OnOk, OnErr, IfOk, IfErr};
+ghost use Rattle.std.specs.Prelude.{◌≡◌, length, IsOk, OnOk, OnErr, IfErr};
 ghost use Rattle.world.specs.Board.{settled_more};
 ghost use Rattle.recovery.specs.Found.{commands_of};
-ghost use Rattle.hub.specs.Runs.{MaySettle};
+ghost use Rattle.hub.specs.Runs.{ComesNext, MaySettle, counts_settled};
 
-use hub::{Board, Failed, Hub, SettleError, Settled, Writer};
+use hub::{Board, Hub, Settled, Writer};
 use published::{Life, Told};
 use recovery::Receipt;
 use refusal::Refusal;
@@ -12,8 +12,8 @@ use std::marker::Model;
 use std::sync::Wait;
 
 /// A batch that was committed and published, and that the board has to settle next: the receipt of its commit, and the token that ends with
-/// it. Only `Flusher::write` makes one. It isn't `Drop`: each one is settled, or the hub is told that the store has failed, or a board of the
-/// same thread has refused it.
+/// it. Only `Flusher::write` makes one. It isn't `Drop`: each one is settled at the hub, or a board of the same thread settles it or refuses
+/// it.
 pub struct Written<D, L: Life> {
     receipt: Receipt<D>,
     told: Told<D, L>,
@@ -30,26 +30,22 @@ impl<D, L: Life> Model for Written<D, L> {
 }
 
 impl<D, L: Life> Written<D, L> {
-    /// Settles it at the hub, and gives the receipt of its commit and the hub's token, by which the board has settled what was published up to
-    /// this batch. Where the hub refuses it, the hub is told that the store has failed, as `Stranger`; that comes with the hub's token by which
-    /// just this batch couldn't be settled by just this token.
+    /// Settles it at the hub, where it comes next after what the writer has settled, and gives the receipt of its commit and the hub's token,
+    /// by which the board has settled what was published up to this batch. It never fails.
     pub fn settle<R: Wait>(
         self,
         rt: &R,
         hub: &Hub<D, L>,
         writer: &mut Writer<L>,
-    ) -> Result<(Receipt<D>, Settled<D, L>), (Failed<L>, SettleError<D, L>)>
-        ensures receipt { IfOk result (λ done. done.0 ≡ self.0) }
-        ensures settled { IfOk result (λ done. done.1 ≡ self.1) }
-        ensures only { IfErr result (λ both. both.0 ≡ Refusal.Stranger) }
-        ensures batch { IfErr result (λ both. both.1.batch ≡ self.0.batch) }
-        ensures told { IfErr result (λ both. both.1.told ≡ self.1) }
+    ) -> (Receipt<D>, Settled<D, L>)
+        requires next { ComesNext writer.old self.0.batch self.1 }
+        ensures receipt { result.0 ≡ self.0 }
+        ensures settled { result.1 ≡ self.1 }
+        ensures counts { writer.new ≡ counts_settled writer.old (length self.0.batch) }
     {
         let Written { receipt, told } = self;
-        match hub.settle(rt, writer, &receipt, told) {
-            Ok(settled) => Ok((receipt, settled)),
-            Err(unsettled) => Err((hub.fail(rt, writer, Refusal::Stranger), unsettled)),
-        }
+        let settled = hub.settle(rt, writer, &receipt, told);
+        (receipt, settled)
     }
 
     /// Settles it on a board of the same thread, as `Board::settle` does. Refused with `Stranger` alone, where it isn't what the board has to

@@ -7,3 +7,4 @@ pub mod Submitting
 pub mod Waking
 pub mod Widths
 pub mod MovedAhead
+pub mod Settling

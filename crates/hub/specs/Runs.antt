@@ -1,10 +1,11 @@
 -- Which commands of the order make a batch.
-use Rattle.std.specs.Prelude.{◌≡◌, ◌⊎◌, ◌<◌, ◌≤◌, ◌+◌, ◌^◌, ℕ, true, List, drop, length, take}
+use Rattle.std.specs.Prelude.{◌≡◌, ◌⊎◌, ◌<◌, ◌≤◌, ◌+◌, ◌^◌, ◌++◌, ◌∷◌, [], ℕ, true, List, drop, length, take}
 use Rattle.delta.specs.Element.{Element}
 use Rattle.revision.specs.Command.{Taken}
 use Rattle.revision.specs.Made.{AreMade}
 use Rattle.revision.specs.State.{State, fold}
 use Rattle.journal.specs.BatchSpelling.{batch_width}
+use Rattle.recovery.specs.Found.{commands_of}
 use Rattle.world.specs.Board.{Board, can_settle}
 use Rattle.world.specs.World.{Entry, takens}
 
@@ -36,15 +37,29 @@ AreMadeThere start order place commands documents = AreMade (fold start (takens 
 abbrev pub untaken : Board Entry → List Taken
 untaken board = takens (drop board.taken board.order)
 
--- What was asked of a board that can't be done: its value then, the batch that was to be settled, and the batches that were told to be
--- published.
-pub record SettleError : Type 0 where
-  pub board : Board Entry
-  pub batch : List Taken
-  pub told : List (List Taken)
-
 -- A batch may be settled: it is the next part of the order after what is settled, all of it is taken off, and what was told to be
 -- published ends with it.
 pub record MaySettle (board : Board Entry) (batch : List Taken) (told : ℕ) : Type 0 where
   pub next : batch ≡ takens (take (length batch) (drop board.settled board.order))
   pub count : can_settle board (length batch) told ≡ true
+
+-- what the one who writes has taken off the order, and how much of that is settled
+pub record Writer : Type 0 where
+  pub taken : ℕ
+  pub settled : ℕ
+
+-- A batch comes next after what a writer has settled: it has a command, what was told to be published ends with it, and has before it as many
+-- commands as are settled; and all of it is taken off.
+pub record ComesNext (writer : Writer) (batch : List Taken) (told : List (List Taken)) : Type 0 where
+  pub before : List (List Taken)
+  pub ends : told ≡ before ++ batch ∷ []
+  pub some : 1 ≤ length batch
+  pub settled : length (commands_of before) ≡ writer.settled
+  pub taken : writer.settled + length batch ≤ writer.taken
+
+-- so many commands more are taken off, or settled
+abbrev pub counts_taken : Writer → ℕ → Writer
+counts_taken writer count = record writer { taken = writer.taken + count }
+
+abbrev pub counts_settled : Writer → ℕ → Writer
+counts_settled writer count = record writer { settled = writer.settled + count }

@@ -49,7 +49,7 @@ impl<L: Life> Ahead<L> {
     }
 
     // The edit, which is so in the state after the whole order.
-    pub(crate) fn in_order(&self, order: &mut Order<L>) -> &MovedEdit
+    pub(crate) fn in_order(&self, order: &mut Order<L, ()>) -> &MovedEdit
         ensures moved { IsMovedIn (fold L.start (takens order.old)) result.now }
         ensures same { order.new ≡ order.old }
     {
@@ -61,7 +61,7 @@ impl<L: Life> Ahead<L> {
 // The edit of a seat that has one, which is so in the state after the whole order.
 pub(crate) fn moved_in<'a, L: Life>(
     ahead: &'a Option<Ahead<L>>,
-    order: &mut Order<L>,
+    order: &mut Order<L, ()>,
 ) -> Option<&'a MovedEdit>
     ensures moved { IfSome result (λ m. IsMovedIn (fold L.start (takens order.old)) m.now) }
     ensures same { order.new ≡ order.old }

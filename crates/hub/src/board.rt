@@ -19,7 +19,7 @@ use crate::run::{Run, copied, is_beginning, longest};
 use crate::seat::{PLACES, Seat, Tally, Ticket, count};
 use disk::Disk;
 use document::Document;
-use published::{Life, Order, Ordered, Told};
+use published::{Counts, Life, Order, Ordered, Told};
 use recovery::{Receipt, Store};
 use refusal::Refusal;
 use revision::{Batch, Command, Reply, State};
@@ -36,11 +36,13 @@ const MAX_KEPT_UNITS: u64 = 1 << 22;
 /// and how many of those are settled; the token of what was published up to there; whether the store has failed; and the ledger of the
 /// seats, whose counts add up to the length of the order. It owns the run's order, and makes it longer as its own grows. Beside the
 /// commands that aren't taken off it keeps the documents as they leave them, as far as memory went and they aren't too many or too long:
-/// beside the first of them, since behind one that has none no further one is kept.
+/// beside the first of them, since behind one that has none no further one is kept. Beside it stands `C`: the ledgers that a hub counts in
+/// what its writer takes off and settles, which the board of a hub has no more.
 #[derive(Drop)]
-pub struct Board<D, L: Life> {
+pub struct Board<D, L: Life, C = Counts<L>> {
     board: Inner,
-    order: Order<L>,
+    order: Order<L, ()>,
+    counts: C,
     failed: bool,
     told: Told<D, L>,
     seats: Book<L>,
@@ -50,7 +52,7 @@ pub struct Board<D, L: Life> {
     made: Vec<Document>,
 }
 
-impl<D, L: Life> Model for Board<D, L> {
+impl<D, L: Life, C> Model for Board<D, L, C> {
     ghost use Rattle.std.specs.Prelude.{◌≡◌, ◌+◌, length};
     ghost use Rattle.hub.specs.Legal as spec;
     ghost use Rattle.hub.specs.Runs.{AreMadeThere, untaken};
@@ -90,9 +92,11 @@ impl<D, L: Life> Board<D, L> {
     {
         let _ = store;
         let (book, spare) = blank.open::<L>();
+        let (order, counts) = order.without_counts();
         Board {
             board: Inner::new(alloc, state),
             order,
+            counts,
             failed: false,
             told,
             seats: book,
@@ -103,6 +107,99 @@ impl<D, L: Life> Board<D, L> {
         }
     }
 
+    // The board of a hub, and the ledgers that the hub counts in.
+    pub(crate) fn without_counts(self) -> (Board<D, L, ()>, Counts<L>)
+        ensures { result.0 ≡ self }
+    {
+        let Board {
+            board,
+            order,
+            counts,
+            failed,
+            told,
+            seats,
+            spare,
+            left,
+            used,
+            made,
+        } = self;
+        let bare = Board {
+            board,
+            order,
+            counts: (),
+            failed,
+            told,
+            seats,
+            spare,
+            left,
+            used,
+            made,
+        };
+        (bare, counts)
+    }
+
+    /// Ends the board, whose seats were all given and are tallied: its order is a legal history, which begins as a token of it has it, and
+    /// is as long as what the seats have counted. It gives that length, and takes no memory.
+    pub fn end(self, seats: Tally<L>, ordered: &Ordered<L>) -> usize
+        requires all { seats.seats + 1 ≡ L.parts }
+        ensures ordered { result ≡ length self.board.order }
+        ensures run { IsOfRun L.start self.board }
+        ensures begins { IsPrefix ordered.now self.board.order }
+        ensures counts { length self.board.order ≡ seats.counted }
+    {
+        let count = self.ordered();
+        let Board {
+            board: _board,
+            mut order,
+            counts: _counts,
+            failed: _,
+            told: _told,
+            seats: mut book,
+            spare: mut all,
+            left: _,
+            used: _,
+            made: _made,
+        } = self;
+        order.holds(ordered);
+        all.merge(seats.share);
+        book.audit(&mut all);
+        count
+    }
+}
+
+impl<D, L: Life> Board<D, L, ()> {
+    // The board of a hub that has ended, with the ledgers.
+    pub(crate) fn with_counts(self, counts: Counts<L>) -> Board<D, L>
+        ensures { result ≡ self }
+    {
+        let Board {
+            board,
+            order,
+            counts: _,
+            failed,
+            told,
+            seats,
+            spare,
+            left,
+            used,
+            made,
+        } = self;
+        Board {
+            board,
+            order,
+            counts,
+            failed,
+            told,
+            seats,
+            spare,
+            left,
+            used,
+            made,
+        }
+    }
+}
+
+impl<D, L: Life, C> Board<D, L, C> {
     /// The state after the whole order, which is a legal history from the state that the store was opened with.
     pub fn state(&self) -> &State
         ensures state { result.now ≡ self.now.board.state }
@@ -341,33 +438,6 @@ impl<D, L: Life> Board<D, L> {
         }
     }
 
-    /// Ends the board, whose seats were all given and are tallied: its order is a legal history, which begins as a token of it has it, and
-    /// is as long as what the seats have counted. It gives that length, and takes no memory.
-    pub fn end(self, seats: Tally<L>, ordered: &Ordered<L>) -> usize
-        requires all { seats.seats + 1 ≡ L.parts }
-        ensures ordered { result ≡ length self.board.order }
-        ensures run { IsOfRun L.start self.board }
-        ensures begins { IsPrefix ordered.now self.board.order }
-        ensures counts { length self.board.order ≡ seats.counted }
-    {
-        let count = self.ordered();
-        let Board {
-            board: _board,
-            mut order,
-            failed: _,
-            told: _told,
-            seats: mut book,
-            spare: mut all,
-            left: _,
-            used: _,
-            made: _made,
-        } = self;
-        order.holds(ordered);
-        all.merge(seats.share);
-        book.audit(&mut all);
-        count
-    }
-
     /// Notes that the store has failed. It takes no memory.
     pub fn fail(&mut self)
         ensures { self.new ≡ record self.old { failed = true } }
@@ -390,7 +460,7 @@ fn least(used: &[u32; 64]) -> usize
 }
 
 // Puts the command of a ticket that the board has just given behind the run's order, if the board took it.
-fn order_taken<L: Life>(order: &mut Order<L>, board: &Inner, ticket: &world::Ticket)
+fn order_taken<L: Life>(order: &mut Order<L, ()>, board: &Inner, ticket: &world::Ticket)
     requires { WasSubmitted L.start order.old ticket.now board.now }
     ensures order { order.new ≡ board.now.order }
     ensures placed { IsPlaced L.start order.new ticket.now }
@@ -406,7 +476,7 @@ fn order_taken<L: Life>(order: &mut Order<L>, board: &Inner, ticket: &world::Tic
 fn keep_made<L: Life>(
     alloc: Global,
     made: &mut Vec<Document>,
-    order: &Order<L>,
+    order: &Order<L, ()>,
     board: &Inner,
     ticket: &world::Ticket,
 )

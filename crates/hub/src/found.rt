@@ -34,7 +34,7 @@ impl<L: Life> Found<L> {
     }
 
     // Finds the whole order, which begins with what was found of it before, and with what was told of it.
-    pub(crate) fn find<D>(&mut self, order: &mut Order<L>, told: &Told<D, L>)
+    pub(crate) fn find<D>(&mut self, order: &mut Order<L, ()>, told: &Told<D, L>)
         ensures same { order.new ≡ order.old }
         ensures whole { self.new ≡ order.old }
         ensures legal { IsLegal L.start self.new }
@@ -49,7 +49,7 @@ impl<L: Life> Found<L> {
     }
 
     // It is a prefix of the order, and of what the token has after it.
-    pub(crate) fn join(&self, order: &mut Order<L>, ordered: &mut Ordered<L>)
+    pub(crate) fn join(&self, order: &mut Order<L, ()>, ordered: &mut Ordered<L>)
         ensures same { order.new ≡ order.old }
         ensures found { IsPrefix self.now ordered.new }
         ensures before { IsPrefix ordered.old ordered.new }
@@ -60,7 +60,7 @@ impl<L: Life> Found<L> {
     }
 
     // It begins the order.
-    fn begins(&self, order: &mut Order<L>)
+    fn begins(&self, order: &mut Order<L, ()>)
         ensures begins { IsPrefix self.now order.old }
         ensures same { order.new ≡ order.old }
     {

@@ -47,6 +47,7 @@ ghost use Rattle.hub.specs.Found.{AreSubmittedAfter, IsSubmittedAfter};
 ghost use Rattle.hub.specs.Given.{WasGiven};
 ghost use Rattle.hub.specs.Legal.{counted, WasOrdered};
 ghost use Rattle.hub.specs.Placed.{StandsFirst};
+ghost use Rattle.hub.specs.Runs.{ComesNext, counts_settled, counts_taken};
 ghost use Rattle.hub.specs.Submitted.{counted_all, counted_by};
 
 use crate::board::Board;
@@ -55,7 +56,6 @@ use crate::locked::{Closer, Locked, Writer};
 use crate::place::Place;
 use crate::run::Run;
 use crate::seat::{Seat, Ticket};
-use crate::settle_error::SettleError;
 use crate::submit_error::SubmitError;
 use crate::tokens::{Ended, Failed, Idle, Settled, Stopped, Work};
 use crate::waiting::Woken;
@@ -90,7 +90,9 @@ pub struct Hub<D, L: Life> {
 
 impl<D, L: Life> Hub<D, L> {
     /// A hub of a board, the only right to write what it orders, and the only right to end it. It takes no memory.
-    pub fn new(board: Board<D, L>) -> (Hub<D, L>, Writer<L>, Closer<L>) {
+    pub fn new(board: Board<D, L>) -> (Hub<D, L>, Writer<L>, Closer<L>)
+        ensures writer { result.1 ≡ record { taken = board.board.taken; settled = board.board.settled } }
+    {
         let told = board.told().copy();
         let (kept, writer, closer) = Locked::new(board);
         let hub = Hub {
@@ -215,7 +217,8 @@ impl<D, L: Life> Hub<D, L> {
         }
     }
 
-    /// Takes the next run off the board, as `Board::take` does: it fits `cap` bytes as one batch, or is empty. Refused as out of memory alone.
+    /// Takes the next run off the board, as `Board::take` does: it fits `cap` bytes as one batch, or is empty. Its commands are those of the
+    /// order that come next after what the writer has taken off, and it counts them. Refused as out of memory alone, and then it counts none.
     pub fn take<R: Wait>(
         &self,
         rt: &R,
@@ -225,33 +228,30 @@ impl<D, L: Life> Hub<D, L> {
     ) -> Result<Run<D, L>, AllocError>
         ensures fits { IfOk result (λ run. (run.commands ≡ []) ⊎ (batch_width run.commands ≤ cap)) }
         ensures cap { IfOk result (λ run. run.cap ≡ cap) }
+        ensures place { IfOk result (λ run. run.place ≡ writer.old.taken) }
+        ensures counts { IfOk result (λ run. writer.new ≡ counts_taken writer.old (length run.commands)) }
+        ensures uncounted { OnErr result (writer.new ≡ writer.old) }
     {
         self.held(rt).take(alloc, writer, cap)
     }
 
-    /// Settles a batch by its receipt and the token of its publish, as `Board::settle` does, and wakes those who wait for it: the board has
-    /// then settled all that this token names. A refusal shows a moment of the hub's board at which exactly this batch can't be settled by
-    /// exactly this token.
+    /// Settles the batch that comes next after what the writer has settled, by its receipt and the token of its publish, and wakes those who
+    /// wait for it: the board has then settled all that this token names, and the writer counts it. It never fails.
     pub fn settle<R: Wait>(
         &self,
         rt: &R,
         writer: &mut Writer<L>,
         receipt: &Receipt<D>,
         told: Told<D, L>,
-    ) -> Result<Settled<D, L>, SettleError<D, L>>
-        ensures settled { IfOk result (λ settled. settled ≡ told) }
-        ensures batch { IfErr result (λ unsettled. unsettled.batch ≡ receipt.now.batch) }
-        ensures told { IfErr result (λ unsettled. unsettled.told ≡ told) }
+    ) -> Settled<D, L>
+        requires next { ComesNext writer.old receipt.now.batch told }
+        ensures settled { result ≡ told }
+        ensures counts { writer.new ≡ counts_settled writer.old (length receipt.now.batch) }
     {
         let shown = told.copy();
-        let answer = self.held(rt).settle(writer, receipt, told);
-        match answer {
-            Ok((settled, woken)) => {
-                self.wake(rt, &woken, &shown);
-                Ok(settled)
-            }
-            Err(unsettled) => Err(unsettled),
-        }
+        let (settled, woken) = self.held(rt).settle(writer, receipt, told);
+        self.wake(rt, &woken, &shown);
+        settled
     }
 
     // Tells the places that are covered of what is settled, and then wakes the turns.
@@ -271,7 +271,8 @@ impl<D, L: Life> Hub<D, L> {
 
     /// Notes that the store has failed, for this reason, and wakes all who wait.
     pub fn fail<R: Wait>(&self, rt: &R, writer: &mut Writer<L>, why: Refusal) -> Failed<L>
-        ensures { result ≡ why }
+        ensures why { result ≡ why }
+        ensures writer { writer.new ≡ writer.old }
     {
         let failed = self.held(rt).fail(writer, why);
         for place in self.places.iter() {
@@ -315,7 +316,9 @@ impl<D, L: Life> Hub<D, L> {
 
     /// Waits for a command to take off, and answers with the token `Work`; or, once the end was called and no command is left, with the
     /// token `Idle`.
-    pub fn wait_work<R: Wait>(&self, rt: &R, writer: &mut Writer<L>) -> Result<Work<L>, Idle<L>> {
+    pub fn wait_work<R: Wait>(&self, rt: &R, writer: &mut Writer<L>) -> Result<Work<L>, Idle<L>>
+        ensures { writer.new ≡ writer.old }
+    {
         let _ = writer;
         let mut kept = self.held(rt);
         for _ in rt.forever() {
@@ -347,15 +350,15 @@ impl<D, L: Life> Hub<D, L> {
         self.held(rt).seat(closer)
     }
 
-    /// Gives the board back, once nobody shares the hub any more. It takes no memory, and waits for nobody.
-    pub fn into_board(self) -> Board<D, L> {
+    /// Gives the board back, once nobody shares the hub any more, and takes both rights to it. It takes no memory, and waits for nobody.
+    pub fn into_board(self, writer: Writer<L>, closer: Closer<L>) -> Board<D, L> {
         let Hub {
             kept,
             places: _places,
             turns: _turns,
             work: _work,
         } = self;
-        kept.into_inner().into_board()
+        kept.into_inner().into_board(writer, closer)
     }
 
     /// What was found, and what a token has, are prefixes of one order, and of what the token has after it. It takes no memory.

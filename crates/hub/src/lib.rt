@@ -15,8 +15,8 @@
 //! order, and a refusal is what the rule of acceptance answers after it.
 //!
 //! What `take` takes off is a `Run`, which nothing else makes and nobody can change: so a flusher can only hold what a board took off. It
-//! isn't `Drop`: it ends by the receipt of its commit, with its store, or against a token that it doesn't follow, be it an old one
-//! (`Run::apart`). Where it follows what is published, it gives the token of the order by which it is published (`Run::goes_on`).
+//! isn't `Drop`: it ends by the receipt of its commit, with its store, or where it has no command. Where it follows what is published, it
+//! gives the token of the order by which it is published (`Run::goes_on`).
 //!
 //! Beside the first of its commands a run has the documents as they leave them, on what is published before it (`Run::made`,
 //! `Run::committed`; `AreMade` of revision). The board keeps a copy of each as it takes the command, which shares the chunks with its own
@@ -27,13 +27,16 @@
 //! out for its `Closer`: `Hub::new` gives one of each, which can't be copied, so that no session's desk can do any of it. The hub's own calls
 //! can't either: what lies under the lock stands in a module of its own (src/locked.rt), which lends the board for reading alone, and asks for
 //! the same rights. So `Hub::submit` can't take, settle, fail, end or give a seat, and `Hub::wait_work`, which is lent a `Writer` alone,
-//! can't end.
+//! can't end. `Hub::into_board` takes both back, so a board has one of each at a time.
+//!
+//! The `Writer` counts how many commands are taken off and how many are settled, by two ledgers of the life whose books lie under the lock
+//! (`published::Counts`). No other thread changes either, so its counts are the board's. By them each run that is taken off comes next after
+//! those before it, and what comes next is settled: `Hub::settle` refuses nothing (`ComesNext`, specs/Runs.antt).
 //!
 //! Some answers are tokens that nothing else makes: `Settled` where a batch was settled, `Failed` where the hub was told of a failure,
 //! `Work` where a command isn't taken off, `Idle` where the hub was ended and nothing is left to take, `Ended` where it was ended, `Nothing`
 //! where a run was taken off empty, `Stopped` where a board had failed or a hub had ended, and so no command is submitted. Whoever answers
-//! with one had it of such a call, this one or an earlier one. `SettleError`, by which a hub refuses to settle a batch, shows a moment of its board at
-//! which that batch can't be settled.
+//! with one had it of such a call, this one or an earlier one.
 //!
 //! A `Hub` is shared by threads: sessions submit and wait for their acknowledgements, and one flusher takes batches, writes them with
 //! the board unlocked, and settles them. After it has let the lock go, `settle` tells the places of the seats whose tickets are covered, and
@@ -81,7 +84,7 @@
 //!
 //! # What isn't promised
 //!
-//! - What a hub's call did to the board under the lock: no clause can name the board at that moment. The tokens that it moves say
+//! - What a hub's call did to the board under the lock, but for what its writer counts: no clause can name the board at that moment. The tokens that it moves say
 //!   some of it (a ticket, a seat's count, a `Told`, a `Found`), and tests the rest. That a command has its place in the order a ticket says.
 //!   `Hub::submit_after` refuses by a prefix of the order that has all that its caller was told and had found; whether more was
 //!   ordered by then no clause says, nor that memory is short where it says so. Of a refusal of `Hub::submit` it is said only that some legal
@@ -98,7 +101,6 @@ mod locked;
 mod place;
 mod run;
 mod seat;
-mod settle_error;
 mod submit_error;
 mod tokens;
 mod waiting;
@@ -110,6 +112,5 @@ pub use hub::Hub;
 pub use locked::{Closer, Writer};
 pub use run::Run;
 pub use seat::{Seat, Tally, Ticket};
-pub use settle_error::SettleError;
 pub use submit_error::SubmitError;
 pub use tokens::{Ended, Failed, Idle, Nothing, Settled, Stopped, Work};

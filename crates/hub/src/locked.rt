@@ -10,7 +10,7 @@ ghost use Rattle.hub.specs.Found.{AreSubmittedAfter, IsGivenAt, IsSubmittedAfter
 ghost use Rattle.hub.specs.Given.{IsStopped, refusal_of, WasGiven};
 ghost use Rattle.hub.specs.Legal.{counted};
 ghost use Rattle.hub.specs.Placed.{StandsFirst};
-ghost use Rattle.hub.specs.Runs.{IsLongest, untaken, MaySettle};
+ghost use Rattle.hub.specs.Runs.{ComesNext, IsLongest, counts_settled, counts_taken, untaken};
 ghost use Rattle.hub.specs.Submitted.{counted_all, counted_by};
 ghost use Rattle.hub.specs.Waiting.{AreWoken, NobodyIsForgotten, StillRightly, WaitsRightly, WakesAll, nobody, and_for};
 
@@ -18,23 +18,35 @@ use crate::board::Board;
 use crate::found::Found;
 use crate::run::Run;
 use crate::seat::{Seat, Ticket};
-use crate::settle_error::SettleError;
 use crate::submit_error::SubmitError;
 use crate::tokens::{Ended, Failed, Settled, Stopped};
 use crate::waiting::{Awaited, Turns, Woken, covered};
-use published::{Life, Ordered, Told};
+use published::{Counts, Life, OfSettled, OfTaken, Ordered, Told};
 use recovery::Receipt;
 use refusal::Refusal;
 use revision::Command;
 use std::alloc::{AllocError, Global};
 use std::marker::{Model, PhantomData};
-use std::snapshot::Snapshot;
+use std::sync::ledger::{Book, Share};
 
 /// The right to write what a hub's board orders: to wait for work, to take runs off, to settle them, and to say that the store has failed.
-/// `Hub::new` makes the only one of its hub, and it can't be copied, so whoever isn't lent it can do none of that.
+/// `Hub::new` makes the only one of its hub, and it can't be copied, so whoever isn't lent it can do none of that. Contracts see it as how many
+/// commands of the order are taken off, and how many are settled: no other thread can change either. It takes no memory.
 #[derive(Drop)]
 pub struct Writer<L: Life> {
-    of: PhantomData<L>,
+    taken: Share<OfTaken<L>>,
+    settled: Share<OfSettled<L>>,
+}
+
+impl<L: Life> Model for Writer<L> {
+    ghost use Rattle.std.specs.Prelude.{◌≡◌};
+    ghost use Rattle.hub.specs.Runs as spec;
+
+    ghost Value = { spec.Writer };
+
+    ghost view = { λ w. record { taken = w.taken.amount; settled = w.settled.amount } };
+
+    ghost invariant = { λ w. (w.taken.parts ≡ 1) × (w.settled.parts ≡ 1) };
 }
 
 /// The right to end a hub, and to give its seats out. `Hub::new` makes the only one of its hub, and it can't be copied.
@@ -43,23 +55,28 @@ pub struct Closer<L: Life> {
     of: PhantomData<L>,
 }
 
-// What lies under the lock: the board; for each place the lengths of the order that seats wait there to be settled; the turns of batches;
-// and whether the end was called. Other modules have nothing of it but its calls: these lend the board for reading alone, and ask for the
-// `Writer` or the `Closer` for whatever isn't a session's.
+// What lies under the lock: the board; the ledgers of what is taken off it and of what is settled; for each place the lengths of the order that
+// seats wait there to be settled; the turns of batches; and whether the end was called. Other modules have nothing of it but its calls: these
+// lend the board for reading alone, and ask for the `Writer` or the `Closer` for whatever isn't a session's.
 #[derive(Drop)]
 pub(crate) struct Locked<D, L: Life> {
-    board: Board<D, L>,
+    board: Board<D, L, ()>,
+    takes: Book<OfTaken<L>>,
+    settles: Book<OfSettled<L>>,
     awaited: [Awaited; 64],
     turns: Turns,
     ended: bool,
 }
 
 impl<D, L: Life> Model for Locked<D, L> {
+    ghost use Rattle.std.specs.Prelude.{◌≡◌};
     ghost use Rattle.hub.specs.Waiting as spec;
 
     ghost Value = { spec.Locked };
 
     ghost view = { λ k. record { board = k.board; awaited = k.awaited; turns = k.turns; ended = k.ended } };
+
+    ghost invariant = { λ k. (k.takes.total ≡ k.board.board.taken) × (k.settles.total ≡ k.board.board.settled) };
 }
 
 impl<D, L: Life> Locked<D, L> {
@@ -68,31 +85,49 @@ impl<D, L: Life> Locked<D, L> {
         ensures board { result.0.board ≡ board }
         ensures nobody { result.0.awaited ≡ replicate 64 nobody }
         ensures ended { result.0.ended ≡ false }
+        ensures writer { result.1 ≡ record { taken = board.board.taken; settled = board.board.settled } }
     {
+        let (board, counts) = board.without_counts();
+        let ((mut takes, mut settles), (mut taken, mut settled)) = counts.parted();
+        takes.add(&mut taken, board.taken() as u64);
+        settles.add(&mut settled, board.settled() as u64);
         let kept = Locked {
             board,
+            takes,
+            settles,
             awaited: [Awaited::nobody(); 64],
             turns: Turns::new(),
             ended: false,
         };
-        (kept, Writer { of: PhantomData }, Closer { of: PhantomData })
+        (kept, Writer { taken, settled }, Closer { of: PhantomData })
     }
 
-    // gives the board back
-    pub(crate) fn into_board(self) -> Board<D, L>
+    // gives the board back, and takes the two rights to it
+    pub(crate) fn into_board(self, writer: Writer<L>, closer: Closer<L>) -> Board<D, L>
         ensures { result ≡ self.board }
     {
         let Locked {
             board,
+            mut takes,
+            mut settles,
             awaited: _,
             turns: _turns,
             ended: _,
         } = self;
-        board
+        let Writer {
+            mut taken,
+            mut settled,
+        } = writer;
+        let Closer { of: _ } = closer;
+        takes.audit(&mut taken);
+        settles.audit(&mut settled);
+        takes.sub(&mut taken, board.taken() as u64);
+        settles.sub(&mut settled, board.settled() as u64);
+        board.with_counts(Counts::joined((takes, settles), (taken, settled)))
     }
 
     // the board, to be read
-    pub(crate) fn board(&self) -> &Board<D, L>
+    pub(crate) fn board(&self) -> &Board<D, L, ()>
         ensures { result.now ≡ self.now.board }
     {
         &self.board
@@ -109,6 +144,7 @@ impl<D, L: Life> Locked<D, L> {
     pub(crate) fn fail(&mut self, writer: &mut Writer<L>, why: Refusal) -> Failed<L>
         ensures kept { self.new ≡ record self.old { board = record self.old.board { failed = true } } }
         ensures why { result ≡ why }
+        ensures writer { writer.new ≡ writer.old }
     {
         let _ = writer;
         self.board.fail();
@@ -168,6 +204,7 @@ impl<D, L: Life> Locked<D, L> {
     }
 
     // submits a command to the board, unless the end was called, and notes that its seat waits
+    #[tactic(auto, using(crate::proofs::Settling::counts_stay))]
     pub(crate) fn submit(
         &mut self,
         alloc: Global,
@@ -291,7 +328,7 @@ impl<D, L: Life> Locked<D, L> {
         self.awaited[place] = self.awaited[place].and_for(length);
     }
 
-    // takes the next run off the board, as `Board::take` does
+    // takes the next run off the board, as `Board::take` does, which the writer counts
     pub(crate) fn take(
         &mut self,
         alloc: Global,
@@ -302,6 +339,8 @@ impl<D, L: Life> Locked<D, L> {
         ensures run { IfOk result
             (λ run. run.commands ≡ takens (next_run self.old.board.board (length run.commands))) }
         ensures cap { IfOk result (λ run. run.cap ≡ cap) }
+        ensures place { IfOk result (λ run. run.place ≡ writer.old.taken) }
+        ensures counts { IfOk result (λ run. writer.new ≡ counts_taken writer.old (length run.commands)) }
         ensures kept { IfOk result (λ run. self.new
             ≡ record self.old {
               board = record
@@ -311,10 +350,12 @@ impl<D, L: Life> Locked<D, L> {
         ensures turns { OnOk result (StillRightly self.old.turns self.new.turns self.old.board.board.settled
             self.old.board.board.taken self.new.board.board.taken (length self.old.board.board.order)) }
         ensures unchanged { OnErr result (self.new ≡ self.old) }
+        ensures uncounted { OnErr result (writer.new ≡ writer.old) }
     {
-        let _ = writer;
+        self.takes.audit(&mut writer.taken);
         let busy = self.board.settled() < self.board.taken();
         let run = self.board.take(alloc, cap)?;
+        self.takes.add(&mut writer.taken, run.len() as u64);
         if run.len() > 0 {
             let rest = self.board.taken() < self.board.ordered();
             self.turns.take(busy, rest);
@@ -322,37 +363,38 @@ impl<D, L: Life> Locked<D, L> {
         Ok(run)
     }
 
-    // settles a batch, and gives the token of that, with the places where somebody waits for what is settled now, and the turns that are to
-    // be woken; or what shows that it can't be settled
+    // settles the batch that comes next, which the writer counts, and gives the token of that, with the places where somebody waits for what is
+    // settled now, and the turns that are to be woken
     pub(crate) fn settle(
         &mut self,
         writer: &mut Writer<L>,
         receipt: &Receipt<D>,
         told: Told<D, L>,
-    ) -> Result<(Settled<D, L>, Woken), SettleError<D, L>>
-        ensures board { OnOk result (self.new.board
-            ≡ record self.old.board { board = settled_more self.old.board.board (length receipt.now.batch); told = told }) }
+    ) -> (Settled<D, L>, Woken)
+        requires next { ComesNext writer.old receipt.now.batch told }
+        ensures board { self.new.board
+            ≡ record self.old.board { board = settled_more self.old.board.board (length receipt.now.batch); told = told } }
         ensures turns { self.new.turns ≡ self.old.turns }
         ensures others { self.new.ended ≡ self.old.ended }
-        ensures settled { IfOk result (λ both. both.0 ≡ told) }
-        ensures told { IfOk result (λ both. AreWoken self.new.board.board.settled self.old.awaited self.new.awaited both.1.places) }
-        ensures nobody { IfOk result (λ both. NobodyIsForgotten self.new.board.board.settled self.old.awaited self.new.awaited both.1.places) }
-        ensures wakes { IfOk result (λ both. WakesAll self.old.turns both.1.turns) }
-        ensures stranger { MaySettle self.old.board.board receipt.now.batch (length (commands_of told)) → IsOk result }
-        ensures asked { IfErr result (λ e. e
-            ≡ record { board = self.old.board.board; batch = receipt.now.batch; told = told }) }
-        ensures unchanged { OnErr result (self.new ≡ self.old) }
+        ensures settled { result.0 ≡ told }
+        ensures told { AreWoken self.new.board.board.settled self.old.awaited self.new.awaited result.1.places }
+        ensures nobody { NobodyIsForgotten self.new.board.board.settled self.old.awaited self.new.awaited result.1.places }
+        ensures wakes { WakesAll self.old.turns result.1.turns }
+        ensures counts { writer.new ≡ counts_settled writer.old (length receipt.now.batch) }
     {
-        let _ = writer;
-        let shown = Snapshot::of(&told);
-        if self.board.settle(receipt, told).is_err() {
-            return Err(SettleError::by_board(&self.board, receipt, shown));
+        self.takes.audit(&mut writer.taken);
+        self.settles.audit(&mut writer.settled);
+        match self.board.settle(receipt, told) {
+            Ok(()) => {}
+            Err(_) => unreachable!(),
         }
+        let count = receipt.batch().as_slice().len();
+        self.settles.add(&mut writer.settled, count as u64);
         let woken = Woken {
             places: covered(&mut self.awaited, self.board.settled()),
             turns: self.turns.woken(),
         };
-        Ok((Settled::by_board(&self.board), woken))
+        (Settled::by_board(&self.board), woken)
     }
 }
 

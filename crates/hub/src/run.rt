@@ -1,5 +1,5 @@
 //! Runs of the order: which make a batch, a copy of one, and whether a batch is one.
-ghost use Rattle.std.specs.Prelude.{◌≡◌, ◌≢◌, ◌↔◌, ◌<◌, ◌+◌, ◌^◌, ◌++◌, length, take, IfOk, IsTrue};
+ghost use Rattle.std.specs.Prelude.{◌≡◌, ◌↔◌, ◌<◌, ◌+◌, ◌^◌, ◌++◌, length, take, IfOk, IsTrue};
 ghost use mathlib.Core.List.{IsPrefix};
 ghost use Rattle.recovery.specs.Found.{commands_of};
 ghost use Rattle.world.specs.Board.{next_run};
@@ -21,8 +21,7 @@ use world::Entry;
 
 /// A run that was taken off a board to be written, with how many bytes its batch could have. Only a board's `take` makes one, of the
 /// longest run that fits, and it can't be changed: so what is written is what the board took off. It isn't `Drop`: it ends with the receipt
-/// of its commit, or where it has no command, or where it doesn't follow what a token names, be it an old one (`apart`), or with the store that
-/// would have written it. It has a token of the order, and knows its place there. Beside the first of its commands it has the documents as
+/// of its commit, or where it has no command, or with the store that would have written it. It has a token of the order, and knows its place there. Beside the first of its commands it has the documents as
 /// they leave them, so that nobody makes these again.
 pub struct Run<D, L: Life> {
     batch: Batch,
@@ -46,8 +45,8 @@ impl<D, L: Life> Model for Run<D, L> {
 
 impl<D, L: Life> Run<D, L> {
     // The run that a board has to take off next, for a batch of so many bytes, with the documents beside its first commands.
-    pub(crate) fn by_board(
-        board: &Board<D, L>,
+    pub(crate) fn by_board<C>(
+        board: &Board<D, L, C>,
         batch: Batch,
         made: Vec<Document>,
         cap: u32,
@@ -84,22 +83,6 @@ impl<D, L: Life> Run<D, L> {
     {
         told.begins_order(&self.order);
         self.order.copy()
-    }
-
-    /// Ends a run that doesn't follow what a token names: the order has more commands before its own, or fewer. It is never written, so the
-    /// caller has to fail the board; no clause says that it does.
-    pub fn apart(self, told: &Told<D, L>)
-        requires { self.place ≢ length (commands_of told.now) }
-    {
-        let Run {
-            batch: _batch,
-            made: _made,
-            cap: _,
-            place: _,
-            order: _order,
-            of: _,
-        } = self;
-        let _ = told;
     }
 
     /// How many commands it has.

@@ -18,7 +18,7 @@ pub enum SubmitError<L: Life> {
 
 impl<L: Life> SubmitError<L> {
     // Why a board refused a command.
-    pub(crate) fn by_board<D>(board: &Board<D, L>, refusal: Refusal) -> SubmitError<L>
+    pub(crate) fn by_board<D>(board: &Board<D, L, ()>, refusal: Refusal) -> SubmitError<L>
         ensures { WasBy board.now.failed refusal result }
     {
         if board.has_failed() {

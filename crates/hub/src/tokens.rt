@@ -55,7 +55,7 @@ impl<D, L: Life> Model for Settled<D, L> {
 
 impl<D, L: Life> Settled<D, L> {
     // What this board has settled.
-    pub(crate) fn by_board(board: &Board<D, L>) -> Settled<D, L>
+    pub(crate) fn by_board(board: &Board<D, L, ()>) -> Settled<D, L>
         ensures { result ≡ board.now.told }
     {
         Settled {
@@ -82,7 +82,7 @@ impl<L: Life> Model for Failed<L> {
 
 impl<L: Life> Failed<L> {
     // Of a board that has failed, for this reason.
-    pub(crate) fn by_board<D>(board: &Board<D, L>, refusal: Refusal) -> Failed<L>
+    pub(crate) fn by_board<D>(board: &Board<D, L, ()>, refusal: Refusal) -> Failed<L>
         requires { board.now.failed ≡ true }
         ensures { result ≡ refusal }
     {
@@ -127,7 +127,7 @@ pub struct Work<L: Life> {
 
 impl<L: Life> Work<L> {
     // Of a board that has one.
-    pub(crate) fn by_board<D>(board: &Board<D, L>) -> Work<L>
+    pub(crate) fn by_board<D>(board: &Board<D, L, ()>) -> Work<L>
         requires { untaken board.now.board ≢ [] }
     {
         let _ = board;
@@ -160,7 +160,7 @@ pub struct Stopped<L: Life> {
 
 impl<L: Life> Stopped<L> {
     // Of a board that has failed.
-    pub(crate) fn by_board<D>(board: &Board<D, L>) -> Stopped<L>
+    pub(crate) fn by_board<D>(board: &Board<D, L, ()>) -> Stopped<L>
         requires { board.now.failed ≡ true }
     {
         let _ = board;

@@ -1,15 +1,27 @@
--- The logs of a run.
+-- The logs and the ledgers of a run.
+use Rattle.std.specs.Prelude.{ℕ}
 use mathlib.Core.Path.{refl}
-use base.Stored.{Coded, coded×, coded_via}
+use base.Stored.{Coded, coded×, coded_via, coded_ℕ}
 use Rattle.logbook.specs.Pages.{Book, book_coded}
 
 -- the log of the batches that are published, that of the commands that are ordered, and that of the moments of the batches' commits
-pub record Books : Type 0 where
+pub record Logs : Type 0 where
   pub published : Book
   pub ordered : Book
   pub timed : Book
 
+-- a run's logs; and the names of two ledgers: of how many commands are taken off, and of how many are settled
+pub record Books : Type 0 where
+  pub logs : Logs
+  pub takes : ℕ
+  pub settles : ℕ
+
 abbrev pub books_coded : Coded Books
 books_coded =
-    coded_via (coded× book_coded (coded× book_coded book_coded)) (λ (b : Books). (b.published, (b.ordered, b.timed)))
-    (λ x y e i. record { published = (e i).0; ordered = (e i).1.0; timed = (e i).1.1 })
+    coded_via (coded× (coded× book_coded (coded× book_coded book_coded)) (coded× coded_ℕ coded_ℕ))
+    (λ (b : Books). ((b.logs.published, (b.logs.ordered, b.logs.timed)), (b.takes, b.settles)))
+    (λ x y e i. record {
+      logs = record { published = (e i).0.0; ordered = (e i).0.1.0; timed = (e i).0.1.1 };
+      takes = (e i).1.0;
+      settles = (e i).1.1;
+    })

@@ -45,6 +45,7 @@
 #![tactic(auto)]
 
 mod batch;
+mod counts;
 pub mod laws;
 mod life;
 mod log;
@@ -53,6 +54,7 @@ mod moments;
 mod order;
 mod told;
 
+pub use counts::{Counts, OfSettled, OfTaken};
 pub use life::Life;
 pub use log::{Log, Opened};
 pub use mark::Mark;

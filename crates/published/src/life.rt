@@ -2,8 +2,9 @@
 use std::marker::Brand;
 use std::sync::ledger::Ledger;
 
-/// Names a run: the log of its order, the log of what it publishes and that of the moments of it, and the state that its store was opened
-/// with; and by `Ledger` its seats. Whatever has to agree on these carries one type of this trait.
+/// Names a run: the log of its order, the log of what it publishes and that of the moments of it, the ledgers of what is taken off its order
+/// and of what is settled of it, and the state that its store was opened with; and by `Ledger` its seats. Whatever has to agree on these
+/// carries one type of this trait.
 pub trait Life: Ledger {
     ghost use Rattle.published.specs.Books.{Books};
     ghost use Rattle.revision.specs.State.{State};
@@ -18,9 +19,13 @@ impl Life for Brand {
     ghost use Rattle.std.specs.Prelude.{[]};
 
     ghost book = { record {
-      published = record { number = 0; log_name = 0; cells_name = 0 };
-      ordered = record { number = 0; log_name = 0; cells_name = 0 };
-      timed = record { number = 0; log_name = 0; cells_name = 0 };
+      logs = record {
+        published = record { number = 0; log_name = 0; cells_name = 0 };
+        ordered = record { number = 0; log_name = 0; cells_name = 0 };
+        timed = record { number = 0; log_name = 0; cells_name = 0 };
+      };
+      takes = 0;
+      settles = 0;
     } };
 
     ghost start = { record {

@@ -7,6 +7,7 @@ ghost use Rattle.recovery.specs.Moment.{IsMomentOf, moment_of};
 ghost use Rattle.published.specs.Moments.{AreMoments};
 
 use crate::batch::{AtReceipt, Batch, Moment, OfReceipt};
+use crate::counts::Counts;
 use crate::life::Life;
 use crate::mark::Mark;
 use crate::moments::Moments;
@@ -17,14 +18,17 @@ use ownlog::Owner;
 use recovery::Receipt;
 use revision::State;
 use std::marker::{Model, PhantomData};
+use std::sync::ledger::Blank;
 use world::Entry;
 
-/// The empty logs of a run that has no name yet. Contracts see them as their own names.
+/// The empty logs of a run that has no name yet, and its two empty ledgers. Contracts see them as their own names.
 pub struct Opened {
     batches: Owner<Batch>,
     order: Owner<Entry>,
     moments: Owner<Moment>,
     start: Owner<State>,
+    takes: Blank,
+    settles: Blank,
 }
 
 impl Model for Opened {
@@ -35,24 +39,31 @@ impl Model for Opened {
 
     ghost coded = { books_coded };
 
-    ghost view = { λ o. record { published = o.batches.book; ordered = o.order.book; timed = o.moments.book } };
+    ghost view = { λ o. record {
+      logs = record { published = o.batches.book; ordered = o.order.book; timed = o.moments.book };
+      takes = o.takes.name;
+      settles = o.settles.name;
+    } };
 
     ghost invariant = { λ o. (o.batches.items ≡ []) × (o.order.items ≡ []) × (o.start.items ≡ [])
-        × (o.moments.items ≡ []) };
+        × (o.moments.items ≡ []) × (o.takes.parts ≡ 1) × (o.settles.parts ≡ 1) };
 }
 
 impl Opened {
-    /// New logs. `None` where a word of theirs was changed before it was made, for which there is no room. It takes no memory.
+    /// New logs and ledgers. `None` where a word of theirs was changed before it was made, for which there is no room. It takes no memory.
     pub fn new() -> Option<Opened> {
         Some(Opened {
             batches: Owner::open()?,
             order: Owner::open()?,
             moments: Owner::open()?,
             start: Owner::open()?,
+            takes: Blank::new(1),
+            settles: Blank::new(1),
         })
     }
 
-    /// The logs as those of a run that begins with a state, and the token of its start, which names no batch. It takes no memory.
+    /// The logs as those of a run that begins with a state, and the token of its start, which names no batch. The order has the ledgers. It
+    /// takes no memory.
     pub fn named<D, L: Life>(self, state: &State) -> (Log<D, L>, Told<D, L>, Order<L>)
         requires book { self ≡ L.book }
         requires start { state.now ≡ L.start }
@@ -65,6 +76,8 @@ impl Opened {
             order,
             moments,
             mut start,
+            takes,
+            settles,
         } = self;
         start.append(state);
         let told = Told {
@@ -85,6 +98,7 @@ impl Opened {
         };
         let order = Order {
             owner: order,
+            counts: Counts::of(takes, settles),
             of: PhantomData,
         };
         (log, told, order)
@@ -108,7 +122,7 @@ impl<D, L: Life> Model for Log<D, L> {
 
     ghost view = { λ l. record { batches = l.owner.items; moments = l.moments.items } };
 
-    ghost invariant = { λ l. (l.owner.book ≡ L.book.published) × (l.moments.book ≡ L.book.timed)
+    ghost invariant = { λ l. (l.owner.book ≡ L.book.logs.published) × (l.moments.book ≡ L.book.logs.timed)
         × spec.AreMoments L.start l.owner.items l.moments.items };
 }
 

@@ -24,7 +24,7 @@ impl<L: Life> Model for Moments<L> {
 
     ghost view = { λ m. m.front.items };
 
-    ghost invariant = { λ m. m.front.book ≡ L.book.timed };
+    ghost invariant = { λ m. m.front.book ≡ L.book.logs.timed };
 }
 
 impl<L: Life> Moments<L> {

@@ -6,6 +6,7 @@ ghost use Rattle.recovery.specs.Found.{commands_of};
 ghost use Rattle.world.specs.World.{takens, Entry as Kept};
 ghost use Rattle.published.specs.Order.{IsLegal, WasTaken};
 
+use crate::counts::Counts;
 use crate::life::Life;
 use crate::told::Told;
 use ownlog::{Front, Owner};
@@ -13,14 +14,15 @@ use std::marker::{Model, PhantomData};
 use world::Entry;
 
 /// The order of a run: a legal history from the state that its store was opened with. Only who owns it makes it longer. Contracts see it
-/// as its entries. It takes a word of memory, however long it is.
+/// as its entries. It takes a word of memory, however long it is. A new one has the run's two ledgers, `C`.
 #[derive(Drop)]
-pub struct Order<L: Life> {
+pub struct Order<L: Life, C = Counts<L>> {
     pub(crate) owner: Owner<Entry>,
+    pub(crate) counts: C,
     pub(crate) of: PhantomData<L>,
 }
 
-impl<L: Life> Model for Order<L> {
+impl<L: Life, C> Model for Order<L, C> {
     ghost use Rattle.std.specs.Prelude.{◌≡◌, List};
     ghost use Rattle.world.specs.World as spec;
     ghost use Rattle.published.specs.Order.{IsLegal};
@@ -29,10 +31,29 @@ impl<L: Life> Model for Order<L> {
 
     ghost view = { λ o. o.owner.items };
 
-    ghost invariant = { λ o. (o.owner.book ≡ L.book.ordered) × IsLegal L.start o.owner.items };
+    ghost invariant = { λ o. (o.owner.book ≡ L.book.logs.ordered) × IsLegal L.start o.owner.items };
 }
 
 impl<L: Life> Order<L> {
+    /// The order, and the ledgers. It takes no memory.
+    pub fn without_counts(self) -> (Order<L, ()>, Counts<L>)
+        ensures { result.0 ≡ self }
+    {
+        let Order {
+            owner,
+            counts,
+            of: _,
+        } = self;
+        let order = Order {
+            owner,
+            counts: (),
+            of: PhantomData,
+        };
+        (order, counts)
+    }
+}
+
+impl<L: Life, C> Order<L, C> {
     /// Puts a command behind the order that the rule of acceptance takes there. It never fails, and takes no memory.
     #[tactic(auto, using(crate::proofs::Orders::legal_more))]
     pub fn put(&mut self, entry: &Entry)
@@ -85,7 +106,7 @@ impl<L: Life> Model for Ordered<L> {
 
     ghost view = { λ o. o.front.items };
 
-    ghost invariant = { λ o. (o.front.book ≡ L.book.ordered) × IsLegal L.start o.front.items };
+    ghost invariant = { λ o. (o.front.book ≡ L.book.logs.ordered) × IsLegal L.start o.front.items };
 }
 
 impl<L: Life> Ordered<L> {

@@ -33,7 +33,7 @@ impl<D, L: Life> Model for Told<D, L> {
 
     ghost view = { λ t. t.mark.batches };
 
-    ghost invariant = { λ t. (t.mark.book ≡ L.book) × (t.mark.start ≡ L.start ∷ []) };
+    ghost invariant = { λ t. (t.mark.book ≡ L.book.logs) × (t.mark.start ≡ L.start ∷ []) };
 }
 
 impl<D, L: Life> Told<D, L> {
@@ -131,14 +131,14 @@ impl<D, L: Life> Told<D, L> {
 
     /// What it has inside, without the run's name. It takes no memory.
     pub fn mark(&self) -> Mark
-        ensures { result ≡ record { book = L.book; start = L.start ∷ []; batches = self.now } }
+        ensures { result ≡ record { book = L.book.logs; start = L.start ∷ []; batches = self.now } }
     {
         self.mark.copy()
     }
 
     /// The token of a mark of this run's log. It takes no memory.
     pub fn of_mark(mark: Mark) -> Told<D, L>
-        requires book { mark.book ≡ L.book }
+        requires book { mark.book ≡ L.book.logs }
         requires start { mark.start ≡ L.start ∷ [] }
         ensures { result ≡ mark.batches }
     {

@@ -29,7 +29,7 @@ use Rattle.view.specs.contracts.publisher.Publisher as publisher
 use Rattle.view.specs.contracts.publisher.Publisher.TheInside as inside
 use Rattle.published.proofs.Crossing.{name_send, delta_send, document_send, sources_send, state_send, batch_send, moment_send, mark_send, ordered_send, told_send}
 use Rattle.view.proofs.CallerLemmas.{commands_send, shown_send, shown_sync}
-use Rattle.hub.proofs.CallerLemmas.{hub_sync}
+use Rattle.hub.proofs.CallerLemmas.{hub_sync, writer_send}
 use Rattle.flusher.specs.contracts.flusher.Flusher as flusher
 use Rattle.server_threads.specs.contracts.writing.Shared as shared
 use Rattle.server_threads.specs.contracts.writing.Writing as writing
@@ -96,7 +96,7 @@ writing_fields k D T R W d s l a b y c e =
       search (sendable, crosses) depth 20 fits 20000,
       (
         search (sendable, crosses) depth 20 fits 20000,
-        (struct_send (shape (flusher.the_type D T d s l)) (flusher_fields D T d s l a b y), (search (sendable, crosses) depth 20 fits 20000, tt)),
+        (struct_send (shape (flusher.the_type D T d s l)) (flusher_fields D T d s l a b y), (writer_send T s l b, tt)),
       ),
     )
 
@@ -113,7 +113,7 @@ written_send k D T R d s l a b y c =
       search (sendable, crosses) depth 20 fits 20000,
       (
         struct_send (shape (flusher.the_type D T d s l)) (flusher_fields D T d s l a b y),
-        (search (sendable, crosses) depth 200 fits 20000, (search (sendable, crosses) depth 20 fits 20000, tt)),
+        (writer_send T s l b, (search (sendable, crosses) depth 200 fits 20000, (search (sendable, crosses) depth 20 fits 20000, tt))),
       ),
     ) in
     recorded_send (Struct (shape (written.the_type k D T R d s l))) _ _ (written.the_type k D T R d s l).to_one (struct_send (shape (written.the_type k D T R d s l)) all)

@@ -1,9 +1,11 @@
 //! Writing in a thread of its own, beside the sessions in this thread.
 ghost use Rattle.std.specs.Prelude.{◌≡◌, IfOk, IfErr};
 ghost use Rattle.flusher.specs.Holding.{store_of};
+ghost use Rattle.turns.specs.Counting.{IsAt};
 ghost use Rattle.server_threads.specs.Served.{IsStarted};
 ghost use Rattle.server_threads.specs.Written.{HasRun, HasWritten};
 
+use crate::life::Rights;
 use crate::watch::Watch;
 use crate::writing::{Shared, Writing};
 use crate::written::{Written, WrittenBy};
@@ -47,10 +49,11 @@ impl<S: Drop, K: Drop, F: Drop, D: Drop, L: Life, R, W> Holding<'_, '_, S, K, F,
     }
 }
 
-/// What came of both: the flusher, how its writing ended, what the sessions answered, and their desks.
+/// What came of both: the flusher, how its writing ended, the rights to the hub, what the sessions answered, and their desks.
 pub(crate) struct Both<A, K, D: Disk, L: Life> {
     pub(crate) flusher: Flusher<D, L>,
     pub(crate) written: Result<(), Refusal>,
+    pub(crate) rights: Rights<L>,
     pub(crate) held: (A, Vec<K>),
 }
 
@@ -77,6 +80,7 @@ pub(crate) fn hold_beside<
 ) -> Result<Both<A, K, D, L>, (Flusher<D, L>, S)>
     requires held { held.value ≡ store_of flusher }
     requires started { IsStarted flusher }
+    requires at { IsAt writer flusher }
     requires callable { F.pre hold sessions desks }
     ensures written { IfOk result (λ both. HasWritten L.start flusher both.flusher both.written) }
     ensures held { IfOk result (λ both. F.post hold sessions desks both.held) }
@@ -150,11 +154,12 @@ fn hold_in<
     );
     match spawned {
         Ok(thread) => {
-            let held = hold_all(holding);
-            let (flusher, written) = thread.join(rt).into_parts();
+            let (held, closer) = hold_all(holding);
+            let (flusher, written, writer) = thread.join(rt).into_parts();
             Ok(Both {
                 flusher,
                 written,
+                rights: Rights { writer, closer },
                 held,
             })
         }
@@ -162,22 +167,23 @@ fn hold_in<
             has_thread.store(false, Ordering::SeqCst);
             let run = (refused.value)();
             let is_begun = run.is_begun;
-            let (flusher, written) = run.into_parts();
+            let (flusher, written, writer) = run.into_parts();
             if !is_begun {
                 return Err((flusher, holding.into_sessions()));
             }
             // Never reached: without a thread no run begins. No clause says what an atomic holds, so the sessions are held here too.
-            let held = hold_all(holding);
+            let (held, closer) = hold_all(holding);
             Ok(Both {
                 flusher,
                 written,
+                rights: Rights { writer, closer },
                 held,
             })
         }
     }
 }
 
-// Holds the sessions, and ends the hub once each of them has ended.
+// Holds the sessions, and ends the hub once each of them has ended. It gives the right to that back.
 fn hold_all<
     A: Drop,
     S: Drop,
@@ -187,9 +193,9 @@ fn hold_all<
     R: Threads + Wait + Sync,
     D: Send + Drop,
     W: Sync,
->(holding: Holding<'_, '_, S, K, F, D, L, R, W>) -> (A, Vec<K>)
+>(holding: Holding<'_, '_, S, K, F, D, L, R, W>) -> ((A, Vec<K>), Closer<L>)
     requires callable { F.pre holding.hold holding.sessions holding.desks }
-    ensures held { F.post holding.entry.hold holding.entry.sessions holding.entry.desks result }
+    ensures held { F.post holding.entry.hold holding.entry.sessions holding.entry.desks result.0 }
 {
     let Holding {
         shared,
@@ -201,5 +207,5 @@ fn hold_all<
     let mut closer = closer;
     let held = hold(sessions, desks);
     let _ended = shared.hub.end(shared.rt, &mut closer);
-    held
+    (held, closer)
 }

@@ -265,11 +265,12 @@ fn hold_at<
             Both {
                 flusher,
                 written,
+                rights,
                 held,
             },
         ) => {
             let (heard, desks) = held;
-            Ok((tally_all(flusher, written, desks, tally), heard))
+            Ok((tally_all(flusher, written, rights, desks, tally), heard))
         }
         Err(back) => Err(back),
     }

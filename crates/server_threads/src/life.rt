@@ -2,6 +2,7 @@
 ghost use Rattle.std.specs.Prelude.{◌≡◌, ◌+◌, ◌↔◌, Ok, All, IfOk, IfErr, OnOk, IsErrOf, length};
 ghost use Rattle.recovery.specs.Open.{state_of};
 ghost use Rattle.flusher.specs.Holding.{store_of};
+ghost use Rattle.turns.specs.Counting.{IsAt};
 ghost use Rattle.server_threads.specs.Held.{IsTallied, IsCounted};
 ghost use Rattle.server_threads.specs.Served.{IsStarted};
 
@@ -27,9 +28,18 @@ pub(crate) struct Server<D: Disk, L: Life> {
     pub(crate) closer: Closer<L>,
     pub(crate) seats: Vec<Seat<L>>,
     pub(crate) tally: Tally<L>,
+    ghost at: { IsAt writer flusher },
+}
+
+/// The rights to a hub, by which it gives its board back.
+#[derive(Drop)]
+pub(crate) struct Rights<L: Life> {
+    pub(crate) writer: Writer<L>,
+    pub(crate) closer: Closer<L>,
 }
 
 /// Begins a server of so many seats over a store. Refused out of memory alone; the store is unchanged then.
+#[tactic(auto, using(turns::proofs::CallerLemmas::at_begun))]
 pub(crate) fn begin<L: Life, R: Wait, D: Disk + Drop>(
     rt: &R,
     alloc: Global,
@@ -73,11 +83,12 @@ pub(crate) fn begin<L: Life, R: Wait, D: Disk + Drop>(
     Ok((hub, server))
 }
 
-/// What is left where all sessions have ended: the flusher and how its writing ended, a token of the order, how many commands are published,
-/// and the tally of the seats.
+/// What is left where all sessions have ended: the flusher and how its writing ended, the rights to the hub, a token of the order, how many
+/// commands are published, and the tally of the seats.
 pub(crate) struct Ending<D: Disk, L: Life> {
     pub(crate) flusher: Flusher<D, L>,
     pub(crate) written: Result<(), Refusal>,
+    pub(crate) rights: Rights<L>,
     pub(crate) ordered: Ordered<L>,
     pub(crate) published: u64,
     pub(crate) tally: Tally<L>,
@@ -87,6 +98,7 @@ pub(crate) struct Ending<D: Disk, L: Life> {
 pub(crate) fn tally_all<L: Life, R: Wait, D: Disk>(
     flusher: Flusher<D, L>,
     written: Result<(), Refusal>,
+    rights: Rights<L>,
     desks: Vec<HubDesk<'_, D, L, R>>,
     tally: Tally<L>,
 ) -> Ending<D, L>
@@ -106,6 +118,7 @@ pub(crate) fn tally_all<L: Life, R: Wait, D: Disk>(
     Ending {
         flusher,
         written,
+        rights,
         ordered,
         published,
         tally,
@@ -126,11 +139,13 @@ pub(crate) fn end<L: Life, R: Wait, D: Disk + Drop>(
     let Ending {
         flusher,
         written,
+        rights,
         ordered,
         published,
         tally,
     } = past;
-    let count = hub.into_board().end(tally, &ordered);
+    let board = hub.into_board(rights.writer, rights.closer);
+    let count = board.end(tally, &ordered);
     let answer = all_written(written, count, published);
     (flusher.end(rt), answer)
 }

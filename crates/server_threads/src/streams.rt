@@ -256,11 +256,16 @@ fn hold_at<
             Both {
                 flusher,
                 written,
+                rights,
                 held,
             },
         ) => {
             let ((streams, answer), desks) = held;
-            Ok((tally_all(flusher, written, desks, tally), streams, answer))
+            Ok((
+                tally_all(flusher, written, rights, desks, tally),
+                streams,
+                answer,
+            ))
         }
         Err(back) => Err(back),
     }

@@ -2,6 +2,7 @@
 ghost use Rattle.std.specs.Prelude.{◌≡◌, ◌↔◌, [], true, false, OnOk, IsErrOf};
 ghost use Rattle.recovery.specs.Open.{has_failed};
 ghost use Rattle.flusher.specs.Holding.{store_of, committed_of, waiting_of};
+ghost use Rattle.turns.specs.Counting.{IsAt};
 ghost use Rattle.turns.specs.Writing.{Writes};
 ghost use Rattle.server_threads.specs.Written.{HasWritten};
 
@@ -36,6 +37,7 @@ pub(crate) struct Writing<'a, D: Disk + Drop, L: Life, R: Wait, W> {
     pub(crate) has_thread: &'a AtomicBool,
     pub(crate) flusher: Flusher<D, L>,
     pub(crate) writer: Writer<L>,
+    ghost at: { IsAt writer flusher },
 }
 
 impl<D: Disk + Drop, L: Life, R: Wait, W> Drop for Writing<'_, D, L, R, W> {
@@ -44,7 +46,7 @@ impl<D: Disk + Drop, L: Life, R: Wait, W> Drop for Writing<'_, D, L, R, W> {
             shared,
             has_thread: _,
             flusher,
-            writer: _,
+            writer: _writer,
         } = self;
         drop(flusher.end(shared.rt));
     }
@@ -66,11 +68,12 @@ impl<'a, D: Disk + Drop, L: Life, R: Threads + Wait + Sync, W: Watch<D>> Writing
                 shared,
                 has_thread: _,
                 flusher,
-                writer: _,
+                writer,
             } = self;
             return Written {
                 rt: shared.rt,
                 flusher,
+                writer,
                 answer: Ok(()),
                 is_begun: false,
             };
@@ -96,6 +99,7 @@ impl<'a, D: Disk + Drop, L: Life, R: Threads + Wait + Sync, W: Watch<D>> Writing
         Written {
             rt: shared.rt,
             flusher,
+            writer,
             answer,
             is_begun: true,
         }
@@ -135,6 +139,7 @@ fn write_all<L: Life, R: Wait, D: Disk, W: Watch<D>>(
     writer: &mut Writer<L>,
     composers: Option<Composers>,
 ) -> Result<(), Refusal>
+    requires at { IsAt writer.old flusher.old }
     ensures writes { Writes L.start flusher.old flusher.new }
     ensures nothing { OnOk result ((committed_of flusher.new ≡ []) × (waiting_of flusher.new ≡ [])) }
     ensures fails { has_failed (store_of flusher.old) ≡ false

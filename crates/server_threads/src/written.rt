@@ -1,6 +1,7 @@
 //! What comes of the thread that writes.
 use disk::Disk;
 use flusher::Flusher;
+use hub::Writer;
 use published::Life;
 use recovery::Store;
 use refusal::Refusal;
@@ -9,10 +10,11 @@ use std::snapshot::Snapshot;
 use std::sync::Wait;
 use std::thread::Promise;
 
-/// The flusher that wrote, how it ended, and whether it was begun.
+/// The flusher that wrote, with its right to, how it ended, and whether it was begun.
 pub(crate) struct Written<'a, D: Disk + Drop, L: Life, R: Wait> {
     pub(crate) rt: &'a R,
     pub(crate) flusher: Flusher<D, L>,
+    pub(crate) writer: Writer<L>,
     pub(crate) answer: Result<(), Refusal>,
     pub(crate) is_begun: bool,
 }
@@ -22,6 +24,7 @@ impl<D: Disk + Drop, L: Life, R: Wait> Drop for Written<'_, D, L, R> {
         let Written {
             rt,
             flusher,
+            writer: _writer,
             answer: _,
             is_begun: _,
         } = self;
@@ -32,18 +35,19 @@ impl<D: Disk + Drop, L: Life, R: Wait> Drop for Written<'_, D, L, R> {
 impl<D: Disk + Drop, L: Life, R: Wait> Written<'_, D, L, R> {
     ghost use Rattle.std.specs.Prelude.{◌≡◌};
 
-    /// Gives the flusher back, and how it ended.
-    pub(crate) fn into_parts(self) -> (Flusher<D, L>, Result<(), Refusal>)
+    /// Gives the flusher back, how it ended, and its right to write.
+    pub(crate) fn into_parts(self) -> (Flusher<D, L>, Result<(), Refusal>, Writer<L>)
         ensures flusher { result.0 ≡ self.entry.flusher }
         ensures answer { result.1 ≡ self.entry.answer }
     {
         let Written {
             rt: _,
             flusher,
+            writer,
             answer,
             is_begun: _,
         } = self;
-        (flusher, answer)
+        (flusher, answer, writer)
     }
 }
 

@@ -5,6 +5,7 @@ ghost use Rattle.revision.specs.Command.{Taken};
 ghost use Rattle.revision.specs.State.{fold};
 ghost use Rattle.world.specs.World.{takens};
 ghost use Rattle.recovery.specs.Found.{commands_of};
+ghost use Rattle.turns.specs.Counting.{IsAt};
 ghost use Rattle.recovery.specs.Open.{IsOpen, device_of, state_of, has_failed};
 ghost use Rattle.flusher.specs.Holding.{store_of, told_of};
 ghost use Rattle.flusher.specs.Standing.{IsCalm, standing};
@@ -52,6 +53,8 @@ pub fn flush_to_the_end<D: Disk, L: Life, R: Wait>(
     hub: &Hub<D, L>,
     writer: &mut Writer<L>,
 ) -> Result<Idle<L>, Failed<L>>
+    requires at { IsAt writer.old flusher.old }
+    ensures at { IsAt writer.new flusher.new }
     ensures stays { (more : List (List Taken)) × (told_of flusher.new ≡ told_of flusher.old ++ more) }
     ensures holds { OnOk result (state_of (store_of flusher.new) ≡ fold L.start (commands_of (told_of flusher.new))) }
 {

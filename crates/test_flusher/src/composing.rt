@@ -1,6 +1,9 @@
 //! Composers beside turns: jobs are handed out by multiples, what comes of them is put, and turns retire what they may.
 ghost use Rattle.std.specs.Prelude.{◌≡◌};
+ghost use Rattle.turns.specs.Counting.{IsAt};
 ghost use Rattle.recovery.specs.Open.{state_of};
+ghost use Rattle.flusher.specs.Holding.{KeepsBatches};
+ghost use Rattle.flusher.specs.Standing.{HaveBegun};
 
 use crate::rows::SHAPE;
 use crate::seats::submitted;
@@ -44,6 +47,7 @@ pub fn started<L: Life>(
     requires parts { blank.parts ≡ L.parts }
     requires seats { blank.parts ≡ 2 }
     requires begin { state_of store ≡ L.start }
+    ensures { HaveBegun L.start store 1 result.0 result.1 }
 {
     match start::<_, L>(rt.alloc(), store, opened, blank, 1) {
         Ok(both) => both,
@@ -59,7 +63,9 @@ fn turned<L: Life, R: Wait + Clock + AllocGlobal>(
     hub: &Hub<MemDisk, L>,
     writer: &mut Writer<L>,
     ends: Composers,
-) -> bool {
+) -> bool
+    requires at { IsAt writer.old flusher.old }
+{
     let alloc = rt.alloc();
     let mut upkeep = Upkeep::new(alloc, 4, Some(ends), flusher.state());
     for _ in 0..TURNS {
@@ -74,6 +80,7 @@ fn turned<L: Life, R: Wait + Clock + AllocGlobal>(
     false
 }
 
+#[tactic(auto, using(turns::proofs::CallerLemmas::at_begun))]
 fn composed_beside<L: Life + Send + Sync, R: Threads + Wait + Clock + Abort + AllocGlobal + Sync>(
     rt: &R,
     store: Store<MemDisk>,
@@ -112,13 +119,16 @@ fn a_document_that_was_opened_gets_a_milestone(rt: HostRuntime) {
 }
 
 // Puts both milestones of the only document at revision 2.
-fn put_both<L: Life>(rt: &(impl Abort + AllocGlobal), flusher: &mut Flusher<MemDisk, L>) {
+fn put_both<L: Life>(rt: &(impl Abort + AllocGlobal), flusher: &mut Flusher<MemDisk, L>)
+    ensures { KeepsBatches flusher.old flusher.new }
+{
     for _ in 0..2u8 {
         assert!(rt; flusher.put_document(rt.alloc(), 0, 2).is_ok());
     }
 }
 
 // Makes a turn for each of these commands, with no composers. After the second both milestones of the only document are put.
+#[tactic(auto, using(turns::proofs::CallerLemmas::at_begun, turns::proofs::CallerLemmas::at_kept))]
 fn retired_before<L: Life, R: Wait + Abort + AllocGlobal>(
     rt: &R,
     store: Store<MemDisk>,

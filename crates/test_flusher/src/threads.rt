@@ -1,6 +1,8 @@
 //! The flusher's thread beside one that submits: the board is free while a batch is written.
 ghost use Rattle.std.specs.Prelude.{◌≡◌};
+ghost use Rattle.turns.specs.Counting.{IsAt};
 ghost use Rattle.recovery.specs.Open.{state_of};
+ghost use Rattle.flusher.specs.Standing.{HaveBegun};
 
 use crate::rows::SHAPE;
 use crate::seats::{acknowledged, submitted as ordered};
@@ -101,7 +103,9 @@ fn flushed<L: Life, R: Wait>(
     hub: &Hub<MemDisk, L>,
     writer: &mut Writer<L>,
     reached: &AtomicBool,
-) -> Result<bool, Refusal> {
+) -> Result<bool, Refusal>
+    requires at { IsAt writer.old flusher.old }
+{
     let mut gate = UntilSecond {
         rt,
         hub,
@@ -125,6 +129,7 @@ fn started<L: Life, R: Abort + AllocGlobal>(
     requires parts { blank.parts ≡ L.parts }
     requires seats { blank.parts ≡ 3 }
     requires begin { state_of store ≡ L.start }
+    ensures { HaveBegun L.start store 2 result.0 result.1 }
 {
     match start::<_, L>(rt.alloc(), store, opened, blank, 2) {
         Ok(both) => both,
@@ -132,6 +137,7 @@ fn started<L: Life, R: Abort + AllocGlobal>(
     }
 }
 
+#[tactic(auto, using(turns::proofs::CallerLemmas::at_begun))]
 fn beside<L: Life + Send + Sync, R: Threads + Wait + Abort + AllocGlobal + Sync>(
     rt: &R,
     store: Store<MemDisk>,

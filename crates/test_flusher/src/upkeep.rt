@@ -1,5 +1,6 @@
 //! What a turn has to do before it takes a batch: it puts what composers have done, hands out each job that is due, and retires what it may.
 ghost use Rattle.std.specs.Prelude.{◌≡◌, ◌≤◌};
+ghost use Rattle.turns.specs.Counting.{IsAt};
 ghost use Rattle.recovery.specs.Open.{state_of};
 
 use crate::composing::{ROOMY, TURNS, started};
@@ -100,13 +101,17 @@ fn turn<L: Life, R: Wait + Abort + AllocGlobal>(
     hub: &Hub<MemDisk, L>,
     writer: &mut Writer<L>,
     upkeep: &mut Upkeep,
-) {
+)
+    requires at { IsAt writer.old flusher.old }
+    ensures at { IsAt writer.new flusher.new }
+{
     let turned = flush_turn(rt, rt.alloc(), flusher, hub, writer, upkeep, &mut OpenGate);
     assert!(rt; turned.is_ok());
 }
 
 // Makes a turn in which nothing is to be written. No segment is left after it that could be retired, and no job of the first document is due
 // that isn't out.
+#[tactic(auto, using(turns::proofs::CallerLemmas::at_kept_up))]
 fn idle_turn<L: Life, R: Wait + Abort + AllocGlobal>(
     rt: &R,
     flusher: &mut Flusher<MemDisk, L>,
@@ -116,6 +121,8 @@ fn idle_turn<L: Life, R: Wait + Abort + AllocGlobal>(
     every: u32,
 )
     requires { 1 ≤ every }
+    requires at { IsAt writer.old flusher.old }
+    ensures at { IsAt writer.new flusher.new }
 {
     turn(rt, flusher, hub, writer, upkeep);
     assert!(rt; flusher.retire() == Err(Refusal::StillNeeded));
@@ -131,7 +138,10 @@ fn write_commands<L: Life, R: Wait + Abort + AllocGlobal>(
     seat: &mut Seat<L>,
     upkeep: &mut Upkeep,
     work: &Work,
-) {
+)
+    requires at { IsAt writer.old flusher.old }
+    ensures at { IsAt writer.new flusher.new }
+{
     for place in 0..work.commands {
         let number = place.saturating_add(1);
         let next = if number <= work.letters {
@@ -162,6 +172,7 @@ fn are_put<L: Life>(flusher: &Flusher<MemDisk, L>, last: u64) -> bool
 
 // Makes turns for all commands, and two more, while the composers hold what they have taken. Then these may go on, and turns are made until
 // all milestones are put.
+#[tactic(auto, using(turns::proofs::CallerLemmas::at_begun))]
 fn turned<L: Life, R: Wait + Clock + Abort + AllocGlobal>(
     rt: &R,
     store: Store<MemDisk>,
@@ -314,6 +325,7 @@ fn the_turn_that_puts_a_milestone_retires_what_waits_for_it(rt: HostRuntime) {
 }
 
 // Makes turns while nobody takes from the channel, and more once the composers' ends are gone.
+#[tactic(auto, using(turns::proofs::CallerLemmas::at_begun))]
 fn alone<L: Life, R: Wait + Abort + AllocGlobal>(
     rt: &R,
     store: Store<MemDisk>,

@@ -1,6 +1,8 @@
 //! Commands that are submitted to a hub, and written by turns of its flusher.
 ghost use Rattle.std.specs.Prelude.{◌≡◌, ◌≤◌};
+ghost use Rattle.turns.specs.Counting.{IsAt};
 ghost use Rattle.recovery.specs.Open.{state_of};
+ghost use Rattle.flusher.specs.Holding.{KeepsBatches};
 
 use crate::runs::{Begin, Ended, commands_in, stop_of};
 use crate::scripts::{Script, Step, command_of};
@@ -21,6 +23,7 @@ use turns::{Upkeep, flush_turn};
 // more. What else keeps it from that, the next turn tells, or the next command asks for it again.
 fn put_due<L: Life>(rt: &impl AllocGlobal, flusher: &mut Flusher<FaultDisk, L>, every: u32)
     requires { 1 ≤ every }
+    ensures { KeepsBatches flusher.old flusher.new }
 {
     if let Some(revision) = flusher.job_due(0, u64::from(every)) {
         let put = flusher.put_document(rt.alloc(), 0, revision);
@@ -37,7 +40,10 @@ fn turn<L: Life, R: Wait + AllocGlobal>(
     hub: &Hub<FaultDisk, L>,
     writer: &mut Writer<L>,
     upkeep: &mut Upkeep,
-) -> Result<(), Refusal> {
+) -> Result<(), Refusal>
+    requires at { IsAt writer.old flusher.old }
+    ensures at { IsAt writer.new flusher.new }
+{
     let alloc = rt.alloc();
     if let Err(stop) = flush_turn(rt, alloc, flusher, hub, writer, upkeep, &mut OpenGate) {
         return match stop.into_failed() {
@@ -77,6 +83,7 @@ fn acknowledged<L: Life, R: Wait>(
 }
 
 // A command is submitted, written in a turn after the milestone that is due, and acknowledged.
+#[tactic(auto, using(turns::proofs::CallerLemmas::at_kept))]
 fn send<L: Life, R: Wait + AllocGlobal>(
     rt: &R,
     flusher: &mut Flusher<FaultDisk, L>,
@@ -89,6 +96,8 @@ fn send<L: Life, R: Wait + AllocGlobal>(
     step: &Step,
 ) -> Result<Option<Reply>, Refusal>
     requires { 1 ≤ every }
+    requires at { IsAt writer.old flusher.old }
+    ensures at { IsAt writer.new flusher.new }
 {
     let ticket = ordered(rt, hub, seat, number, step)?;
     put_due(rt, flusher, every);
@@ -110,6 +119,8 @@ fn asked<L: Life, R: Wait + AllocGlobal>(
     is_again: bool,
 ) -> Option<&'static str>
     requires { 1 ≤ every }
+    requires at { IsAt writer.old flusher.old }
+    ensures at { IsAt writer.new flusher.new }
 {
     let found = send(rt, flusher, hub, writer, seat, upkeep, every, number, step);
     if !matches!(found, Err(Refusal::NoMemory | Refusal::Fault)) {
@@ -131,7 +142,10 @@ fn rest<L: Life, R: Wait + AllocGlobal>(
     hub: &Hub<FaultDisk, L>,
     writer: &mut Writer<L>,
     upkeep: &mut Upkeep,
-) -> Option<&'static str> {
+) -> Option<&'static str>
+    requires at { IsAt writer.old flusher.old }
+    ensures at { IsAt writer.new flusher.new }
+{
     let mut ended = turn(rt, flusher, hub, writer, upkeep);
     if matches!(ended, Err(Refusal::NoMemory)) {
         ended = turn(rt, flusher, hub, writer, upkeep);
@@ -154,6 +168,7 @@ fn send_steps<L: Life, R: Wait + AllocGlobal>(
     begin: Begin,
 ) -> (usize, Option<&'static str>)
     requires { 1 ≤ every }
+    requires at { IsAt writer.old flusher.old }
 {
     let mut upkeep = Upkeep::new(rt.alloc(), 0, None, flusher.state());
     let mut number = 0_u64;
@@ -183,6 +198,7 @@ fn send_steps<L: Life, R: Wait + AllocGlobal>(
 }
 
 // The life of a hub over a store.
+#[tactic(auto, using(turns::proofs::CallerLemmas::at_begun))]
 fn lived<L: Life, R: Wait + Abort + AllocGlobal>(
     rt: &R,
     store: Store<FaultDisk>,

@@ -1,8 +1,9 @@
 //! What commits and publishes in these tests, in the place of the flusher and the view.
-ghost use Rattle.std.specs.Prelude.{◌≡◌, ◌≤◌, [], length};
+ghost use Rattle.std.specs.Prelude.{◌≡◌, ◌≤◌, ◌++◌, ◌∷◌, [], length, IfOk};
 ghost use Rattle.recovery.specs.Found.{commands_of};
 ghost use Rattle.recovery.specs.Open.{state_of};
 
+use core::mem::replace_with;
 use disk::MemDisk;
 use document::Document;
 use hub::Run;
@@ -84,6 +85,13 @@ impl<L: Life> Publishing<L> {
         }
     }
 
+    /// Gives a run up, which isn't written.
+    pub fn give_up(&mut self, run: Run<MemDisk, L>)
+        ensures { self.new ≡ self.old }
+    {
+        replace_with(self, run, given_up::<L>)
+    }
+
     /// The same by one that gives up where the commit is refused.
     #[tactic(auto, using(published::proofs::CallerLemmas::committed_moment, published::proofs::CallerLemmas::committed_state))]
     pub fn write_or_end(
@@ -93,6 +101,8 @@ impl<L: Life> Publishing<L> {
     ) -> Result<(Publishing<L>, Receipt<MemDisk>), Refusal>
         requires place { run.place ≡ length (commands_of self) }
         requires some { 1 ≤ length run.commands }
+        ensures told { IfOk result (λ both. both.0 ≡ self ++ both.1.batch ∷ []) }
+        ensures batch { IfOk result (λ both. both.1.batch ≡ run.commands) }
     {
         let Publishing {
             mut store,
@@ -112,4 +122,13 @@ impl<L: Life> Publishing<L> {
             }
         }
     }
+}
+
+// gives a run up, by whoever has the store
+fn given_up<L: Life>(publishing: Publishing<L>, run: Run<MemDisk, L>) -> (Publishing<L>, ())
+    ensures { result.0 ≡ publishing }
+{
+    let Publishing { store, log, told } = publishing;
+    let store = run.unwritten(store);
+    (Publishing { store, log, told }, ())
 }

@@ -150,7 +150,7 @@ fn committed<L: Life>(rt: &(impl Abort + AllocGlobal), life: &mut BoardLife<L>) 
         return Gives::Committed(0);
     }
     if run.place() as u64 != life.publishing.told().len() {
-        run.apart(life.publishing.told());
+        life.publishing.give_up(run);
         return Gives::Nothing;
     }
     let (receipt, _made) = life.publishing.write(rt, run);

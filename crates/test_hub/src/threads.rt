@@ -1,5 +1,7 @@
 //! A hub between threads: one orders commands and waits for each, another writes what was ordered in batches.
-ghost use Rattle.std.specs.Prelude.{◌≡◌};
+ghost use Rattle.std.specs.Prelude.{◌≡◌, ◌+◌, IfOk, length};
+ghost use Rattle.hub.specs.Runs.{ComesNext};
+ghost use Rattle.recovery.specs.Found.{commands_of};
 ghost use Rattle.recovery.specs.Open.{state_of};
 
 use crate::publishing::Publishing;
@@ -89,31 +91,19 @@ fn committed<L: Life, R: Wait>(
     hub: &Hub<MemDisk, L>,
     writer: &mut Writer<L>,
     publishing: Publishing<L>,
-) -> Result<(Publishing<L>, Receipt<MemDisk>), Refusal> {
+) -> Result<(Publishing<L>, Receipt<MemDisk>), Refusal>
+    requires taken { writer.old.taken ≡ length (commands_of publishing) }
+    requires settled { writer.old.settled ≡ length (commands_of publishing) }
+    ensures next { IfOk result (λ both. ComesNext writer.new both.1.batch both.0) }
+    ensures taken { IfOk result (λ both. writer.new.taken ≡ length (commands_of both.0)) }
+    ensures settled { IfOk result (λ both. writer.new.settled + length both.1.batch ≡ length (commands_of both.0)) }
+{
     let run = hub.take(rt, alloc, writer, CAP)?;
     if run.len() == 0 {
         run.nothing();
         return Err(Refusal::Stranger);
     }
-    if run.place() as u64 != publishing.told().len() {
-        run.apart(publishing.told());
-        return Err(Refusal::Stranger);
-    }
     publishing.write_or_end(alloc, run)
-}
-
-// Settles a batch by the token of all that is published.
-fn settled<L: Life, R: Wait>(
-    rt: &R,
-    hub: &Hub<MemDisk, L>,
-    writer: &mut Writer<L>,
-    publishing: &Publishing<L>,
-    receipt: &Receipt<MemDisk>,
-) -> Result<(), Refusal> {
-    match hub.settle(rt, writer, receipt, publishing.told().copy()) {
-        Ok(_settled) => Ok(()),
-        Err(_) => Err(Refusal::Stranger),
-    }
 }
 
 // Writes what was ordered until the hub's end, and counts the batches.
@@ -123,7 +113,10 @@ fn written<L: Life, R: Wait>(
     hub: &Hub<MemDisk, L>,
     writer: &mut Writer<L>,
     publishing: Publishing<L>,
-) -> Result<u64, Refusal> {
+) -> Result<u64, Refusal>
+    requires taken { writer.old.taken ≡ length (commands_of publishing) }
+    requires settled { writer.old.settled ≡ length (commands_of publishing) }
+{
     let mut publishing = publishing;
     let mut batches: u64 = 0;
     for _ in rt.forever() {
@@ -132,7 +125,7 @@ fn written<L: Life, R: Wait>(
         }
         let (after, receipt) = committed(rt, alloc, hub, writer, publishing)?;
         publishing = after;
-        settled(rt, hub, writer, &publishing, &receipt)?;
+        hub.settle(rt, writer, &receipt, publishing.told().copy());
         batches = batches.saturating_add(1);
     }
     unreachable!()
@@ -145,7 +138,10 @@ fn written_or_failed<L: Life, R: Wait>(
     hub: &Hub<MemDisk, L>,
     writer: &mut Writer<L>,
     publishing: Publishing<L>,
-) -> Result<u64, Refusal> {
+) -> Result<u64, Refusal>
+    requires taken { writer.old.taken ≡ length (commands_of publishing) }
+    requires settled { writer.old.settled ≡ length (commands_of publishing) }
+{
     match written(rt, alloc, hub, writer, publishing) {
         Ok(batches) => Ok(batches),
         Err(refusal) => Err(hub.fail(rt, writer, refusal).refusal()),

@@ -1,3 +1,5 @@
 mod Fitting
 mod Marks
 mod Writing
+mod Counting
+pub mod CallerLemmas

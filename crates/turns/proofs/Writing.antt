@@ -6,7 +6,7 @@ use mathlib.Core.List.{IsPrefix}
 use Rattle.disk.specs.declared.device.Disk.{Ghosts}
 use Rattle.refusal.specs.Refusal.{IsOneOf}
 use Rattle.refusal.specs.declared.Refusal.{Refusal}
-use Rattle.refusal.specs.declared.Refusal.TheVariants.{JournalFull, Stranger, StillNeeded, NoMemory, Fault}
+use Rattle.refusal.specs.declared.Refusal.TheVariants.{JournalFull, StillNeeded, NoMemory, Fault}
 use Rattle.revision.specs.Command.{Taken}
 use Rattle.revision.specs.State.{State, fold}
 use Rattle.published.specs.Batches.{IsShorter}
@@ -23,7 +23,7 @@ use Rattle.flusher.specs.Holding.{store_of, told_of, committed_of, waiting_of, o
 use Rattle.flusher.specs.Upkeep.{IsKeptUp, KeepsUp}
 use Rattle.flusher.specs.Writing.{HasPublished, IsUnpublished, IsWriteRefused}
 use Rattle.flusher.proofs.CallerLemmas.{commands-append, fewer, longer, within_write, no_error}
-use Rattle.turns.specs.Writing.{WasAt, IsUpkeep, IsFullFor, IsOneMore, IsTurnFailed, IsUntouched, told_count, Writes}
+use Rattle.turns.specs.Writing.{WasAt, IsUpkeep, IsFullFor, IsOneMore, IsTurnFailed, told_count, Writes}
 use Rattle.turns.specs.Turning.{HasTurned}
 use Rattle.turns.specs.declared.turned.Turned.{Turned}
 use Rattle.turns.specs.declared.turned.Turned.TheVariants.{Settled, Nothing}
@@ -328,13 +328,6 @@ fails_same {S} {T} one two old new is fails =
 pub fails_not : {T : Type 0} (refusal : Refusal) (old new : Bool) → (old ≡ false → new ≡ false) → refusal ≢ Fault → old ≡ false → new ≡ true ↔ IsErrOf {T = T} (Err refusal) Fault
 fails_not refusal old new works other worked = (λ failed. absurd (false≢true (sym (works worked) ∙ failed)), λ is. absurd (other (ap (refusal_in refusal) is)))
 
-pub stranger_not_fault : (refusal : Refusal) → refusal ≡ Stranger → refusal ≢ Fault
-stranger_not_fault refusal is fault = cc
-
-pub held_not_fault : (refusal : Refusal) → (refusal ≡ NoMemory) ⊎ (refusal ≡ Stranger) → refusal ≢ Fault
-held_not_fault refusal (inl memory) = memory_not_fault refusal memory
-held_not_fault refusal (inr strange) = stranger_not_fault refusal strange
-
 module _ {D : Type 0} {disk : Ghosts D} where
   -- a store that is the same as one that was kept up
   pub kept_up_same : (old mid new : Store D disk) → IsKeptUp old mid → new ≡ mid → IsKeptUp old new
@@ -479,42 +472,21 @@ module _ {D L : Type 0} {disk : Ghosts D} where
       by_case : IsOneOf refusal (JournalFull ∷ StillNeeded ∷ NoMemory ∷ Fault ∷ []) → IsTurnFailed old refusal new
       by_case (inl is_full) =
           let p = (why.full is_full).0 in
-          inl (inl is_full, (p.0, (left.still no_memory).batches.waiting ∙ p.1, full_for p.0 p.2 (inl is_full)))
+          (inl is_full, (p.0, (left.still no_memory).batches.waiting ∙ p.1, full_for p.0 p.2 (inl is_full)))
       by_case (inr (inl is_needed)) =
           let p = (why.needed is_needed).0 in
-          inl (inr is_needed, (p.0, (left.still no_memory).batches.waiting ∙ p.1, full_for p.0 p.2 (inr is_needed)))
+          (inr is_needed, (p.0, (left.still no_memory).batches.waiting ∙ p.1, full_for p.0 p.2 (inr is_needed)))
       by_case (inr (inr (inl memory))) = absurd (no_memory memory)
       by_case (inr (inr (inr fault))) = absurd (no_fault fault)
-
-  -- why a turn fails that took no run off, or one that doesn't follow what is published
-  pub turn_apart : (old new : Flusher D L disk) (refusal : Refusal) → IsUntouched old new → (refusal ≡ NoMemory) ⊎ (refusal ≡ Stranger) → refusal ≢ NoMemory
-      → IsTurnFailed old refusal new
-  turn_apart old new refusal untouched (inl memory) no_memory = absurd (no_memory memory)
-  turn_apart old new refusal untouched (inr strange) no_memory = inr (strange, inl untouched)
-
-  -- what was published and isn't settled
-  pub turn_unsettled : (old new : Flusher D L disk) (refusal : Refusal) → refusal ≡ Stranger → IsOneMore old new → IsTurnFailed old refusal new
-  turn_unsettled old new refusal is one = inr (is, inr one)
 
   -- one batch more than before it was kept up and held
   pub one_before : (old mid new : Flusher D L disk) → told_of mid ≡ told_of old → IsOneMore mid new → IsOneMore old new
   one_before old mid new same one = record { batch = one.batch; told = one.told ∙ ap (λ (t : List (List Taken)). t ++ one.batch ∷ []) same }
 
-  -- nothing was written after it was kept up
-  untouched_before : (old mid new : Flusher D L disk) → IsKeptUp (store_of old) (store_of mid) → told_of mid ≡ told_of old → IsUntouched mid new → IsUntouched old new
-  untouched_before old mid new first same untouched = record {
-    told = untouched.told ∙ same;
-    committed = untouched.committed;
-    waiting = untouched.waiting;
-    kept_up = kept_up_on (store_of old) (store_of mid) (store_of new) first untouched.kept_up;
-  }
-
   -- why a turn failed that kept its store up before the write
   pub failed_before : (old mid new : Flusher D L disk) (refusal : Refusal) → IsKeptUp (store_of old) (store_of mid)
       → (has_failed (store_of old) ≡ false → has_failed (store_of mid) ≡ false) → told_of mid ≡ told_of old → IsTurnFailed mid refusal new → IsTurnFailed old refusal new
-  failed_before old mid new refusal first works same (inl (is, (batch, held, full))) = inl (is, (batch, held, full_before batch (store_of old) (store_of mid) first works full))
-  failed_before old mid new refusal first works same (inr (is, inl untouched)) = inr (is, inl (untouched_before old mid new first same untouched))
-  failed_before old mid new refusal first works same (inr (is, inr one)) = inr (is, inr (one_before old mid new same one))
+  failed_before old mid new refusal first works same (is, (batch, held, full)) = (is, (batch, held, full_before batch (store_of old) (store_of mid) first works full))
 
   turned_before : (answer : Turned D L) (old mid new : Flusher D L disk) → told_of mid ≡ told_of old → HasTurned mid answer new → HasTurned old answer new
   turned_before (Settled token) old mid new same one = (one_before old mid new same one.0, one.1)

@@ -4,3 +4,4 @@ pub mod Stops
 pub mod Waiting
 pub mod Queues
 pub mod Exchanging
+pub mod Counting

@@ -4,7 +4,7 @@ use mathlib.Core.List.{IsPrefix}
 use Rattle.disk.specs.declared.device.Disk.{Ghosts}
 use Rattle.disk.specs.Crash.{MayLeaveNow}
 use Rattle.refusal.specs.declared.Refusal.{Refusal}
-use Rattle.refusal.specs.declared.Refusal.TheVariants.{JournalFull, Stranger, StillNeeded, Fault}
+use Rattle.refusal.specs.declared.Refusal.TheVariants.{JournalFull, StillNeeded, Fault}
 use Rattle.revision.specs.Command.{Taken}
 use Rattle.published.specs.Batches.{IsShorter}
 use Rattle.revision.specs.State.{State, fold}
@@ -72,19 +72,10 @@ module _ {D L : Type 0} {disk : Ghosts D} where
     pub batch : List Taken
     pub told : told_of new ≡ told_of old ++ batch ∷ []
 
-  -- No batch is under way, and nothing of one was written.
-  pub record IsUntouched (old new : Flusher D L disk) : Type 0 where
-    pub told : told_of new ≡ told_of old
-    pub committed : committed_of new ≡ []
-    pub waiting : waiting_of new ≡ []
-    pub kept_up : IsKeptUp (store_of old) (store_of new)
-
-  -- Why a turn fails the board, where the device didn't: its batch finds no room; or, as `Stranger`, it wrote nothing, or published one batch.
-  -- Of the board that is refused so, and why, nothing is said.
+  -- Why a turn fails the board, where the device didn't: its batch finds no room in the journal.
   abbrev pub IsTurnFailed : Flusher D L disk → Refusal → Flusher D L disk → Type 0
   IsTurnFailed old refusal new =
-      (((refusal ≡ JournalFull) ⊎ (refusal ≡ StillNeeded)) × ((batch : List Taken) × (waiting_of new ≡ batch ∷ []) × IsFullFor batch (store_of old)))
-      ⊎ ((refusal ≡ Stranger) × (IsUntouched old new ⊎ IsOneMore old new))
+      ((refusal ≡ JournalFull) ⊎ (refusal ≡ StillNeeded)) × ((batch : List Taken) × (waiting_of new ≡ batch ∷ []) × IsFullFor batch (store_of old))
 
   -- Some turns were made, and then one that failed the board for this reason.
   pub record IsEndedBy (start : State) (old : Flusher D L disk) (refusal : Refusal) (new : Flusher D L disk) : Type 0 where

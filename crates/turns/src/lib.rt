@@ -5,14 +5,14 @@
 //! (`composers`), to which a turn hands out jobs and from which it takes back what came of them. Where a channel is full or empty a turn
 //! continues. `compose_workers` runs the composers, in threads beside this one.
 //!
-//! Other threads change the board between a turn's steps, so a turn says nothing of it. It says of its flusher, by `Writes` of
-//! specs/Writing.antt, that no batch that it was given is dropped, none that was published is taken back, and what a crash leaves of them; and
-//! by `IsTurnFailed` why it fails the board. The rest stands in the types of what it passes: a run is one that a board took off, a
-//! receipt is of a batch that the store has committed, and a board settles only by one. A `Run` and a `Written` aren't `Drop`: each batch that
-//! is written is settled, or the hub is told of a failure; and a run is given to the flusher, or ends against a token that it doesn't follow
-//! (`Run::apart`). That token may be an old one, and no clause says that such an end fails the board: the code does it. What a turn answers
-//! with, and what `flush_all` does, are tokens that the hub alone makes: that it settled, that it was told of a failure, that it was ended
-//! and nothing is left to take. A refusal without such a token is `NoMemory`, after which the next turn continues.
+//! Other threads change the board between a turn's steps, so a turn says nothing of it but what the writer counts: before and after each turn
+//! what is published is settled, and what was taken off the board is published, committed or held (`IsAt`, specs/Counting.antt). It says of its
+//! flusher, by `Writes` of specs/Writing.antt, that no batch that it was given is dropped, none that was published is taken back, and what a crash
+//! leaves of them; and by `IsTurnFailed` why it fails the board. The rest stands in the types of what it passes: a run is one that a board took
+//! off, a receipt is of a batch that the store has committed, and a board settles only by one. A `Run` and a `Written` aren't `Drop`: each run is
+//! given to the flusher, and each batch that is written is settled. What a turn answers with, and what `flush_all` does, are tokens that the hub
+//! alone makes: that it settled, that it was told of a failure, that it was ended and nothing is left to take. A refusal without such a token is
+//! `NoMemory`, after which the next turn continues.
 //!
 //! A caller, with its contract, which `test_flusher` proves:
 //!
@@ -23,6 +23,7 @@
 //! ghost use Rattle.recovery.specs.Found.{commands_of};
 //! ghost use Rattle.recovery.specs.Open.{state_of};
 //! ghost use Rattle.flusher.specs.Holding.{store_of, told_of};
+//! ghost use Rattle.turns.specs.Counting.{IsAt};
 //!
 //! use disk::Disk;
 //! use flusher::{Flusher, OpenGate};
@@ -41,6 +42,8 @@
 //!     hub: &Hub<D, L>,
 //!     writer: &mut Writer<L>,
 //! ) -> Result<Idle<L>, Failed<L>>
+//!     requires at { IsAt writer.old flusher.old }
+//!     ensures at { IsAt writer.new flusher.new }
 //!     ensures stays { (more : List (List Taken)) × (told_of flusher.new ≡ told_of flusher.old ++ more) }
 //!     ensures holds { OnOk result (state_of (store_of flusher.new)
 //!         ≡ fold L.start (commands_of (told_of flusher.new))) }

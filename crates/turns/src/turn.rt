@@ -5,6 +5,8 @@ ghost use Rattle.recovery.specs.Found.{commands_of};
 ghost use Rattle.recovery.specs.Open.{state_of, has_failed};
 ghost use Rattle.flusher.specs.Flushers.{cap_of};
 ghost use Rattle.flusher.specs.Holding.{store_of, told_of, committed_of, waiting_of};
+ghost use Rattle.hub.specs.Runs.{counts_taken};
+ghost use Rattle.turns.specs.Counting.{IsAt};
 ghost use Rattle.turns.specs.Writing.{Writes, IsTurnFailed, IsEndedBy};
 ghost use Rattle.turns.specs.Turning.{HasTurned};
 
@@ -15,7 +17,7 @@ use composers::Composers;
 use disk::Disk;
 use flusher::{Flusher, Gate};
 use hub::{Failed, Hub, Idle, Nothing, Run, Writer};
-use published::{Life, Told};
+use published::Life;
 use refusal::Refusal;
 use std::alloc::Global;
 use std::sync::Wait;
@@ -26,10 +28,12 @@ use std::thread;
 /// that makes one batch, writes it while the board is unlocked, and settles it. It answers with the hub's token of that, or with the one
 /// that nothing was to be taken.
 ///
+/// At its end, and at each refusal, what is published is settled, and what was taken off the board is published, committed or held, as at its
+/// beginning (`IsAt`).
+///
 /// Refused with `NoMemory` where memory ran out for a batch, and then the next turn continues with the same batch, or with its
 /// publishing. A milestone for which it runs out stops no turn: the next one tries again. Each other refusal fails the board, and has the
-/// hub's token of that: the device failed, the journal is full and can't be freed, or what the board took off doesn't follow what is published,
-/// which is seen before anything of it is written, or isn't what the board has to settle next.
+/// hub's token of that: the device failed, as `Fault`, or the journal is full and can't be freed.
 pub fn flush_turn<D: Disk, L: Life, R: Wait, G: Gate>(
     rt: &R,
     alloc: Global,
@@ -39,6 +43,10 @@ pub fn flush_turn<D: Disk, L: Life, R: Wait, G: Gate>(
     upkeep: &mut Upkeep,
     gate: &mut G,
 ) -> Result<Turned<D, L>, TurnError<L>>
+    requires at { IsAt writer.old flusher.old }
+    // What the writer counts is what the flusher has.
+    ensures at { IsAt writer.new flusher.new }
+
     // What a crash leaves, and what is published and held after it.
     ensures writes { Writes L.start flusher.old flusher.new }
     ensures turned { IfOk result (λ answer. HasTurned flusher.old answer flusher.new) }
@@ -67,6 +75,8 @@ fn try_turn<D: Disk, L: Life, R: Wait, G: Gate>(
     upkeep: &mut Upkeep,
     gate: &mut G,
 ) -> Result<Turned<D, L>, Refusal>
+    requires at { IsAt writer.old flusher.old }
+    ensures at { IsAt writer.new flusher.new }
     ensures writes { Writes L.start flusher.old flusher.new }
     ensures turned { IfOk result (λ answer. HasTurned flusher.old answer flusher.new) }
     ensures nothing { OnOk result ((committed_of flusher.new ≡ []) × (waiting_of flusher.new ≡ [])) }
@@ -91,7 +101,7 @@ fn try_turn<D: Disk, L: Life, R: Wait, G: Gate>(
 }
 
 // Takes the next batch and holds it, where none is held. It answers with the token that there was none to take, unless one is held then.
-// Refused with `NoMemory`, and with `Stranger` where what the board took off doesn't follow what is published; nothing is held then.
+// Refused with `NoMemory` alone; nothing is held then.
 #[tactic(auto, using(crate::proofs::Fitting::fits_slot))]
 fn fetch_batch<D: Disk, L: Life, R: Wait>(
     rt: &R,
@@ -100,6 +110,8 @@ fn fetch_batch<D: Disk, L: Life, R: Wait>(
     hub: &Hub<D, L>,
     writer: &mut Writer<L>,
 ) -> Result<Option<Nothing<L>>, Refusal>
+    requires at { IsAt writer.old flusher.old }
+    ensures at { IsAt writer.new flusher.new }
     ensures writes { Writes L.start flusher.old flusher.new }
     ensures held { IfOk result (λ answer. IfNone answer (committed_of flusher.new ++ waiting_of flusher.new ≢ [])) }
     ensures nothing { IfOk result (λ answer. IfSome answer (λ token. (committed_of flusher.new ≡ [])
@@ -108,14 +120,13 @@ fn fetch_batch<D: Disk, L: Life, R: Wait>(
         ≡ cap_of (state_of (store_of flusher.new)))) }
     ensures store { store_of flusher.new ≡ store_of flusher.old }
     ensures told { told_of flusher.new ≡ told_of flusher.old }
-    ensures apart { OnErr result ((committed_of flusher.new ≡ []) × (waiting_of flusher.new ≡ [])) }
-    ensures only { IfErr result (λ e. (e ≡ Refusal.NoMemory) ⊎ (e ≡ Refusal.Stranger)) }
+    ensures only { IfErr result (λ e. e ≡ Refusal.NoMemory) }
 {
     flusher.kept();
     if flusher.holds() {
         return Ok(None);
     }
-    let taken = match take_following(rt, alloc, flusher.cap(), flusher.told(), hub, writer) {
+    let taken = match take_next(rt, alloc, flusher.cap(), hub, writer) {
         Ok(taken) => taken,
         Err(refusal) => return Err(refusal),
     };
@@ -128,30 +139,26 @@ fn fetch_batch<D: Disk, L: Life, R: Wait>(
     }
 }
 
-// The next run whose batch has at most so many bytes, or the token that there is none. It has to follow what a token names: refused with
-// `Stranger` where it doesn't, and with `NoMemory`.
-fn take_following<D: Disk, L: Life, R: Wait>(
+// The next run whose batch has at most so many bytes, or the token that there is none. Refused with `NoMemory` alone.
+fn take_next<D: Disk, L: Life, R: Wait>(
     rt: &R,
     alloc: Global,
     cap: u32,
-    told: &Told<D, L>,
     hub: &Hub<D, L>,
     writer: &mut Writer<L>,
 ) -> Result<Result<Run<D, L>, Nothing<L>>, Refusal>
     ensures fits { IfOk result (λ taken. IfOk taken (λ run. (1 ≤ length run.commands)
         × (batch_width run.commands ≤ cap))) }
     ensures cap { IfOk result (λ taken. IfOk taken (λ run. run.cap ≡ cap)) }
-    ensures next { IfOk result (λ taken. IfOk taken (λ run. run.place ≡ length (commands_of told.now))) }
-    ensures none { IfOk result (λ taken. IfErr taken (λ nothing. nothing ≡ cap)) }
-    ensures only { IfErr result (λ e. (e ≡ Refusal.NoMemory) ⊎ (e ≡ Refusal.Stranger)) }
+    ensures next { IfOk result (λ taken. IfOk taken (λ run. run.place ≡ writer.old.taken)) }
+    ensures counts { IfOk result (λ taken. IfOk taken (λ run. writer.new ≡ counts_taken writer.old (length run.commands))) }
+    ensures none { IfOk result (λ taken. IfErr taken (λ nothing. (nothing ≡ cap)
+        × (writer.new ≡ counts_taken writer.old 0))) }
+    ensures only { IfErr result (λ e. (e ≡ Refusal.NoMemory) × (writer.new ≡ writer.old)) }
 {
     let run = hub.take(rt, alloc, writer, cap)?;
     if run.len() == 0 {
         return Ok(Err(run.nothing()));
-    }
-    if run.place() as u64 != told.len() {
-        run.apart(told);
-        return Err(Refusal::Stranger);
     }
     Ok(Ok(run))
 }
@@ -166,7 +173,9 @@ fn write_held<D: Disk, L: Life, R: Wait, G: Gate>(
     upkeep: &mut Upkeep,
     gate: &mut G,
 ) -> Result<Turned<D, L>, Refusal>
+    requires at { IsAt writer.old flusher.old }
     requires held { committed_of flusher.old ++ waiting_of flusher.old ≢ [] }
+    ensures at { IsAt writer.new flusher.new }
     ensures writes { Writes L.start flusher.old flusher.new }
     ensures turned { IfOk result (λ answer. HasTurned flusher.old answer flusher.new) }
     ensures nothing { OnOk result ((committed_of flusher.new ≡ []) × (waiting_of flusher.new ≡ [])) }
@@ -188,13 +197,9 @@ fn write_held<D: Disk, L: Life, R: Wait, G: Gate>(
         None => unreachable!(),
         Some(both) => {
             flusher.kept();
-            match both.settle(rt, hub, writer) {
-                Ok((receipt, settled)) => {
-                    upkeep.note(&receipt);
-                    Ok(Turned::Settled(settled))
-                }
-                Err((failed, _unsettled)) => Err(failed.refusal()),
-            }
+            let (receipt, settled) = both.settle(rt, hub, writer);
+            upkeep.note(&receipt);
+            Ok(Turned::Settled(settled))
         }
     }
 }
@@ -216,6 +221,8 @@ pub fn flush_all<D: Disk, L: Life, R: Wait, G: Gate>(
     composers: Option<Composers>,
     gate: &mut G,
 ) -> Result<Idle<L>, Failed<L>>
+    requires at { IsAt writer.old flusher.old }
+    ensures at { IsAt writer.new flusher.new }
     ensures writes { Writes L.start flusher.old flusher.new }
     ensures nothing { OnOk result ((committed_of flusher.new ≡ []) × (waiting_of flusher.new ≡ [])) }
     ensures fails { has_failed (store_of flusher.old) ≡ false
@@ -247,6 +254,8 @@ fn turn_or_yield<D: Disk, L: Life, R: Wait, G: Gate>(
     upkeep: &mut Upkeep,
     gate: &mut G,
 ) -> Result<(), Failed<L>>
+    requires at { IsAt writer.old flusher.old }
+    ensures at { IsAt writer.new flusher.new }
     ensures writes { Writes L.start flusher.old flusher.new }
     ensures fails { has_failed (store_of flusher.old) ≡ false
         → (has_failed (store_of flusher.new) ≡ true ↔ IsErrOf result Refusal.Fault) }

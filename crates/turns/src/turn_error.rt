@@ -43,7 +43,8 @@ pub(crate) fn stopped<D, L: Life, R: Wait>(
     writer: &mut Writer<L>,
     refusal: Refusal,
 ) -> TurnError<L>
-    ensures { result ≡ refusal }
+    ensures why { result ≡ refusal }
+    ensures writer { writer.new ≡ writer.old }
 {
     if refusal == Refusal::NoMemory {
         return TurnError { failed: None };

@@ -2,7 +2,7 @@
 use Rattle.std.proofs.Common.{◌≡◌, Result, Ok, Err, List, [], ◌∷◌, ◌++◌, fold, refl, ap, ap₂, sym, subst, ◌∙◌, ◌&&◌, Bool, true}
 use Rattle.std.specs.Prelude.{MatchBool, MatchResult, is_ok}
 use Rattle.std.proofs.lemmas.Bool.{and_parts}
-use Rattle.published.specs.Books.{Books}
+use Rattle.published.specs.Books.{Logs}
 use Rattle.delta.specs.Element.{Element}
 use Rattle.revision.specs.Command.{Taken}
 use Rattle.revision.specs.Made.{AreMade}
@@ -28,7 +28,7 @@ grow_join s (x ∷ xs) ys first later =
     ap₂ (λ a b. a && b) parts.0 (grow_join (state.grown s x) xs ys parts.1 later)
 
 -- what shows these batches and takes in one more shows them all
-pub shows_more : (book : Books) (start : state.State) (told next : List (List Taken)) (batch : List Taken) (old new : Seen) (waiting : List News)
+pub shows_more : (book : Logs) (start : state.State) (told next : List (List Taken)) (batch : List Taken) (old new : Seen) (waiting : List News)
     → AreShown book start told old → waiting ≡ news_of book start batch next ∷ [] → next ≡ told ++ batch ∷ []
     → basis_of new ≡ fold after (basis_of old) waiting → IsShown book start new
 shows_more book start told next batch old new waiting shows waits more goes =
@@ -59,7 +59,7 @@ absorbs before made batch mark other is grew same =
     ap₂ (λ (s : state.State) (rest : Mark × Bool). basis s rest.0 rest.1) is (ap₂ (λ (m : Mark) (b : Bool). (m, b)) same (sym grew))
 
 -- a copy that shows what was published before a batch
-module _ (book : Books) (start : state.State) (shown : Seen) (batch : List Taken) (documents : List (List Element)) (before after : Mark) (is : IsShown book start shown)
+module _ (book : Logs) (start : state.State) (shown : Seen) (batch : List Taken) (documents : List (List Element)) (before after : Mark) (is : IsShown book start shown)
     (goes : GoesOn book start batch documents before after) (same : shown.mark.batches ≡ before.batches) where
   there : shown.state ≡ state.fold start (commands_of before.batches)
   there = is.made ∙ ap (λ (l : List (List Taken)). state.fold start (commands_of l)) same

@@ -1,6 +1,6 @@
 -- What readers are shown.
 use Rattle.std.specs.Prelude.{◌≡◌, ◌&&◌, true, [], ◌∷◌}
-use Rattle.published.specs.Books.{Books}
+use Rattle.published.specs.Books.{Logs}
 use Rattle.published.specs.Batches.{Mark}
 use Rattle.revision.specs.State.{State, fold, all_grow}
 use Rattle.recovery.specs.Found.{commands_of}
@@ -21,7 +21,7 @@ abbrev pub after : Basis → News → Basis
 after basis news = record { state = fold basis.state news.batch; mark = news.mark; grew = basis.grew && all_grow basis.state news.batch }
 
 -- What is shown is what the batches of this log make of the start, and each of their commands continued what those before had made.
-pub record IsShown (book : Books) (start : State) (shown : Seen) : Type 0 where
+pub record IsShown (book : Logs) (start : State) (shown : Seen) : Type 0 where
   pub log : shown.mark.book ≡ book
   pub begun : shown.mark.start ≡ start ∷ []
   pub made : shown.state ≡ fold start (commands_of shown.mark.batches)

@@ -1,7 +1,7 @@
 -- How far the publishing of a batch has come.
 use Rattle.std.specs.Prelude.{◌≡◌, ◌≤◌, ◌<◌, ◌+◌, ◌^◌, List, [], ◌∷◌, ◌++◌, length}
 use mathlib.Core.List.{IsPrefix}
-use Rattle.published.specs.Books.{Books}
+use Rattle.published.specs.Books.{Logs}
 use Rattle.revision.specs.Command.{Taken}
 use Rattle.revision.specs.Made.{AreMade}
 use Rattle.revision.specs.State.{State, fold}
@@ -15,11 +15,11 @@ use Rattle.view.specs.declared.publisher.Stage.{Stage}
 use Rattle.view.specs.declared.publisher.Stage.TheVariants.{Idle, Held, Logged, Queued}
 
 -- a batch, as it is to be shown with the batches that are then published
-abbrev pub news_of : Books → State → List Taken → List (List Taken) → News
+abbrev pub news_of : Logs → State → List Taken → List (List Taken) → News
 news_of book start batch next = record { batch = batch; mark = record { book = book; start = start ∷ []; batches = next } }
 
 -- what is shown is what exactly these batches make of the start
-abbrev pub AreShown : Books → State → List (List Taken) → Seen → Type 0
+abbrev pub AreShown : Logs → State → List (List Taken) → Seen → Type 0
 AreShown book start told shown = IsShown book start shown × (shown.mark.batches ≡ told)
 
 -- A batch has a command, and is the next part of the order after what is published, which then has fewer than 2^64 commands.
@@ -44,7 +44,7 @@ module _ {D L : Type 0} where
   moments_in disk moments (Queued receipt next) = moments
 
   -- what the writer has still to show
-  abbrev pub waiting : Books → State → Stage D L → List News
+  abbrev pub waiting : Logs → State → Stage D L → List News
   waiting book start Idle = []
   waiting book start (Held receipt ordered made) = []
   waiting book start (Logged receipt next) = []

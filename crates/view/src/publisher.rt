@@ -70,8 +70,8 @@ where
       moments = spec.moments_in ⟦<D as Disk>⟧ p.log.moments p.stage;
     } };
 
-    ghost invariant = { λ p. spec.AreShown L.book L.start p.told p.writer.desk.shown.value
-        × (drop p.writer.behind p.writer.log.items ≡ spec.waiting L.book L.start p.stage) × spec.IsLogged p.log.batches p.told p.stage
+    ghost invariant = { λ p. spec.AreShown L.book.logs L.start p.told p.writer.desk.shown.value
+        × (drop p.writer.behind p.writer.log.items ≡ spec.waiting L.book.logs L.start p.stage) × spec.IsLogged p.log.batches p.told p.stage
         × spec.IsGiven L.start p.told p.stage × spec.IsTimed ⟦<D as Disk>⟧ L.start p.told p.stage };
 }
 
@@ -289,7 +289,7 @@ fn queued<D: Disk, L: Life, R: Wait>(
     Publisher<D, L>,
     Result<Option<(Receipt<D>, Told<D, L>)>, AllocError>,
 )
-    requires shown { AreShown L.book L.start told writer.desk.shown.value }
+    requires shown { AreShown L.book.logs L.start told writer.desk.shown.value }
     requires waiting { drop writer.behind writer.log.items ≡ [] }
     requires next { next ≡ told ++ receipt.batch ∷ [] }
     requires made { AreMade (fold L.start (commands_of told)) receipt.batch made.items }
@@ -324,7 +324,7 @@ fn appended<D, L: Life>(
     requires made { AreMade (fold L.start (commands_of told.now)) receipt.now.batch made.items }
     ensures desk { writer.new.desk ≡ writer.old.desk }
     ensures waiting { MatchBool result (drop writer.new.behind writer.new.log.items
-        ≡ to_show L.book L.start receipt.now.batch next.now ∷ []) (drop writer.new.behind writer.new.log.items ≡ []) }
+        ≡ to_show L.book.logs L.start receipt.now.batch next.now ∷ []) (drop writer.new.behind writer.new.log.items ≡ []) }
 {
     match news_of(receipt, told, next, made) {
         Ok(news) => writer.append(news).is_ok(),
@@ -344,8 +344,8 @@ fn shown<D: Disk, L: Life, R: Wait>(
     Publisher<D, L>,
     Result<Option<(Receipt<D>, Told<D, L>)>, AllocError>,
 )
-    requires shown { AreShown L.book L.start told writer.desk.shown.value }
-    requires waiting { drop writer.behind writer.log.items ≡ to_show L.book L.start receipt.batch next ∷ [] }
+    requires shown { AreShown L.book.logs L.start told writer.desk.shown.value }
+    requires waiting { drop writer.behind writer.log.items ≡ to_show L.book.logs L.start receipt.batch next ∷ [] }
     requires next { next ≡ told ++ receipt.batch ∷ [] }
     requires log { log.batches ≡ next }
     ensures done { IfOk result.1 (λ published. IfSome published (λ p. (p.0 ≡ receipt) × (p.1 ≡ next)
@@ -386,7 +386,7 @@ fn news_of<D, L: Life>(
 ) -> Result<News<L>, AllocError>
     requires next { next.now ≡ told.now ++ receipt.now.batch ∷ [] }
     requires made { AreMade (fold L.start (commands_of told.now)) receipt.now.batch made.items }
-    ensures news { IfOk result (λ news. news ≡ to_show L.book L.start receipt.now.batch next.now) }
+    ensures news { IfOk result (λ news. news ≡ to_show L.book.logs L.start receipt.now.batch next.now) }
 {
     Ok(News {
         batch: receipt.batch().share()?,

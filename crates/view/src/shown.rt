@@ -25,7 +25,7 @@ impl<L: Life> Model for Shown<L> {
 
     ghost view = { λ s. record { state = s.state; mark = s.mark } };
 
-    ghost invariant = { λ s. spec.IsShown L.book L.start (record { state = s.state; mark = s.mark }) };
+    ghost invariant = { λ s. spec.IsShown L.book.logs L.start (record { state = s.state; mark = s.mark }) };
 }
 
 /// A batch that is to be shown, with what was published before it and what is published with it. Beside its first commands stand the
@@ -46,7 +46,7 @@ impl<L: Life> Model for News<L> {
 
     ghost view = { λ n. record { batch = n.batch; mark = n.mark } };
 
-    ghost invariant = { λ n. spec.GoesOn L.book L.start n.batch n.made.items n.before n.mark };
+    ghost invariant = { λ n. spec.GoesOn L.book.logs L.start n.batch n.made.items n.before n.mark };
 }
 
 /// What the two copies have in common, and whether each batch continued the state. No value of it is made.
@@ -94,7 +94,7 @@ pub struct InLog<L> {
 impl<L: Life> Protocol<Shown<L>, ()> for InLog<L> {
     ghost use Rattle.view.specs.Shown.{IsShown};
 
-    ghost holds = { λ x views. IsShown L.book L.start x };
+    ghost holds = { λ x views. IsShown L.book.logs L.start x };
 
     ghost first = { tt };
 }
@@ -107,5 +107,5 @@ pub struct Sees<L> {
 impl<L: Life> Outcome<Shown<L>, ()> for Sees<L> {
     ghost use Rattle.view.specs.Shown.{IsShown};
 
-    ghost then = { λ v x y w. IsShown L.book L.start y };
+    ghost then = { λ v x y w. IsShown L.book.logs L.start y };
 }

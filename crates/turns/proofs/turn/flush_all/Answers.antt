@@ -1,10 +1,13 @@
+use Rattle.std.proofs.Common.{sym, subst}
 use Rattle.recovery.specs.Open.{has_failed}
 use Rattle.flusher.specs.Holding.{store_of}
+use Rattle.hub.specs.Runs.{Writer}
+use Rattle.turns.specs.Counting.{IsAt}
 use Rattle.turns.proofs.Writing.{writes_none, writes_on, works_after, fails_err}
 use Rattle.turns.proofs.turn.flush_all.Goals as goal
 
 pub loop-init : goal.loop-init
-loop-init g c = record { works = λ works. works; writes = writes_none g.L.Life.start c.args.flusher.now c.kept.ensures }
+loop-init g c = record { works = λ works. works; writes = writes_none g.L.Life.start c.args.flusher.now c.kept.ensures; at = c.requires.at }
 
 -- a turn failed the board
 pub returns-in-Err-clause-writes : goal.returns-in-Err-clause-writes
@@ -33,6 +36,7 @@ loop-preserved g c =
     record {
       works = λ works. works_after c.in_default.field-0 (has_failed (store_of c.loop.flusher)) (has_failed (store_of c.turn_or_yield.new.flusher)) c.in_default.ensures.fails (i.works works);
       writes = writes_on g.L.Life.start c.args.flusher.now c.loop.flusher c.turn_or_yield.new.flusher i.writes i.works c.turn_or_yield.ensures.writes;
+      at = c.turn_or_yield.ensures.at;
     }
 
 -- a turn was made, and work waits
@@ -42,4 +46,5 @@ loop-preserved-in_default-wait_work g c =
     record {
       works = λ works. works_after c.in_default.field-0 (has_failed (store_of c.loop.flusher)) (has_failed (store_of c.turn_or_yield.new.flusher)) c.in_default.ensures.fails (i.works works);
       writes = writes_on g.L.Life.start c.args.flusher.now c.loop.flusher c.turn_or_yield.new.flusher i.writes i.works c.turn_or_yield.ensures.writes;
+      at = subst (λ (w : Writer). IsAt w c.turn_or_yield.new.flusher) (sym c.wait_work.ensures) c.turn_or_yield.ensures.at;
     }

@@ -5,4 +5,4 @@ use Rattle.turns.proofs.turn.flush_turn.Goals as goal
 
 pub returns-in-Err-clause-causes : goal.returns-in-Err-clause-causes
 returns-in-Err-clause-causes g c =
-    subst (λ r. r ≢ NoMemory → r ≢ Fault → IsTurnFailed c.args.flusher.now r c.try_turn.new.flusher) (sym c.stopped.ensures) c.in-Err.ensures.causes
+    subst (λ r. r ≢ NoMemory → r ≢ Fault → IsTurnFailed c.args.flusher.now r c.try_turn.new.flusher) (sym c.stopped.ensures.why) c.in-Err.ensures.causes

@@ -1,7 +1,8 @@
 use Rattle.std.proofs.Common.{◌∙◌, ap, arith}
 use Rattle.recovery.specs.Open.{has_failed}
 use Rattle.flusher.specs.Holding.{store_of}
-use Rattle.turns.proofs.Writing.{kept_up_same, writes_kept_up, writes_on, works_after, fails_ok, fails_err, fails_not, held_not_fault, turn_apart, turned_after, causes_after}
+use Rattle.turns.proofs.Writing.{kept_up_same, writes_kept_up, writes_on, works_after, fails_ok, fails_err, fails_not, memory_not_fault, turned_after, causes_after}
+use Rattle.turns.proofs.Counting.{at_kept_up}
 use Rattle.turns.specs.declared.turned.Turned.TheVariants.{Nothing}
 use Rattle.turns.proofs.turn.try_turn.Goals as goal
 
@@ -17,7 +18,7 @@ returns-in-Err-clause-fails g c = fails_err c.in-Err.refusal (has_failed (store_
 pub returns-in-Err-clause-causes : goal.returns-in-Err-clause-causes
 returns-in-Err-clause-causes g c = λ no_memory no_fault. absurd (no_fault c.in-Err.ensures.only)
 
--- memory is wanted for a run, or it doesn't follow what is published
+-- memory is wanted for a run
 pub returns-in-Err-fetch_batch-clause-writes : goal.returns-in-Err-fetch_batch-clause-writes
 returns-in-Err-fetch_batch-clause-writes g c =
     let e = c.keep_up.ensures in
@@ -30,19 +31,10 @@ returns-in-Err-fetch_batch-clause-fails g c =
     let old = has_failed (store_of c.args.flusher.now) in
     let works = works_after c.in_default.field-0 old (has_failed (store_of c.keep_up.new.flusher)) c.in_default.ensures.fails in
     let refusal = c.in-Err-fetch_batch.refusal in
-    fails_not refusal old (has_failed (store_of c.fetch_batch.new.flusher)) (λ worked. ap has_failed c.fetch_batch.ensures.store ∙ works worked) (held_not_fault refusal c.in-Err-fetch_batch.ensures.only)
+    fails_not refusal old (has_failed (store_of c.fetch_batch.new.flusher)) (λ worked. ap has_failed c.fetch_batch.ensures.store ∙ works worked) (memory_not_fault refusal c.in-Err-fetch_batch.ensures.only)
 
 pub returns-in-Err-fetch_batch-clause-causes : goal.returns-in-Err-fetch_batch-clause-causes
-returns-in-Err-fetch_batch-clause-causes g c = λ no_memory no_fault.
-    let held = c.in-Err-fetch_batch.ensures in
-    turn_apart c.args.flusher.now c.fetch_batch.new.flusher c.in-Err-fetch_batch.refusal
-    (record {
-      told = c.fetch_batch.ensures.told ∙ c.keep_up.ensures.keeps.batches.told;
-      committed = held.apart.0;
-      waiting = held.apart.1;
-      kept_up = kept_up_same (store_of c.args.flusher.now) (store_of c.keep_up.new.flusher) (store_of c.fetch_batch.new.flusher) c.keep_up.ensures.keeps.kept_up c.fetch_batch.ensures.store;
-    })
-    held.only no_memory
+returns-in-Err-fetch_batch-clause-causes g c = λ no_memory no_fault. absurd (no_memory c.in-Err-fetch_batch.ensures.only)
 
 -- there is no run
 pub returns-in-Some-clause-writes : goal.returns-in-Some-clause-writes
@@ -76,7 +68,13 @@ returns-in-None-clause-turned g c =
     turned_after c.write_held.result c.args.flusher.now c.fetch_batch.new.flusher c.write_held.new.flusher (c.fetch_batch.ensures.told ∙ c.keep_up.ensures.keeps.batches.told) c.write_held.ensures.turned
 
 pub write_held-requires : goal.write_held-requires
-write_held-requires g c = (omega arith, rw c.in-None.is at c.in-Ok.ensures.held)
+write_held-requires g c = (omega arith, (c.fetch_batch.ensures.at, rw c.in-None.is at c.in-Ok.ensures.held))
+
+pub fetch_batch-requires : goal.fetch_batch-requires
+fetch_batch-requires g c = (omega arith, at_kept_up c.args.writer.now c.args.flusher.now c.keep_up.new.flusher c.keep_up.ensures.keeps c.requires.at)
+
+pub returns-in-Err-clause-at : goal.returns-in-Err-clause-at
+returns-in-Err-clause-at g c = at_kept_up c.args.writer.now c.args.flusher.now c.keep_up.new.flusher c.keep_up.ensures.keeps c.requires.at
 
 pub returns-in-None-clause-fails : goal.returns-in-None-clause-fails
 returns-in-None-clause-fails g c worked =

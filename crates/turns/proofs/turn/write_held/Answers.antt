@@ -1,7 +1,8 @@
-use Rattle.std.proofs.Common.{◌∙◌}
+use Rattle.std.proofs.Common.{◌∙◌, arith}
 use Rattle.recovery.specs.Open.{has_failed}
 use Rattle.flusher.specs.Holding.{store_of}
-use Rattle.turns.proofs.Writing.{writes_refused, writes_written, one_written, turn_failed, turn_unsettled, works_after, fails_ok, fails_err, fails_not, stranger_not_fault}
+use Rattle.turns.proofs.Writing.{writes_refused, writes_written, one_written, turn_failed, works_after, fails_ok, fails_err}
+use Rattle.turns.proofs.Counting.{at_still, at_settled, comes_next}
 use Rattle.turns.specs.declared.turned.Turned.TheVariants.{Settled}
 use Rattle.turns.proofs.turn.write_held.Goals as goal
 
@@ -23,39 +24,34 @@ returns-in-Err-clause-causes g c =
 pub unreachable-requires : goal.unreachable-requires
 unreachable-requires g c = c.requires.held (rw c.in-None.is at c.in-Ok.ensures.published).none.0
 
--- it is written, and the board doesn't settle it
-pub returns-in-Err-settle-clause-writes : goal.returns-in-Err-settle-clause-writes
-returns-in-Err-settle-clause-writes g c =
+-- it is written, and settled
+pub returns-clause-writes : goal.returns-clause-writes
+returns-clause-writes g c =
     let e = c.in-Ok.ensures in
     writes_written g.L.Life.start c.args.flusher.now c.write.new.self c.in-Some.both c.kept.ensures c.kept-in-Some.ensures c.write.ensures.goes
     (works_after c.in-Ok.written (has_failed (store_of c.args.flusher.now)) (has_failed (store_of c.write.new.self)) e.faults.fails) (rw c.in-Some.is at e.published)
 
-pub returns-in-Err-settle-clause-fails : goal.returns-in-Err-settle-clause-fails
-returns-in-Err-settle-clause-fails g c =
-    let old = has_failed (store_of c.args.flusher.now) in
-    let new = has_failed (store_of c.write.new.self) in
-    let refusal = c.refusal.result in
-    fails_not refusal old new (works_after c.in-Ok.written old new c.in-Ok.ensures.faults.fails) (stranger_not_fault refusal (c.refusal.ensures ∙ c.in-Err-settle.ensures.only))
-
-pub returns-in-Err-settle-clause-causes : goal.returns-in-Err-settle-clause-causes
-returns-in-Err-settle-clause-causes g c = λ no_memory no_fault.
-    turn_unsettled c.args.flusher.now c.write.new.self c.refusal.result (c.refusal.ensures ∙ c.in-Err-settle.ensures.only)
-    (one_written c.args.flusher.now c.write.new.self c.in-Some.both (rw c.in-Some.is at c.in-Ok.ensures.published))
-
--- and it is settled
-pub returns-in-Ok-settle-clause-writes : goal.returns-in-Ok-settle-clause-writes
-returns-in-Ok-settle-clause-writes g c =
-    let e = c.in-Ok.ensures in
-    writes_written g.L.Life.start c.args.flusher.now c.write.new.self c.in-Some.both c.kept.ensures c.kept-in-Some.ensures c.write.ensures.goes
-    (works_after c.in-Ok.written (has_failed (store_of c.args.flusher.now)) (has_failed (store_of c.write.new.self)) e.faults.fails) (rw c.in-Some.is at e.published)
-
-pub returns-in-Ok-settle-clause-turned : goal.returns-in-Ok-settle-clause-turned
-returns-in-Ok-settle-clause-turned g c =
+pub returns-clause-turned : goal.returns-clause-turned
+returns-clause-turned g c =
     let done = rw c.in-Some.is at c.in-Ok.ensures.published in
-    (one_written c.args.flusher.now c.write.new.self c.in-Some.both done, c.in-Ok-settle.ensures.settled ∙ done.some.token_is)
+    (one_written c.args.flusher.now c.write.new.self c.in-Some.both done, c.settle-receipt.ensures.settled ∙ done.some.token_is)
 
-pub returns-in-Ok-settle-clause-fails : goal.returns-in-Ok-settle-clause-fails
-returns-in-Ok-settle-clause-fails g c =
+pub returns-clause-fails : goal.returns-clause-fails
+returns-clause-fails g c =
     let old = has_failed (store_of c.args.flusher.now) in
     let new = has_failed (store_of c.write.new.self) in
     fails_ok (Settled _) old new (works_after c.in-Ok.written old new c.in-Ok.ensures.faults.fails)
+
+pub settle-receipt-requires : goal.settle-receipt-requires
+settle-receipt-requires g c =
+    (omega arith, comes_next c.args.writer.now c.args.flusher.now c.write.new.self c.in-Some.both (rw c.in-Some.is at c.in-Ok.ensures.published) c.requires.at)
+
+pub returns-clause-at : goal.returns-clause-at
+returns-clause-at g c =
+    at_settled c.args.writer.now c.settle-receipt.new.writer c.args.flusher.now c.write.new.self c.in-Some.both (rw c.in-Some.is at c.in-Ok.ensures.published) c.settle-receipt.ensures.counts
+    c.requires.at
+
+pub returns-in-Err-clause-at : goal.returns-in-Err-clause-at
+returns-in-Err-clause-at g c =
+    let e = c.in-Err.ensures.refused in
+    at_still c.args.writer.now c.args.flusher.now c.write.new.self e.told e.held c.requires.at

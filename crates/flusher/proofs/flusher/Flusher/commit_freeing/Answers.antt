@@ -1,9 +1,10 @@
-use Rattle.std.proofs.Common.{◌≡◌, ⊎_elim, inl, inr, [], ◌∷◌, ◌++◌, List, length, Some, None, refl, sym, ◌∙◌, ap, append-nil, arith, rules}
+use Rattle.std.proofs.Common.{◌≡◌, ⊎_elim, inl, inr, [], ◌∷◌, ◌++◌, List, length, Some, None, refl, sym, ◌∙◌, ap, append-nil, length-append, subst, ◌≤◌, ◌<◌, ◌^◌, arith}
 use Rattle.revision.specs.Command.{Taken}
 use Rattle.revision.specs.State.{fold}
 use Rattle.world.specs.World.{takens}
 use Rattle.recovery.specs.Found.{commands_of}
 use Rattle.recovery.specs.Moment.{moment_of}
+use Rattle.recovery.specs.Open.{FitsSlot, state_of}
 use Rattle.refusal.specs.declared.Refusal.TheVariants.{StillNeeded}
 use Rattle.view.specs.Published.{Published}
 use Rattle.flusher.proofs.Holdings.{held_in, goes_not, goes_batch, committed_none, committed_one, given_up_one, kept_more, moment_by, next_by, held_made, made_on, no_batch, no_error, held_continues, no_stranger, same_refusal}
@@ -50,7 +51,11 @@ invariant_of-self-in-Ok g c =
     let kept = kept_more _ _ _ before.publisher c.accept.new.self _ _ c.batch.result.now before.kept alone c.accept.ensures names c.in-Ok.ensures.committed.state in
     record {
       kept = kept;
-      few = omega (arith, ap (λ (p : Published). length p.unpublished) c.accept.ensures);
+      few = (
+        omega (arith, ap (λ (p : Published). length p.unpublished) c.accept.ensures),
+        omega (arith, ap (λ (p : Published). length p.unpublished) c.accept.ensures, ap (λ (p : Published). length (commands_of p.unpublished)) c.accept.ensures,
+        length-append c.in-Ok.receipt.batch [], ap length names, ap length same, (before.fits c.in-Some.batch held).some),
+      );
       fits = λ x is. absurd (let none : ⊥ = cc in none);
       placed = λ x is. absurd (let none : ⊥ = cc in none);
       lasts = surely_committed before.begun before.opened.value before.publisher c.accept.new.self before.waiting _ c.in-Some.batch c.batch.result.now c.in-Ok.receipt.batch _ before.store
@@ -78,9 +83,9 @@ commit_freeing-requires g c =
     let held : c.args.self.now.waiting ≡ Some c.in-Some.batch = cc in
     let same : c.batch.result.now ≡ c.in-Some.batch.commands = cc in
     record {
-      some = search rules;
-      short = search rules;
-      fits = search rules;
+      some = subst (λ (b : List Taken). 1 ≤ length b) (sym same) (c.args.self.now.fits c.in-Some.batch held).some;
+      short = subst (λ (b : List Taken). length b < 2 ^ 32) (sym same) (c.args.self.now.fits c.in-Some.batch held).short;
+      fits = subst (λ (b : List Taken). FitsSlot (state_of c.args.self.now.store) b) (sym same) (c.args.self.now.fits c.in-Some.batch held).fits;
       made = held_made g.L.Life.start c.args.self.now.begun c.args.self.now.store.state c.args.self.now.publisher.told c.told-in-Some.result.now c.args.self.now.publisher.unpublished
           c.in-Some.batch.commands c.batch.result.now c.made-made.result.now c.facts.ensures c.told-in-Some.ensures same c.args.self.now.kept
           (c.args.self.now.fits c.in-Some.batch held).alone c.made-made.ensures;

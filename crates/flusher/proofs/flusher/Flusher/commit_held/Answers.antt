@@ -1,10 +1,11 @@
-use Rattle.std.proofs.Common.{◌≡◌, [], ◌∷◌, ◌++◌, List, length, Some, None, refl, sym, ◌∙◌, ap, append-nil, arith, rules}
+use Rattle.std.proofs.Common.{◌≡◌, [], ◌∷◌, ◌++◌, List, length, Some, None, refl, sym, ◌∙◌, ap, append-nil, length-append, subst, ◌≤◌, ◌<◌, ◌^◌, arith}
 use Rattle.std.proofs.lemmas.Bool.{false≢true}
 use Rattle.revision.specs.Command.{Taken}
 use Rattle.revision.specs.State.{fold}
 use Rattle.world.specs.World.{takens}
 use Rattle.recovery.specs.Found.{commands_of}
 use Rattle.recovery.specs.Moment.{moment_of}
+use Rattle.recovery.specs.Open.{FitsSlot, state_of}
 use Rattle.refusal.specs.declared.Refusal.TheVariants.{JournalFull}
 use Rattle.view.specs.Published.{Published}
 use Rattle.flusher.proofs.Holdings.{held_in, goes_not, goes_batch, committed_none, committed_one, kept_more, moment_by, next_by, held_made, made_on, no_batch, held_continues, not_stranger, same_refusal}
@@ -49,7 +50,11 @@ invariant_of-self-in-Ok g c =
     let kept = kept_more _ _ _ before.publisher c.accept.new.self _ _ c.batch.result.now before.kept alone c.accept.ensures names c.in-Ok.ensures.committed.state in
     record {
       kept = kept;
-      few = omega (arith, ap (λ (p : Published). length p.unpublished) c.accept.ensures);
+      few = (
+        omega (arith, ap (λ (p : Published). length p.unpublished) c.accept.ensures),
+        omega (arith, ap (λ (p : Published). length p.unpublished) c.accept.ensures, ap (λ (p : Published). length (commands_of p.unpublished)) c.accept.ensures,
+        length-append c.in-Ok.receipt.batch [], ap length names, ap length same, (before.fits c.in-Some.held held).some),
+      );
       fits = λ x is. absurd (let none : ⊥ = cc in none);
       placed = λ x is. absurd (let none : ⊥ = cc in none);
       lasts = surely_committed before.begun before.opened.value before.publisher c.accept.new.self before.waiting _ c.in-Some.held c.batch.result.now c.in-Ok.receipt.batch _ before.store
@@ -77,9 +82,9 @@ commit-requires g c =
     let held : c.args.self.now.waiting ≡ Some c.in-Some.held = cc in
     let same : c.batch.result.now ≡ c.in-Some.held.commands = cc in
     record {
-      some = search rules;
-      short = search rules;
-      fits = search rules;
+      some = subst (λ (b : List Taken). 1 ≤ length b) (sym same) (c.args.self.now.fits c.in-Some.held held).some;
+      short = subst (λ (b : List Taken). length b < 2 ^ 32) (sym same) (c.args.self.now.fits c.in-Some.held held).short;
+      fits = subst (λ (b : List Taken). FitsSlot (state_of c.args.self.now.store) b) (sym same) (c.args.self.now.fits c.in-Some.held held).fits;
       made = held_made g.L.Life.start c.args.self.now.begun c.args.self.now.store.state c.args.self.now.publisher.told c.told-in-Some.result.now c.args.self.now.publisher.unpublished
           c.in-Some.held.commands c.batch.result.now c.made-made.result.now c.facts.ensures c.told-in-Some.ensures same c.args.self.now.kept
           (c.args.self.now.fits c.in-Some.held held).alone c.made-made.ensures;

@@ -36,7 +36,7 @@ pub returns-in-Ok-clause-published : goal.returns-in-Ok-clause-published
 returns-in-Ok-clause-published g c =
     let e = c.in-Ok.ensures in
     published_as c.to_settle.result c.in-Ok.published c.to_settle.ensures
-    (published_behind c.in-Ok.published c.in_default.ensures.committed refl refl refl e.batch e.told e.shown e.none)
+    (published_behind c.in-Ok.published c.in_default.ensures.committed refl refl refl e.batch e.told e.shown e.none c.commit_freeing.new.self.few)
 
 -- a commit that was Ok had no batch that finds no room where too few slots are open
 pub returns-in-Ok-clause-few : goal.returns-in-Ok-clause-few

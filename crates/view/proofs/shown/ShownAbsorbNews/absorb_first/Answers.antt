@@ -9,6 +9,6 @@ returns-clause-absorbed g c =
 -- this copy then shows the batch too
 pub invariant_of-self-2 : goal.invariant_of-self-2
 invariant_of-self-2 g c =
-    shows_after g.L.Life.book g.L.Life.start (record { state = c.self.inside.state; mark = c.self.inside.mark }) c.operation.inside.batch c.operation.inside.made.items
+    shows_after g.L.Life.book.logs g.L.Life.start (record { state = c.self.inside.state; mark = c.self.inside.mark }) c.operation.inside.batch c.operation.inside.made.items
     c.operation.inside.before c.operation.inside.mark c.self.invariant c.operation.invariant (search rules) c.absorb_all-absorbed.new.self c.copy-3.result (search rules) (search rules)
     (search rules)
