@@ -95,6 +95,7 @@
 
 mod ahead;
 mod board;
+mod cause;
 mod found;
 mod hub;
 mod locked;
@@ -107,6 +108,7 @@ mod waiting;
 
 pub use ahead::Ahead;
 pub use board::Board;
+pub use cause::Cause;
 pub use found::Found;
 pub use hub::Hub;
 pub use locked::{Closer, Writer};
