@@ -19,7 +19,7 @@ use Rattle.recovery.specs.Moment.{Receipt}
 use Rattle.recovery.proofs.CallerLemmas.{goes_none, goes_map, goes_on, found_now, found_as, found_open}
 use Rattle.flusher.specs.declared.flusher.Flusher.{Flusher}
 use Rattle.flusher.specs.Batches.{IsBeginning}
-use Rattle.flusher.specs.Holding.{store_of, told_of, committed_of, waiting_of, opened_of, given_to}
+use Rattle.flusher.specs.Holding.{HasNoRoom, store_of, told_of, committed_of, waiting_of, opened_of, given_to}
 use Rattle.flusher.specs.Upkeep.{IsKeptUp, KeepsUp}
 use Rattle.flusher.specs.Writing.{HasPublished, IsUnpublished, IsWriteRefused}
 use Rattle.flusher.proofs.CallerLemmas.{commands-append, fewer, longer, within_write, no_error}
@@ -319,6 +319,10 @@ pub fails_err : {S T : Type 0} (refusal : Refusal) (old new : Bool) → (old ≡
     → new ≡ true ↔ IsErrOf {T = T} (Err refusal) Fault
 fails_err refusal old new fails works = (λ failed. same_refusal refusal Fault ((fails works).0 failed), λ is. (fails works).1 (same_refusal refusal Fault is))
 
+-- the device has failed where `Fault` is told
+pub failed_at : {S : Type 0} (refusal : Refusal) (old new : Bool) → old ≡ false → (old ≡ false → (new ≡ true ↔ IsErrOf {T = S} (Err refusal) Fault)) → refusal ≡ Fault → new ≡ true
+failed_at refusal old new works fails is = (fails works).1 (same_refusal refusal Fault is)
+
 -- the same refusal, of another answer
 pub fails_same : {S T : Type 0} (one two : Refusal) (old new : Bool) → one ≡ two → (old ≡ false → (new ≡ true ↔ IsErrOf {T = S} (Err two) Fault)) → old ≡ false
     → new ≡ true ↔ IsErrOf {T = T} (Err one) Fault
@@ -460,6 +464,24 @@ module _ {D L : Type 0} {disk : Ghosts D} where
   pub one_written : (old new : Flusher D L disk) (both : Receipt D × List (List Taken)) → HasPublished (Some both) old new → IsOneMore old new
   one_written old new both done =
       record { batch = both.0.batch; told = done.some.published ∙ ap (λ (l : List (List Taken)). told_of old ++ l) done.some.batch }
+
+  -- a write that is refused, but not out of memory and not by the device, had no room
+  pub no_room_for : (old new : Flusher D L disk) (refusal : Refusal) → IsWriteRefused refusal old new → refusal ≢ NoMemory → refusal ≢ Fault → HasNoRoom old
+  no_room_for old new refusal why no_memory no_fault = by_case why.only
+    where
+      by_case : IsOneOf refusal (JournalFull ∷ StillNeeded ∷ NoMemory ∷ Fault ∷ []) → HasNoRoom old
+      by_case (inl is_full) = (why.full is_full).0
+      by_case (inr (inl is_needed)) = (why.needed is_needed).0
+      by_case (inr (inr (inl is_memory))) = absurd (no_memory is_memory)
+      by_case (inr (inr (inr is_fault))) = absurd (no_fault is_fault)
+
+  -- and it is refused as full
+  pub full_for_good : (refusal : Refusal) → IsOneOf refusal (JournalFull ∷ StillNeeded ∷ NoMemory ∷ Fault ∷ []) → refusal ≢ NoMemory → refusal ≢ Fault
+      → (refusal ≡ JournalFull) ⊎ (refusal ≡ StillNeeded)
+  full_for_good refusal (inl is_full) no_memory no_fault = inl is_full
+  full_for_good refusal (inr (inl is_needed)) no_memory no_fault = inr is_needed
+  full_for_good refusal (inr (inr (inl is_memory))) no_memory no_fault = absurd (no_memory is_memory)
+  full_for_good refusal (inr (inr (inr is_fault))) no_memory no_fault = absurd (no_fault is_fault)
 
   -- why a turn fails whose write is refused
   pub turn_failed : (old new : Flusher D L disk) (refusal : Refusal) → IsUnpublished refusal old new → IsWriteRefused refusal old new

@@ -92,7 +92,7 @@ fn try_turn<D: Disk, L: Life, R: Wait, G: Gate>(
     if flusher.has_failed() {
         return Err(Stop::by_cause(flusher.failed()));
     }
-    if upkeep.keep_up(rt, alloc, flusher).is_err() {
+    if let Err(_) = upkeep.keep_up(rt, alloc, flusher) {
         return Err(Stop::by_cause(flusher.failed()));
     }
     let answer = match fetch_batch(rt, alloc, flusher, hub, writer) {

@@ -1,7 +1,7 @@
-use Rattle.std.proofs.Common.{◌∙◌, ap, arith}
+use Rattle.std.proofs.Common.{◌∙◌, ap, sym, arith}
 use Rattle.recovery.specs.Open.{has_failed}
 use Rattle.flusher.specs.Holding.{store_of}
-use Rattle.turns.proofs.Writing.{kept_up_same, writes_kept_up, writes_on, works_after, fails_ok, fails_err, fails_not, memory_not_fault, turned_after, causes_after}
+use Rattle.turns.proofs.Writing.{kept_up_same, writes_none, writes_kept_up, failed_at, fails_same, writes_on, works_after, fails_ok, fails_not, memory_not_fault, turned_after, causes_after}
 use Rattle.turns.proofs.Counting.{at_kept_up}
 use Rattle.turns.specs.declared.turned.Turned.TheVariants.{Nothing}
 use Rattle.turns.proofs.turn.try_turn.Goals as goal
@@ -12,7 +12,7 @@ returns-then-has_failed-clause-writes g c = writes_none g.L.Life.start c.args.fl
 
 -- it failed at a milestone
 pub failed-in-Err-requires : goal.failed-in-Err-requires
-failed-in-Err-requires g c = failed_at c.in-Err.refusal (has_failed (store_of c.args.flusher.now)) (has_failed (store_of c.keep_up.new.flusher)) (search rules) c.in-Err.ensures.fails c.in-Err.ensures.only
+failed-in-Err-requires g c = failed_at c.in-Err.field-0 (has_failed (store_of c.args.flusher.now)) (has_failed (store_of c.keep_up.new.flusher)) (search rules) c.in-Err.ensures.fails c.in-Err.ensures.only
 
 pub returns-in-Err-clause-writes : goal.returns-in-Err-clause-writes
 returns-in-Err-clause-writes g c =
@@ -21,14 +21,11 @@ returns-in-Err-clause-writes g c =
 
 pub returns-in-Err-clause-fails : goal.returns-in-Err-clause-fails
 returns-in-Err-clause-fails g c =
-    fails_same c.by_cause-in-Err.result c.in-Err.refusal (has_failed (store_of c.args.flusher.now)) (has_failed (store_of c.keep_up.new.flusher))
+    fails_same c.by_cause-in-Err.result c.in-Err.field-0 (has_failed (store_of c.args.flusher.now)) (has_failed (store_of c.keep_up.new.flusher))
     (c.by_cause-in-Err.ensures ∙ c.failed-in-Err.ensures ∙ sym c.in-Err.ensures.only) c.in-Err.ensures.fails
 
 pub returns-in-Err-clause-causes : goal.returns-in-Err-clause-causes
 returns-in-Err-clause-causes g c = λ no_memory no_fault. absurd (no_fault (c.by_cause-in-Err.ensures ∙ c.failed-in-Err.ensures))
-
-pub returns-in-Err-clause-at : goal.returns-in-Err-clause-at
-returns-in-Err-clause-at g c = at_kept_up c.args.writer.now c.args.flusher.now c.keep_up.new.flusher c.keep_up.ensures.keeps c.requires.at
 
 -- memory is wanted for a run
 pub returns-in-Err-fetch_batch-clause-writes : goal.returns-in-Err-fetch_batch-clause-writes
@@ -42,7 +39,7 @@ pub returns-in-Err-fetch_batch-clause-fails : goal.returns-in-Err-fetch_batch-cl
 returns-in-Err-fetch_batch-clause-fails g c =
     let old = has_failed (store_of c.args.flusher.now) in
     let works = works_after c.in_default.field-0 old (has_failed (store_of c.keep_up.new.flusher)) c.in_default.ensures.fails in
-    let refusal = c.in-Err-fetch_batch.refusal in
+    let refusal = c.in-Err-fetch_batch.field-0 in
     fails_not refusal old (has_failed (store_of c.fetch_batch.new.flusher)) (λ worked. ap has_failed c.fetch_batch.ensures.store ∙ works worked) (memory_not_fault refusal c.in-Err-fetch_batch.ensures.only)
 
 pub returns-in-Err-fetch_batch-clause-causes : goal.returns-in-Err-fetch_batch-clause-causes

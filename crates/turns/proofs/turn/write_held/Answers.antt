@@ -1,8 +1,10 @@
-use Rattle.std.proofs.Common.{◌∙◌, arith}
+use Rattle.std.proofs.Common.{◌≢◌, ◌∙◌, sym, subst, arith}
+use Rattle.refusal.specs.declared.Refusal.TheVariants.{NoMemory, Fault}
 use Rattle.recovery.specs.Open.{has_failed}
 use Rattle.flusher.specs.Holding.{store_of}
-use Rattle.turns.proofs.Writing.{writes_refused, writes_written, one_written, turn_failed, works_after, fails_ok, fails_err}
+use Rattle.turns.proofs.Writing.{writes_refused, writes_written, one_written, turn_failed, works_after, fails_ok, fails_same}
 use Rattle.turns.proofs.Counting.{at_still, at_settled, comes_next}
+use Rattle.turns.specs.Writing.{IsTurnFailed}
 use Rattle.turns.specs.declared.turned.Turned.TheVariants.{Settled}
 use Rattle.turns.proofs.turn.write_held.Goals as goal
 
@@ -13,12 +15,14 @@ returns-in-Err-clause-writes g c =
     writes_refused g.L.Life.start c.args.flusher.now c.write.new.self c.in-Err.refusal c.kept.ensures c.write.ensures.goes c.kept-in-Err.ensures e.refused e.why e.faults.fails
 
 pub returns-in-Err-clause-fails : goal.returns-in-Err-clause-fails
-returns-in-Err-clause-fails g c = fails_err c.in-Err.refusal (has_failed (store_of c.args.flusher.now)) (has_failed (store_of c.write.new.self)) c.in-Err.ensures.faults.fails
+returns-in-Err-clause-fails g c =
+    fails_same c.stop_for.result c.in-Err.refusal (has_failed (store_of c.args.flusher.now)) (has_failed (store_of c.write.new.self)) c.stop_for.ensures c.in-Err.ensures.faults.fails
 
 pub returns-in-Err-clause-causes : goal.returns-in-Err-clause-causes
 returns-in-Err-clause-causes g c =
     let e = c.in-Err.ensures in
-    turn_failed c.args.flusher.now c.write.new.self c.in-Err.refusal e.refused e.why
+    subst (λ r. r ≢ NoMemory → r ≢ Fault → IsTurnFailed c.args.flusher.now r c.write.new.self) (sym c.stop_for.ensures)
+    (turn_failed c.args.flusher.now c.write.new.self c.in-Err.refusal e.refused e.why)
 
 -- a batch is held, so the write doesn't answer that none was
 pub unreachable-requires : goal.unreachable-requires
