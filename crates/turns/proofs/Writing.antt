@@ -321,7 +321,7 @@ fails_err refusal old new fails works = (λ failed. same_refusal refusal Fault (
 
 -- the device has failed where `Fault` is told
 pub failed_at : {S : Type 0} (refusal : Refusal) (old new : Bool) → old ≡ false → (old ≡ false → (new ≡ true ↔ IsErrOf {T = S} (Err refusal) Fault)) → refusal ≡ Fault → new ≡ true
-failed_at refusal old new works fails is = (fails works).1 (same_refusal refusal Fault is)
+failed_at refusal old new works fails is = (fails works).1 (ap Err is)
 
 -- the same refusal, of another answer
 pub fails_same : {S T : Type 0} (one two : Refusal) (old new : Bool) → one ≡ two → (old ≡ false → (new ≡ true ↔ IsErrOf {T = S} (Err two) Fault)) → old ≡ false
@@ -474,14 +474,6 @@ module _ {D L : Type 0} {disk : Ghosts D} where
       by_case (inr (inl is_needed)) = (why.needed is_needed).0
       by_case (inr (inr (inl is_memory))) = absurd (no_memory is_memory)
       by_case (inr (inr (inr is_fault))) = absurd (no_fault is_fault)
-
-  -- and it is refused as full
-  pub full_for_good : (refusal : Refusal) → IsOneOf refusal (JournalFull ∷ StillNeeded ∷ NoMemory ∷ Fault ∷ []) → refusal ≢ NoMemory → refusal ≢ Fault
-      → (refusal ≡ JournalFull) ⊎ (refusal ≡ StillNeeded)
-  full_for_good refusal (inl is_full) no_memory no_fault = inl is_full
-  full_for_good refusal (inr (inl is_needed)) no_memory no_fault = inr is_needed
-  full_for_good refusal (inr (inr (inl is_memory))) no_memory no_fault = absurd (no_memory is_memory)
-  full_for_good refusal (inr (inr (inr is_fault))) no_memory no_fault = absurd (no_fault is_fault)
 
   -- why a turn fails whose write is refused
   pub turn_failed : (old new : Flusher D L disk) (refusal : Refusal) → IsUnpublished refusal old new → IsWriteRefused refusal old new

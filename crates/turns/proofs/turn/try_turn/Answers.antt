@@ -1,4 +1,4 @@
-use Rattle.std.proofs.Common.{◌∙◌, ap, sym, arith}
+use Rattle.std.proofs.Common.{◌∙◌, ap, sym, arith, rules}
 use Rattle.recovery.specs.Open.{has_failed}
 use Rattle.flusher.specs.Holding.{store_of}
 use Rattle.turns.proofs.Writing.{kept_up_same, writes_none, writes_kept_up, failed_at, fails_same, writes_on, works_after, fails_ok, fails_not, memory_not_fault, turned_after, causes_after}
