@@ -9,7 +9,8 @@ use Rattle.revision.specs.State.{fold}
 use Rattle.recovery.specs.Found.{commands_of}
 use Rattle.recovery.specs.Freed.{HasFew}
 use Rattle.recovery.specs.Moment.{Receipt}
-use Rattle.recovery.specs.Open.{IsOpen, IsUnchanged, IsFreedNow, state_of, has_failed}
+use Rattle.recovery.specs.Open.{IsOpen, IsUnchanged, IsFreedNow, state_of, has_failed, has_room}
+use Rattle.recovery.specs.declared.store.Store.{Store}
 use Rattle.flusher.specs.declared.flusher.Flusher.{Flusher}
 use Rattle.flusher.specs.Flushers.{IsWritten, IsUsedUp, IsHeldCommitted, IsGivenUp}
 use Rattle.flusher.specs.Holding.{KeepsBatches, HasNoRoom, store_of, told_of, committed_of, waiting_of, under_way, opened_of}
@@ -75,6 +76,12 @@ module _ {D L : Type 0} {disk : Ghosts D} where
         → HasNoRoom old × HasNoRoom new × ((is_open : IsOpen (store_of old)) → IsFreedNow (store_of old) is_open (store_of new))
     pub needed : refusal ≡ StillNeeded → HasNoRoom old × (IsOpen (store_of old) → HasFew (store_of old) × IsUnchanged (store_of old) (store_of new))
     pub used_up : (refusal ≡ JournalFull) ⊎ (refusal ≡ StillNeeded) → IsUsedUp (store_of old)
+
+  -- The batch that is held had no room in the store as it was then, which is told so, and had opened its last segment.
+  pub record IsFullForGood (refusal : Refusal) (then : Store D disk) (flusher : Flusher D L disk) : Type 0 where
+    pub told : (refusal ≡ JournalFull) ⊎ (refusal ≡ StillNeeded)
+    pub no_room : (batch : List Taken) × (waiting_of flusher ≡ batch ∷ []) × (has_room then batch ≡ false)
+    pub last : IsUsedUp then
 
   -- A batch was held, and is held still, since its commit is refused, which frees no segment: it has no room, memory ran out, or the device
   -- failed. All but the last leaves the store unchanged.

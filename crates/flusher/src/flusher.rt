@@ -1,5 +1,5 @@
 //! The flusher.
-ghost use Rattle.std.specs.Prelude.{◌≡◌, ◌⊎◌, ◌<◌, ◌≤◌, ◌^◌, [], ◌∷◌, ◌++◌, true, false, Some, None, length, OnOk, IfOk, IfErr, IfSome, IsErrOf};
+ghost use Rattle.std.specs.Prelude.{◌≡◌, ◌<◌, ◌≤◌, ◌^◌, [], ◌∷◌, ◌++◌, true, false, Some, None, length, OnOk, IfOk, IfErr, IfSome, IsErrOf};
 ghost use Rattle.std.specs.Option.{ForSome};
 ghost use mathlib.Core.List.{IsPrefix};
 ghost use Rattle.revision.specs.State.{fold};
@@ -42,11 +42,11 @@ pub struct Flusher<D: Disk, L: Life> {
 
 impl<D: Disk, L: Life> Flusher<D, L> {
     ghost use Rattle.recovery.specs.Open.{IsWithOrWithout, has_failed};
-    ghost use Rattle.flusher.specs.Flushers.{IsUsedUp, cap_of};
+    ghost use Rattle.flusher.specs.Flushers.{cap_of};
     ghost use Rattle.recovery.specs.Freed.{HasFew, SyncsAtMost};
     ghost use Rattle.recovery.specs.Goes.{Goes};
     ghost use Rattle.flusher.specs.Holding.{KeepsBatches, HasNoRoom, LastsSince, store_of, told_of, committed_of, waiting_of, moments_of, opened_of};
-    ghost use Rattle.flusher.specs.Writing.{HoldsNow, HasCommitted, HasPublished, LeavesHeld, IsUnpublished, IsWriteRefused, IsHeldBack, TellsFaults};
+    ghost use Rattle.flusher.specs.Writing.{HoldsNow, HasCommitted, HasPublished, LeavesHeld, IsUnpublished, IsWriteRefused, IsFullForGood, IsHeldBack, TellsFaults};
 
     // A flusher that has published nothing yet.
     #[tactic(auto, using(crate::proofs::Lasting::surely_begun))]
@@ -244,14 +244,20 @@ impl<D: Disk, L: Life> Flusher<D, L> {
         Cause::failed(self.publisher.log(), &self.store)
     }
 
-    /// Why its store takes no batch any more: one that it held at a moment had no room then, and the last segment was opened.
-    pub fn full(&self, before: &Snapshot<Flusher<D, L>>, refusal: Refusal) -> Cause<L>
-        requires full { (refusal ≡ Refusal.JournalFull) ⊎ (refusal ≡ Refusal.StillNeeded) }
-        requires room { HasNoRoom before.now.value }
-        requires last { IsUsedUp (store_of before.now.value) }
+    /// The store as it is now, for clauses. It takes no memory.
+    pub fn snapshot(&self) -> Snapshot<Store<D>>
+        ensures { result.value ≡ store_of self.now }
+    {
+        Snapshot::of(&self.store)
+    }
+
+    /// Why its store takes no batch any more: as it was then, the batch that is held had no room in it, and the last segment that there can be
+    /// was opened.
+    pub fn full(&self, then: &Snapshot<Store<D>>, refusal: Refusal) -> Cause<L>
+        requires { IsFullForGood refusal then.now.value self.now }
         ensures { result ≡ refusal }
     {
-        let _ = before;
+        let _ = then;
         Cause::full(self.publisher.log(), refusal)
     }
 

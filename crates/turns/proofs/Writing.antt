@@ -21,7 +21,7 @@ use Rattle.flusher.specs.declared.flusher.Flusher.{Flusher}
 use Rattle.flusher.specs.Batches.{IsBeginning}
 use Rattle.flusher.specs.Holding.{HasNoRoom, store_of, told_of, committed_of, waiting_of, opened_of, given_to}
 use Rattle.flusher.specs.Upkeep.{IsKeptUp, KeepsUp}
-use Rattle.flusher.specs.Writing.{HasPublished, IsUnpublished, IsWriteRefused}
+use Rattle.flusher.specs.Writing.{HasPublished, IsUnpublished, IsWriteRefused, IsFullForGood}
 use Rattle.flusher.proofs.CallerLemmas.{commands-append, fewer, longer, within_write, no_error}
 use Rattle.turns.specs.Writing.{WasAt, IsUpkeep, IsFullFor, IsOneMore, IsTurnFailed, told_count, Writes}
 use Rattle.turns.specs.Turning.{HasTurned}
@@ -466,12 +466,20 @@ module _ {D L : Type 0} {disk : Ghosts D} where
       record { batch = both.0.batch; told = done.some.published ∙ ap (λ (l : List (List Taken)). told_of old ++ l) done.some.batch }
 
   -- a write that is refused, but not out of memory and not by the device, had no room
-  pub no_room_for : (old new : Flusher D L disk) (refusal : Refusal) → IsWriteRefused refusal old new → refusal ≢ NoMemory → refusal ≢ Fault → HasNoRoom old
-  no_room_for old new refusal why no_memory no_fault = by_case why.only
+  pub full_for_good : (old new : Flusher D L disk) (refusal : Refusal) → IsUnpublished refusal old new → IsWriteRefused refusal old new
+      → refusal ≢ NoMemory → refusal ≢ Fault → IsFullForGood refusal (store_of old) new
+  full_for_good old new refusal left why no_memory no_fault = by_case why.only
     where
-      by_case : IsOneOf refusal (JournalFull ∷ StillNeeded ∷ NoMemory ∷ Fault ∷ []) → HasNoRoom old
-      by_case (inl is_full) = (why.full is_full).0
-      by_case (inr (inl is_needed)) = (why.needed is_needed).0
+      full : (refusal ≡ JournalFull) ⊎ (refusal ≡ StillNeeded) → HasNoRoom old → IsFullForGood refusal (store_of old) new
+      full told none = record {
+        told = told;
+        no_room = (none.0, ((left.still no_memory).batches.waiting ∙ none.1, none.2));
+        last = why.used_up told;
+      }
+
+      by_case : IsOneOf refusal (JournalFull ∷ StillNeeded ∷ NoMemory ∷ Fault ∷ []) → IsFullForGood refusal (store_of old) new
+      by_case (inl is_full) = full (inl is_full) (why.full is_full).0
+      by_case (inr (inl is_needed)) = full (inr is_needed) (why.needed is_needed).0
       by_case (inr (inr (inl is_memory))) = absurd (no_memory is_memory)
       by_case (inr (inr (inr is_fault))) = absurd (no_fault is_fault)
 

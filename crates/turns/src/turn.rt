@@ -6,7 +6,7 @@ ghost use Rattle.recovery.specs.Open.{state_of, has_failed};
 ghost use Rattle.flusher.specs.Flushers.{cap_of};
 ghost use Rattle.flusher.specs.Holding.{store_of, told_of, committed_of, waiting_of};
 ghost use Rattle.hub.specs.Runs.{counts_taken};
-ghost use Rattle.flusher.specs.Writing.{IsWriteRefused};
+ghost use Rattle.flusher.specs.Writing.{IsFullForGood};
 ghost use Rattle.turns.specs.Counting.{IsAt};
 ghost use Rattle.turns.specs.Writing.{Writes, IsTurnFailed, IsEndedBy};
 ghost use Rattle.turns.specs.Turning.{HasTurned};
@@ -19,6 +19,7 @@ use disk::Disk;
 use flusher::{Flusher, Gate};
 use hub::{Failed, Hub, Idle, Nothing, Run, Writer};
 use published::Life;
+use recovery::Store;
 use refusal::Refusal;
 use std::alloc::Global;
 use std::snapshot::Snapshot;
@@ -192,12 +193,12 @@ fn write_held<D: Disk, L: Life, R: Wait, G: Gate>(
         → IsTurnFailed flusher.old e flusher.new) }
 {
     flusher.kept();
-    let before = Snapshot::of(&*flusher);
+    let then = flusher.snapshot();
     let written = match flusher.write(rt, alloc, gate) {
         Ok(written) => written,
         Err(refusal) => {
             flusher.kept();
-            return Err(stop_for(flusher, &before, refusal));
+            return Err(stop_for(flusher, &then, refusal));
         }
     };
     match written {
@@ -214,10 +215,10 @@ fn write_held<D: Disk, L: Life, R: Wait, G: Gate>(
 // What stops a turn whose write was refused so.
 fn stop_for<D: Disk, L: Life>(
     flusher: &Flusher<D, L>,
-    before: &Snapshot<Flusher<D, L>>,
+    then: &Snapshot<Store<D>>,
     refusal: Refusal,
 ) -> Stop<L>
-    requires why { IsWriteRefused refusal before.now.value flusher.now }
+    requires full { refusal ≢ Refusal.NoMemory → refusal ≢ Refusal.Fault → IsFullForGood refusal then.now.value flusher.now }
     requires fault { refusal ≡ Refusal.Fault → has_failed (store_of flusher.now) ≡ true }
     ensures { result ≡ refusal }
 {
@@ -227,7 +228,7 @@ fn stop_for<D: Disk, L: Life>(
     if refusal == Refusal::Fault {
         return Stop::by_cause(flusher.failed());
     }
-    Stop::by_cause(flusher.full(before, refusal))
+    Stop::by_cause(flusher.full(then, refusal))
 }
 
 /// Makes turns until the hub is ended and all that was ordered is settled, or until a turn fails the board. After a turn it waits where

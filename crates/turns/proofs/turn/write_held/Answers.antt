@@ -24,6 +24,12 @@ returns-in-Err-clause-causes g c =
     subst (λ r. r ≢ NoMemory → r ≢ Fault → IsTurnFailed c.args.flusher.now r c.write.new.self) (sym c.stop_for.ensures)
     (turn_failed c.args.flusher.now c.write.new.self c.in-Err.refusal e.refused e.why)
 
+pub stop_for-requires-clause-full : goal.stop_for-requires-clause-full
+stop_for-requires-clause-full g c =
+    let e = c.in-Err.ensures in
+    subst (λ s. NoMemory ≢ c.in-Err.refusal → IsFullForGood c.in-Err.refusal s c.write.new.self) (sym c.snapshot.ensures)
+    (full_for_good c.args.flusher.now c.write.new.self c.in-Err.refusal e.refused e.why)
+
 -- a batch is held, so the write doesn't answer that none was
 pub unreachable-requires : goal.unreachable-requires
 unreachable-requires g c = c.requires.held (rw c.in-None.is at c.in-Ok.ensures.published).none.0
