@@ -1,1 +1,3 @@
+mod Answering
 mod Streams
+pub mod CallerLemmas

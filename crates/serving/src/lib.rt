@@ -40,8 +40,13 @@
 
 mod failure;
 mod input;
+mod lines;
+mod pieces;
 mod serve;
+mod streams;
 
 pub use failure::ServingError;
 pub use input::{Input, InputError, InputStream};
-pub use serve::serve_session;
+pub use pieces::Pieces;
+pub use serve::serve_pieces;
+pub use streams::serve_session;

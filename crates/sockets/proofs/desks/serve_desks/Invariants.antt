@@ -1,4 +1,4 @@
-use Rattle.sockets.proofs.serving.serve_desks.Given as goal
+use Rattle.sockets.proofs.desks.serve_desks.Given as goal
 
 -- the ledger of those who come
 abbrev pub ghosts-serve_counted : goal.ghosts-serve_counted

@@ -3,7 +3,7 @@ use Rattle.std.specs.Prelude.{map, vec_items, vec_len, vec_capacity}
 use Rattle.std.specs.Vec.Iter.{into_iter_items, into_iter_len}
 use Rattle.sockets.specs.Attendance.{count_all, lists_of}
 use Rattle.sockets.specs.Door.{accounted_for, taken_in}
-use Rattle.sockets.proofs.serving.part_all.Given as goal
+use Rattle.sockets.proofs.desks.part_all.Given as goal
 
 -- the desks so far are apart from their visits, which are accounted for; the iterator has the others, and there is room for them
 abbrev pub invariant-loop-attendant : goal.invariant-loop-attendant

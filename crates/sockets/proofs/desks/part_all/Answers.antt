@@ -5,7 +5,7 @@ use Rattle.std.specs.Vec.Iter.{into_iter_items}
 use Rattle.sockets.specs.declared.raw.Visit.{Visit}
 use Rattle.sockets.specs.declared.raw.visits.Visits.{Visits}
 use Rattle.sockets.specs.Attendance.{count_all, lists_of}
-use Rattle.sockets.proofs.serving.part_all.Goals as goal
+use Rattle.sockets.proofs.desks.part_all.Goals as goal
 
 -- one more at the end of a list, by a function of each
 mapped : {A B : Type 0} (f : A → B) (front : List A) (all : List B) (one : A) (more : List B) → all ≡ map f front → more ≡ all ++ f one ∷ []

@@ -3,7 +3,7 @@ use Rattle.std.specs.Prelude.{map, vec_items, vec_len, vec_capacity}
 use Rattle.sockets.specs.Attendance.{visits_of}
 use Rattle.sockets.specs.Desks.{HaveServed}
 use Rattle.sockets.proofs.Ended.{as_many_attended, served_apart}
-use Rattle.sockets.proofs.serving.serve_counted.Goals as goal
+use Rattle.sockets.proofs.desks.serve_counted.Goals as goal
 
 pub end-requires-clause-room : goal.end-requires-clause-room
 end-requires-clause-room g c =

@@ -1,7 +1,7 @@
 use Rattle.std.proofs.Common.{◌≡◌, arith}
 use Rattle.std.specs.Prelude.{vec_items}
 use Rattle.sockets.proofs.Ended.{as_many_begun, all_attended}
-use Rattle.sockets.proofs.serving.fn.serve_in.scope.Goals as goal
+use Rattle.sockets.proofs.desks.fn.serve_in.scope.Goals as goal
 
 pub end_all-requires : goal.end_all-requires
 end_all-requires g c =
