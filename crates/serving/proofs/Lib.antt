@@ -1,3 +1,3 @@
 mod Answering
-mod Streams
+mod OfLines
 pub mod CallerLemmas

@@ -36,15 +36,7 @@ pub fn serve_pieces<R: Wait, K: Desk, I, P: Pieces<I>, O: Output>(
 {
     'pieces: for _ in rt.forever() {
         match pieces.next(input, session) {
-            Ok(is_cut) => answer(
-                alloc,
-                session,
-                desk,
-                shelf,
-                pieces.piece(),
-                is_cut,
-                output,
-            )?,
+            Ok(is_cut) => answer(alloc, session, desk, shelf, pieces.piece(), is_cut, output)?,
             Err(why) => return Ok(why),
         }
     }

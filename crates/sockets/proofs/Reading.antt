@@ -48,9 +48,11 @@ module _ {D E : Type 0} (does : D → Exchange → D → Type 0) (p q : ReadPiec
   -- all that was read is answered
   pub answered_to_end : (r : Result Parting E) (new : Session) → IfOk r (λ why. AnswersTaken does (EndsBehind GivesRead Ends why p i q j) beginning new d e o u)
       → OnOk r (IsAnswered does d e (reads_of i) (reads_of j) o u)
-  answered_to_end (Ok why) new answers =
-      (new, taken_so does (EndsBehind GivesRead Ends why p i q j) (WereRead (reads_of i) (reads_of j)) (λ pieces all. (reads_ended why pieces p q i j all).0)
-      beginning new d e o u answers)
+  answered_to_end (Ok why) new answers = (
+    new,
+    taken_so does (EndsBehind GivesRead Ends why p i q j) (WereRead (reads_of i) (reads_of j)) (λ pieces all. (reads_ended why pieces p q i j all).0)
+        beginning new d e o u answers,
+  )
   answered_to_end (Err x) new answers = tt
 
   -- it ended for a cause

@@ -50,9 +50,11 @@ module _ {P I : Type 0} (left : P → List ℕ) (remaining : I → Option (List 
     all_read why p q i j none pieces (last, rest, all, ended) =
         let r = are_read p last i rest none pieces all in
         let whole : (bytes_in pieces ++ left last) ++ [] ≡ bytes_in pieces ++ [] =
-        append-nil (bytes_in pieces ++ left last) ∙ ap (λ (l : List ℕ). bytes_in pieces ++ l) ended.none in
-        (r.0, subst (λ (l : List ℕ). Consumes (remaining i) (remaining j) l) whole
-        (Consumes-trans (remaining i) (remaining rest) (remaining j) (bytes_in pieces ++ left last) [] r.1 ended.consumed))
+        append-nil (bytes_in pieces ++ left last) ∙ ap (λ (l : List ℕ). bytes_in pieces ++ l) ended.none in (
+          r.0,
+          subst (λ (l : List ℕ). Consumes (remaining i) (remaining j) l) whole
+              (Consumes-trans (remaining i) (remaining rest) (remaining j) (bytes_in pieces ++ left last) [] r.1 ended.consumed),
+        )
 
     module _ {D : Type 0} (does : D → Exchange → D → Type 0) where
       -- a session was served to where its input ends
