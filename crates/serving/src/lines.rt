@@ -1,5 +1,5 @@
 //! The input of a pair of streams, in pieces of lines.
-ghost use Rattle.std.specs.Prelude.{◌≡◌, ◌≤◌, [], ◌++◌, ◌∷◌, length, IfErr, OnOk};
+ghost use Rattle.std.specs.Prelude.{◌≡◌, ◌≤◌, [], ◌++◌, ◌∷◌, length, take, IfErr, OnOk};
 ghost use Rattle.std.specs.Io.KnownBytes.{Consumes};
 ghost use Rattle.serving.specs.Serving.{EndsLines, GivesOfLine, IsOfLine};
 
@@ -64,15 +64,23 @@ impl LinePieces {
         ensures whole { left_of self.old ≡ newest_of self.new ++ left_of self.new }
         ensures of_line { IsOfLine (record { bytes = newest_of self.new; is_cut = result }) }
     {
-        let left = self.count - self.end;
-        let length = text_length(&self.bytes[self.end..self.count]);
+        let (count, is_cut) = first_piece(&self.bytes[self.end..self.count]);
         self.begin = self.end;
-        if length == left {
-            self.end = self.count;
-            return false;
-        }
-        self.end += length + 1;
-        true
+        self.end += count;
+        is_cut
+    }
+}
+
+// How many bytes stand up to the first line end, with that one, or all of them; and whether there is a line end.
+fn first_piece(bytes: &[u8]) -> (usize, bool)
+    ensures within { result.0 ≤ length bytes.now }
+    ensures of_line { IsOfLine (record { bytes = take result.0 bytes.now; is_cut = result.1 }) }
+{
+    let count = text_length(bytes);
+    if count < bytes.len() {
+        (count + 1, true)
+    } else {
+        (count, false)
     }
 }
 
