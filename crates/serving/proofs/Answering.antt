@@ -8,11 +8,11 @@ use Rattle.session.specs.Exchange.{Exchange}
 use Rattle.session.specs.Replies.{Asks, Feeds}
 use Rattle.session.specs.Calls.{Call, Fed, OfPiece, Calls}
 use Rattle.session.proofs.CallerLemmas.{asks-joined, appends-both, calls-joined, calls-one}
-use Rattle.serving.specs.Turns.{Piece, AreTurns, GivesAll, EndsBehind, Answers, TellsWhere, StopsIn, AnswersTaken, StopsAfter}
+use Rattle.serving.specs.Turns.{InputPiece, AreTurns, GivesAll, EndsBehind, Answers, TellsWhere, StopsIn, AnswersTaken, StopsAfter}
 pub use Rattle.session.proofs.CallerLemmas.{on_err}
 
 -- turns, and then others
-turns_joined : (front back : List Piece) (a b : List Call) → AreTurns front a → AreTurns back b → AreTurns (front ++ back) (a ++ b)
+turns_joined : (front back : List InputPiece) (a b : List Call) → AreTurns front a → AreTurns back b → AreTurns (front ++ back) (a ++ b)
 turns_joined [] back a b none second = subst (λ (l : List Call). AreTurns back (l ++ b)) (sym none) second
 turns_joined (piece ∷ pieces) back a b (news, others, for_news, rest, is) second = (
   news,
@@ -23,7 +23,7 @@ turns_joined (piece ∷ pieces) back a b (news, others, for_news, rest, is) seco
 )
 
 -- one piece more is given
-pub gives_more : {P I : Type 0} (gives : P → I → Piece → P → I → Type 0) (pieces : List Piece) (piece : Piece) (p q r : P) (i j k : I)
+pub gives_more : {P I : Type 0} (gives : P → I → InputPiece → P → I → Type 0) (pieces : List InputPiece) (piece : InputPiece) (p q r : P) (i j k : I)
     → GivesAll gives p i pieces q j → gives q j piece r k → GivesAll gives p i (pieces ++ piece ∷ []) r k
 gives_more {P} {I} gives [] piece p q r i j k (same, input) one =
     (r, k, subst (λ (x : P). gives x i piece r k) same (subst (λ (x : I). gives q x piece r k) input one), (refl, refl))
@@ -38,7 +38,7 @@ module _ {D : Type 0} (does : D → Exchange → D → Type 0) where
   pub answers_nothing : (s : Session) (d : D) (o : Option (List ℕ)) → Answers does s [] s d d o o
   answers_nothing s d o = record { calls = []; turns = refl; asked = []; text = []; comes = (refl, refl, refl); asks = refl; written = Appends-nil o }
 
-  pub answers_joined : (front back : List Piece) (old mid new : Session) (d e f : D) (o p q : Option (List ℕ))
+  pub answers_joined : (front back : List InputPiece) (old mid new : Session) (d e f : D) (o p q : Option (List ℕ))
       → Answers does old front mid d e o p → Answers does mid back new e f p q → Answers does old (front ++ back) new d f o q
   answers_joined front back old mid new d e f o p q first second = record {
     calls = first.calls ++ second.calls;
@@ -76,7 +76,7 @@ module _ {D : Type 0} (does : D → Exchange → D → Type 0) where
   }
 
   -- what is said of pieces in other words
-  module _ (T U : List Piece → Type 0) (more : (pieces : List Piece) → T pieces → U pieces) where
+  module _ (T U : List InputPiece → Type 0) (more : (pieces : List InputPiece) → T pieces → U pieces) where
     pub taken_so : (old new : Session) (d e : D) (o p : Option (List ℕ)) → AnswersTaken does T old new d e o p → AnswersTaken does U old new d e o p
     taken_so old new d e o p so = record { pieces = so.pieces; taken = more so.pieces so.taken; answers = so.answers }
 
@@ -92,7 +92,7 @@ module _ {D : Type 0} (does : D → Exchange → D → Type 0) where
       stops = so.stops;
     }
 
-  module _ {P I : Type 0} (gives : P → I → Piece → P → I → Type 0) where
+  module _ {P I : Type 0} (gives : P → I → InputPiece → P → I → Type 0) where
     -- nothing was given yet
     pub taken_yet : (s : Session) (d : D) (p : P) (i : I) (o : Option (List ℕ)) → AnswersTaken does (λ given. GivesAll gives p i given p i) s s d d o o
     taken_yet s d p i o = record { pieces = []; taken = (refl, refl); answers = answers_nothing s d o }
@@ -100,7 +100,7 @@ module _ {D : Type 0} (does : D → Exchange → D → Type 0) where
     module _ (old mid : Session) (d e : D) (p q : P) (i j : I) (o u : Option (List ℕ))
         (taken : AnswersTaken does (λ given. GivesAll gives p i given q j) old mid d e o u) where
       -- a further piece is answered, or a write fails in its turn
-      pub taken_more : (piece : Piece) (new : Session) (f : D) (r : P) (k : I) (v : Option (List ℕ)) → gives q j piece r k
+      pub taken_more : (piece : InputPiece) (new : Session) (f : D) (r : P) (k : I) (v : Option (List ℕ)) → gives q j piece r k
           → Answers does mid (piece ∷ []) new e f u v → AnswersTaken does (λ given. GivesAll gives p i given r k) old new d f o v
       taken_more piece new f r k v one answers = record {
         pieces = taken.pieces ++ piece ∷ [];
@@ -108,7 +108,7 @@ module _ {D : Type 0} (does : D → Exchange → D → Type 0) where
         answers = answers_joined taken.pieces (piece ∷ []) old mid new d e f o u v taken.answers answers;
       }
 
-      pub stops_in : (piece : Piece) (f : D) (r : P) (k : I) (v : Option (List ℕ)) → gives q j piece r k → StopsIn does mid e u piece f v
+      pub stops_in : (piece : InputPiece) (f : D) (r : P) (k : I) (v : Option (List ℕ)) → gives q j piece r k → StopsIn does mid e u piece f v
           → StopsAfter does (λ given. GivesAll gives p i given r k) old d f o v
       stops_in piece f r k v one stops = record {
         front = taken.pieces;

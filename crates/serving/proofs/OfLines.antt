@@ -6,16 +6,16 @@ use Rattle.std.proofs.KnownBytes.{Consumes-nil, Consumes-trans}
 use Rattle.session.specs.Session.{Session}
 use Rattle.session.specs.Exchange.{Exchange}
 use Rattle.serving.specs.declared.input.InputError.{InputError}
-use Rattle.serving.specs.Turns.{Piece, GivesAll, EndsBehind, AnswersTaken, StopsAfter}
+use Rattle.serving.specs.Turns.{InputPiece, GivesAll, EndsBehind, AnswersTaken, StopsAfter}
 use Rattle.serving.specs.Serving.{AreOfLines, AreRead, bytes_in, EndsLines, GivesOfLine, Serves}
 use Rattle.serving.proofs.Answering.{taken_so, stops_so}
 
 module _ {P I : Type 0} (left : P → List ℕ) (remaining : I → Option (List ℕ)) where
-  Given : P → I → Piece → P → I → Type 0
+  Given : P → I → InputPiece → P → I → Type 0
   Given p i piece q j = GivesOfLine (left p) (remaining i) piece (left q) (remaining j)
 
   -- what was left before and what was read are the pieces that were given, and what is left
-  lines_read : (pieces : List Piece) (p q : P) (i j : I) → GivesAll Given p i pieces q j
+  lines_read : (pieces : List InputPiece) (p q : P) (i j : I) → GivesAll Given p i pieces q j
       → (read : List ℕ) × AreOfLines pieces × Consumes (remaining i) (remaining j) read × (left p ++ read ≡ bytes_in pieces ++ left q)
   lines_read [] p q i j (same, input) = (
     [],
@@ -35,7 +35,7 @@ module _ {P I : Type 0} (left : P → List ℕ) (remaining : I → Option (List 
       )
 
   -- where nothing was left before
-  pub are_read : (p q : P) (i j : I) → left p ≡ [] → (pieces : List Piece) → GivesAll Given p i pieces q j → AreRead (left q) (remaining i) (remaining j) pieces
+  pub are_read : (p q : P) (i j : I) → left p ≡ [] → (pieces : List InputPiece) → GivesAll Given p i pieces q j → AreRead (left q) (remaining i) (remaining j) pieces
   are_read p q i j none pieces all =
       let r = lines_read pieces p q i j all in
       (r.1, subst (λ (l : List ℕ). Consumes (remaining i) (remaining j) l) (ap (λ (l : List ℕ). l ++ r.0) (sym none) ∙ r.3) r.2)
@@ -45,7 +45,7 @@ module _ {P I : Type 0} (left : P → List ℕ) (remaining : I → Option (List 
     Ends p i why q j = EndsLines (left p) (remaining i) why (remaining j) (failed j)
 
     -- and nothing is left behind the last
-    pub all_read : (why : Result (Unit {0}) InputError) (p q : P) (i j : I) → left p ≡ [] → (pieces : List Piece) → EndsBehind Given Ends why p i q j pieces
+    pub all_read : (why : Result (Unit {0}) InputError) (p q : P) (i j : I) → left p ≡ [] → (pieces : List InputPiece) → EndsBehind Given Ends why p i q j pieces
         → AreRead [] (remaining i) (remaining j) pieces
     all_read why p q i j none pieces (last, rest, all, ended) =
         let r = are_read p last i rest none pieces all in

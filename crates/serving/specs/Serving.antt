@@ -5,25 +5,25 @@ use Rattle.session.specs.Session.{Session}
 use Rattle.session.specs.Exchange.{Exchange}
 use Rattle.session.specs.Line.{HasNoEnd}
 use Rattle.serving.specs.declared.input.InputError.{InputError}
-use Rattle.serving.specs.Turns.{Piece, AnswersTaken, StopsAfter}
+use Rattle.serving.specs.Turns.{InputPiece, AnswersTaken, StopsAfter}
 pub use Rattle.serving.specs.Turns.{beginning}
 
 -- text within a line, behind which the input isn't cut; or text with the line end behind it, where it is
-abbrev pub IsOfLine : Piece → Type 0
+abbrev pub IsOfLine : InputPiece → Type 0
 IsOfLine piece =
     (HasNoEnd piece.bytes × (piece.is_cut ≡ false)) ⊎ ((text : List ℕ) × HasNoEnd text × (piece.bytes ≡ text ++ 10 ∷ []) × (piece.is_cut ≡ true))
 
-abbrev pub AreOfLines : List Piece → Type 0
+abbrev pub AreOfLines : List InputPiece → Type 0
 AreOfLines [] = Unit {0}
 AreOfLines (piece ∷ pieces) = IsOfLine piece × AreOfLines pieces
 
 -- the bytes of pieces, in order
-abbrev pub bytes_in : List Piece → List ℕ
+abbrev pub bytes_in : List InputPiece → List ℕ
 bytes_in [] = []
 bytes_in (piece ∷ pieces) = piece.bytes ++ bytes_in pieces
 
 -- Where bytes were left of an input, these were read, a piece of a line was given, and these are left.
-pub record GivesOfLine (left : List ℕ) (input : Option (List ℕ)) (piece : Piece) (left' : List ℕ) (input' : Option (List ℕ)) : Type 0 where
+pub record GivesOfLine (left : List ℕ) (input : Option (List ℕ)) (piece : InputPiece) (left' : List ℕ) (input' : Option (List ℕ)) : Type 0 where
   pub read : List ℕ
   pub consumed : Consumes input input' read
   pub whole : left ++ read ≡ piece.bytes ++ left'
@@ -38,7 +38,7 @@ pub record EndsLines (left : List ℕ) (input : Option (List ℕ)) (why : Result
   pub failed : OnErr why (has_failed ≡ true)
 
 -- pieces of lines were read, and these bytes behind them
-abbrev pub AreRead : (behind : List ℕ) → (input input' : Option (List ℕ)) → List Piece → Type 0
+abbrev pub AreRead : (behind : List ℕ) → (input input' : Option (List ℕ)) → List InputPiece → Type 0
 AreRead behind input input' pieces = AreOfLines pieces × Consumes input input' (bytes_in pieces ++ behind)
 
 module _ {D : Type 0} (does : D → Exchange → D → Type 0) where

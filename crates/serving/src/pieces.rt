@@ -1,6 +1,6 @@
 //! An input in pieces.
 ghost use Rattle.std.specs.Prelude.{◌≡◌, ℕ, List, IfOk, IfErr};
-ghost use Rattle.serving.specs.Turns.{Piece};
+ghost use Rattle.serving.specs.Turns.{InputPiece};
 
 use session::Session;
 
@@ -10,7 +10,7 @@ pub trait Pieces<I> {
     type End;
 
     /// Of this input this piece is given, and both are these then.
-    ghost gives: { Self → I → Piece → Self → I → Type 0 };
+    ghost gives: { Self → I → InputPiece → Self → I → Type 0 };
 
     /// It ends for this cause, and both are these then.
     ghost ends: { Self → I → Self.End → Self → I → Type 0 };

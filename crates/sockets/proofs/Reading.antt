@@ -3,7 +3,7 @@ use Rattle.std.proofs.Common.{◌≡◌, ◌∙◌, ◌++◌, ◌≤◌, ◌<◌
 use Rattle.std.specs.Prelude.{IfOk}
 use Rattle.session.specs.Session.{Session}
 use Rattle.session.specs.Exchange.{Exchange}
-use Rattle.serving.specs.Turns.{beginning, Piece, GivesAll, EndsBehind, AnswersTaken, StopsAfter}
+use Rattle.serving.specs.Turns.{beginning, InputPiece, GivesAll, EndsBehind, AnswersTaken, StopsAfter}
 use Rattle.serving.proofs.CallerLemmas.{answers_nothing, taken_so, stops_so}
 use Rattle.sockets.specs.declared.parting.Parting.{Parting}
 use Rattle.sockets.specs.declared.raw.HostReader.{HostReader}
@@ -18,7 +18,7 @@ Ends : ReadPieces → HostReader → Parting → ReadPieces → HostReader → T
 Ends pieces reader why after behind = EndsReads pieces reader why behind
 
 -- what was given was read, of one connection in one hall, and it was patient
-reads_given : (pieces : List Piece) (p q : ReadPieces) (i j : HostReader) → GivesAll GivesRead p i pieces q j
+reads_given : (pieces : List InputPiece) (p q : ReadPieces) (i j : HostReader) → GivesAll GivesRead p i pieces q j
     → WereRead (reads_of i) (reads_of j) pieces × (number_read j ≡ number_read i) × (hall_of q ≡ hall_of p) × (IsPatient p i → IsPatient q j)
 reads_given [] p q i j (same, input) = (
   ap (λ (x : HostReader). pieces_of (reads_of x)) input ∙ sym (append-nil (pieces_of (reads_of i))),
@@ -28,14 +28,14 @@ reads_given [] p q i j (same, input) = (
 )
 reads_given (piece ∷ pieces) p q i j (next, behind, given, rest) =
     let r = reads_given pieces next q behind j rest in (
-      r.0 ∙ (ap (λ (l : List Piece). l ++ pieces) given.read ∙ append_assoc (pieces_of (reads_of i)) (piece ∷ []) pieces),
+      r.0 ∙ (ap (λ (l : List InputPiece). l ++ pieces) given.read ∙ append_assoc (pieces_of (reads_of i)) (piece ∷ []) pieces),
       r.1 ∙ given.same,
       r.2 ∙ given.hall,
       λ patient. r.3 (given.patient patient),
     )
 
 -- and then the input ended
-reads_ended : (why : Parting) (pieces : List Piece) (p q : ReadPieces) (i j : HostReader) → EndsBehind GivesRead Ends why p i q j pieces
+reads_ended : (why : Parting) (pieces : List InputPiece) (p q : ReadPieces) (i j : HostReader) → EndsBehind GivesRead Ends why p i q j pieces
     → WereRead (reads_of i) (reads_of j) pieces × (number_read j ≡ number_read i) × (IsPatient p i → EndsBetween (hall_of p) why (reads_of j))
 reads_ended why pieces p q i j (last, rest, all, ended) =
     let r = reads_given pieces p last i rest all in (

@@ -10,7 +10,7 @@ use Rattle.session.specs.Replies.{Asks}
 use Rattle.session.specs.News.{news_shown, subscriptions_shown}
 use Rattle.session.specs.Output.{AppendsFront}
 use Rattle.session.proofs.CallerLemmas.{asks-joined, calls-joined, calls-one, front-of, front-behind}
-use Rattle.serving.specs.Turns.{beginning, Piece, AreNews, AreTurns, Answers, StopsIn, InReplies, InNews, InSending}
+use Rattle.serving.specs.Turns.{beginning, InputPiece, AreNews, AreTurns, Answers, StopsIn, InReplies, InNews, InSending}
 use Rattle.sockets.specs.declared.parting.Parting.{Parting}
 use Rattle.sockets.specs.declared.parting.Parting.TheVariants.{NoMemory}
 use Rattle.sockets.specs.declared.raw.Visit.{Visit}
@@ -22,12 +22,12 @@ use Rattle.sockets.specs.Ends.{EndsBetween, ends_in_write, was_closed}
 use Rattle.sockets.specs.Desks.{AreTurnsSoFar, no_turn as none_so_far, in_piece, turn_before, Whole, Cut, AreConversations, in_none, in_one_more, Talks, ServesVisits}
 
 -- turns that were not broken off, and such turns before others
-so_far : (pieces : List Piece) (calls : List Call) → AreTurns pieces calls → AreTurnsSoFar pieces calls
+so_far : (pieces : List InputPiece) (calls : List Call) → AreTurns pieces calls → AreTurnsSoFar pieces calls
 so_far [] calls none = subst (AreTurnsSoFar []) (sym none) none_so_far
 so_far (piece ∷ pieces) calls (news, others, for_news, rest, is) =
     subst (AreTurnsSoFar (piece ∷ pieces)) (sym is) (turn_before piece pieces news others for_news (so_far pieces others rest))
 
-so_far_behind : (front back : List Piece) (a b : List Call) → AreTurns front a → AreTurnsSoFar back b → AreTurnsSoFar (front ++ back) (a ++ b)
+so_far_behind : (front back : List InputPiece) (a b : List Call) → AreTurns front a → AreTurnsSoFar back b → AreTurnsSoFar (front ++ back) (a ++ b)
 so_far_behind [] back a b none second = subst (λ (l : List Call). AreTurnsSoFar back (l ++ b)) (sym none) second
 so_far_behind (piece ∷ pieces) back a b (news, others, for_news, rest, is) second =
     subst (AreTurnsSoFar (piece ∷ (pieces ++ back)))
@@ -52,7 +52,7 @@ conversations_joined hall visits others a b (in_one_more visit more asked rest o
 
 module _ {D : Type 0} (does : D → Exchange → D → Type 0) where
   -- Turns of a session were taken, and the last one was perhaps broken off; a prefix of what comes of them was written.
-  record Broken (pieces : List Piece) (old : Session) (d e : D) (o p : Option (List ℕ)) : Type 0 where
+  record Broken (pieces : List InputPiece) (old : Session) (d e : D) (o p : Option (List ℕ)) : Type 0 where
     pub calls : List Call
     pub asked : List Exchange
     pub last : Session
@@ -63,7 +63,7 @@ module _ {D : Type 0} (does : D → Exchange → D → Type 0) where
     pub front : AppendsFront o p text
 
   -- turns whose text wasn't sent on
-  broken_unsent : (pieces : List Piece) (old new : Session) (d e : D) (o p : Option (List ℕ)) → Answers does old pieces new d e o p
+  broken_unsent : (pieces : List InputPiece) (old new : Session) (d e : D) (o p : Option (List ℕ)) → Answers does old pieces new d e o p
       → Broken pieces old d e o p
   broken_unsent pieces old new d e o p answers = record {
     calls = answers.calls;
@@ -77,7 +77,7 @@ module _ {D : Type 0} (does : D → Exchange → D → Type 0) where
   }
 
   -- a turn in which a write failed
-  broken_in : (piece : Piece) (old : Session) (d e : D) (o p : Option (List ℕ)) → StopsIn does old d o piece e p → Broken (piece ∷ []) old d e o p
+  broken_in : (piece : InputPiece) (old : Session) (d e : D) (o p : Option (List ℕ)) → StopsIn does old d o piece e p → Broken (piece ∷ []) old d e o p
   broken_in piece old d e o p (InReplies part new g q stops) =
       let fed = stops.fed in
       record {
@@ -111,7 +111,7 @@ module _ {D : Type 0} (does : D → Exchange → D → Type 0) where
   broken_in piece old d e o p (InSending part new g q answers) = broken_unsent (part ∷ []) old new d g o q answers
 
   -- and after others
-  broken_behind : (front back : List Piece) (old mid : Session) (d e f : D) (o p q : Option (List ℕ)) → Answers does old front mid d e o p
+  broken_behind : (front back : List InputPiece) (old mid : Session) (d e f : D) (o p q : Option (List ℕ)) → Answers does old front mid d e o p
       → Broken back mid e f p q → Broken (front ++ back) old d f o q
   broken_behind front back old mid d e f o p q answers broken = record {
     calls = answers.calls ++ broken.calls;
@@ -150,7 +150,7 @@ module _ {D : Type 0} (does : D → Exchange → D → Type 0) where
               (subst (Calls beginning answers.calls answers.asked last) (sym text) answers.comes);
         }
 
-    talks_broken : (visit : Visit) (why : Parting) (d e : D) (pieces : List Piece) (writes : List Event) (old new rest : List ℕ) → old ≡ []
+    talks_broken : (visit : Visit) (why : Parting) (d e : D) (pieces : List InputPiece) (writes : List Event) (old new rest : List ℕ) → old ≡ []
         → pieces_of (reads_in visit) ≡ pieces → writes_in visit ≡ socket.Closed ∷ writes → was_closed writes ≡ false → new ≡ bytes_of writes ++ rest
         → ends_in_write hall why writes ≡ true → Broken pieces beginning d e (Some old) (Some new) → Talks does hall visit d e
     talks_broken visit why d e pieces writes old new rest none read closed unshut sent ends broken =

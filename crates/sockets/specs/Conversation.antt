@@ -2,11 +2,11 @@
 use Rattle.std.specs.Prelude.{◌≡◌, ℕ, List, ◌++◌, Option}
 use Rattle.session.specs.Session.{Session}
 use Rattle.session.specs.Exchange.{Exchange}
-use Rattle.serving.specs.Turns.{beginning, Piece, AnswersTaken, StopsAfter}
+use Rattle.serving.specs.Turns.{beginning, InputPiece, AnswersTaken, StopsAfter}
 use Rattle.sockets.specs.Socket.{Event, pieces_of}
 
 -- these pieces were read, one after another
-abbrev pub WereRead : (reads reads' : List Event) → List Piece → Type 0
+abbrev pub WereRead : (reads reads' : List Event) → List InputPiece → Type 0
 WereRead reads reads' pieces = pieces_of reads' ≡ pieces_of reads ++ pieces
 
 module _ {D : Type 0} (does : D → Exchange → D → Type 0) where

@@ -1,6 +1,6 @@
 -- The pieces of a connection as callers see them.
 use Rattle.std.specs.Prelude.{◌≡◌, ◌≤◌, ◌<◌, ◌+◌, ◌++◌, ℕ, zero, suc, List, [], ◌∷◌, Option, Some, None, take}
-use Rattle.serving.specs.Turns.{Piece}
+use Rattle.serving.specs.Turns.{InputPiece}
 use Rattle.sockets.specs.declared.parting.Parting.{Parting}
 use Rattle.sockets.specs.declared.raw.HostReader.{HostReader}
 use Rattle.sockets.specs.declared.reads.ReadPieces.{ReadPieces}
@@ -32,7 +32,7 @@ IsPatient pieces reader =
     (pieces.patience.waited + not_noted pieces.count ≤ waits_of (reads_of reader)) × (0 < pieces.patience.limit → 10 ≤ pieces.patience.limit)
 
 -- This piece was read of a connection, and it was patient with its peer.
-pub record GivesRead (pieces : ReadPieces) (reader : HostReader) (piece : Piece) (pieces' : ReadPieces) (reader' : HostReader) : Type 0 where
+pub record GivesRead (pieces : ReadPieces) (reader : HostReader) (piece : InputPiece) (pieces' : ReadPieces) (reader' : HostReader) : Type 0 where
   pub read : pieces_of (reads_of reader') ≡ pieces_of (reads_of reader) ++ piece ∷ []
   pub same : number_read reader' ≡ number_read reader
   pub hall : hall_of pieces' ≡ hall_of pieces

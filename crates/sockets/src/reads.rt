@@ -1,7 +1,7 @@
 //! The input of a connection, in pieces of what each read brings.
 ghost use Rattle.std.specs.Prelude.{◌≡◌, ◌≤◌, ◌<◌, ◌+◌, ◌++◌, ◌∷◌, ℕ, [], None, true, IfErr, OnOk, OnErr};
 ghost use Rattle.std.specs.Option.{ForSome};
-ghost use Rattle.serving.specs.Turns.{Piece};
+ghost use Rattle.serving.specs.Turns.{InputPiece};
 ghost use Rattle.sockets.specs.Socket.{pieces_of, waits_of};
 ghost use Rattle.sockets.specs.Ends.{EndsBetween};
 
