@@ -1,6 +1,6 @@
 -- Pieces that are answered, one after another.
 use Rattle.std.proofs.Common.{◌≡◌, ◌∙◌, ◌++◌, ℕ, true, false, List, [], ◌∷◌, Option, refl, sym, ap, subst, append_assoc}
-use Rattle.std.specs.Prelude.{Bool}
+use Rattle.std.specs.Prelude.{Bool, Result, Ok, Err, OnOk}
 use Rattle.std.specs.Io.KnownBytes.{Keeps}
 use Rattle.std.proofs.KnownBytes.{Appends-nil, Appends-kept}
 use Rattle.session.specs.Session.{Session}
@@ -10,6 +10,11 @@ use Rattle.session.specs.Calls.{Call, Fed, OfPiece, Calls}
 use Rattle.session.proofs.CallerLemmas.{asks-joined, appends-both, calls-joined, calls-one}
 use Rattle.serving.specs.Turns.{InputPiece, AreTurns, GivesAll, EndsBehind, Answers, TellsWhere, StopsIn, AnswersTaken, StopsAfter}
 pub use Rattle.session.proofs.CallerLemmas.{on_err}
+
+-- what holds anyhow holds of a call that succeeds
+pub on_ok_too : {T E : Type 0} {P : Type 0} (r : Result T E) → P → OnOk r P
+on_ok_too (Ok x) h = h
+on_ok_too (Err e) h = tt
 
 -- turns, and then others
 turns_joined : (front back : List InputPiece) (a b : List Call) → AreTurns front a → AreTurns back b → AreTurns (front ++ back) (a ++ b)
@@ -73,6 +78,23 @@ module _ {D : Type 0} (does : D → Exchange → D → Type 0) where
         (calls-one old mid (Fed bytes) fed.asked fed.text (OfPiece bytes fed.asked mid fed.text fed.replies));
     asks = subst (λ (x : D). Asks does d fed.asked x) (sym desk) fed.asks;
     written = Appends-kept o q r fed.text (Appends-kept o p q fed.text fed.written unsaid) kept;
+  }
+
+  -- what is sent on or not
+  pub taken_kept : (T : List InputPiece → Type 0) (old new : Session) (d e : D) (o p q : Option (List ℕ)) → AnswersTaken does T old new d e o p → Keeps p q
+      → AnswersTaken does T old new d e o q
+  taken_kept T old new d e o p q taken kept = record {
+    pieces = taken.pieces;
+    taken = taken.taken;
+    answers = record {
+      calls = taken.answers.calls;
+      turns = taken.answers.turns;
+      asked = taken.answers.asked;
+      text = taken.answers.text;
+      comes = taken.answers.comes;
+      asks = taken.answers.asks;
+      written = Appends-kept o p q taken.answers.text taken.answers.written kept;
+    };
   }
 
   -- what is said of pieces in other words

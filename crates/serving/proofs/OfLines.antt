@@ -1,6 +1,6 @@
 -- Pieces of lines, as they are read.
 use Rattle.std.proofs.Common.{◌≡◌, ◌∙◌, ◌++◌, ℕ, List, [], ◌∷◌, Option, refl, sym, ap, subst, append_assoc, append-nil}
-use Rattle.std.specs.Prelude.{Bool, Result}
+use Rattle.std.specs.Prelude.{Bool, true, Result, Err, OnErr}
 use Rattle.std.specs.Io.KnownBytes.{Consumes}
 use Rattle.std.proofs.KnownBytes.{Consumes-nil, Consumes-trans}
 use Rattle.session.specs.Session.{Session}
@@ -11,7 +11,7 @@ use Rattle.serving.specs.Serving.{AreOfLines, AreRead, bytes_in, EndsLines, Give
 use Rattle.serving.proofs.Answering.{taken_so, stops_so}
 
 module _ {P I : Type 0} (left : P → List ℕ) (remaining : I → Option (List ℕ)) where
-  Given : P → I → InputPiece → P → I → Type 0
+  abbrev pub Given : P → I → InputPiece → P → I → Type 0
   Given p i piece q j = GivesOfLine (left p) (remaining i) piece (left q) (remaining j)
 
   -- what was left before and what was read are the pieces that were given, and what is left
@@ -41,7 +41,7 @@ module _ {P I : Type 0} (left : P → List ℕ) (remaining : I → Option (List 
       (r.1, subst (λ (l : List ℕ). Consumes (remaining i) (remaining j) l) (ap (λ (l : List ℕ). l ++ r.0) (sym none) ∙ r.3) r.2)
 
   module _ (failed : I → Bool) where
-    Ends : P → I → Result (Unit {0}) InputError → P → I → Type 0
+    abbrev pub Ends : P → I → Result (Unit {0}) InputError → P → I → Type 0
     Ends p i why q j = EndsLines (left p) (remaining i) why (remaining j) (failed j)
 
     -- and nothing is left behind the last
@@ -55,6 +55,11 @@ module _ {P I : Type 0} (left : P → List ℕ) (remaining : I → Option (List 
           subst (λ (l : List ℕ). Consumes (remaining i) (remaining j) l) whole
               (Consumes-trans (remaining i) (remaining rest) (remaining j) (bytes_in pieces ++ left last) [] r.1 ended.consumed),
         )
+
+    -- a read has failed where it ended so
+    pub ended_badly : (why : Result (Unit {0}) InputError) (p q : P) (i j : I) (pieces : List InputPiece) → EndsBehind Given Ends why p i q j pieces
+        → (x : InputError) → why ≡ Err x → failed j ≡ true
+    ended_badly why p q i j pieces (last, rest, all, ended) x is = subst (λ (w : Result (Unit {0}) InputError). OnErr w (failed j ≡ true)) is ended.failed
 
     module _ {D : Type 0} (does : D → Exchange → D → Type 0) where
       -- a session was served to where its input ends
