@@ -14,7 +14,7 @@ use Rattle.sockets.specs.Ends.{EndsBetween}
 use Rattle.sockets.specs.Conversation.{Converses, IsAnswered, StopsConversing, WereRead}
 use Rattle.sockets.specs.Reads.{EndsReads, GivesRead, IsPatient, hall_of, not_noted}
 
-Ends : ReadPieces → HostReader → Parting → ReadPieces → HostReader → Type 0
+abbrev pub Ends : ReadPieces → HostReader → Parting → ReadPieces → HostReader → Type 0
 Ends pieces reader why after behind = EndsReads pieces reader why behind
 
 -- what was given was read, of one connection in one hall, and it was patient
@@ -44,9 +44,10 @@ reads_ended why pieces p q i j (last, rest, all, ended) =
       λ patient. subst (λ (hall : ℕ). EndsBetween hall why (reads_of j)) r.2 (ended.ends (r.3 patient)),
     )
 
-module _ {D E : Type 0} (does : D → Exchange → D → Type 0) (p q : ReadPieces) (i j : HostReader) (d e : D) (o u : Option (List ℕ)) where
+module _ {D E : Type 0} (does : D → Exchange → D → Type 0) (p q : ReadPieces) (i j : HostReader) (d e : D) (o u : Option (List ℕ))
+    (old : Session) (begins : old ≡ beginning) where
   -- all that was read is answered
-  pub answered_to_end : (r : Result Parting E) (new : Session) → IfOk r (λ why. AnswersTaken does (EndsBehind GivesRead Ends why p i q j) beginning new d e o u)
+  pub answered_to_end : (r : Result Parting E) (new : Session) → IfOk r (λ why. AnswersTaken does (EndsBehind GivesRead Ends why p i q j) old new d e o u)
       → OnOk r (IsAnswered does d e (reads_of i) (reads_of j) o u)
   answered_to_end (Ok why) new answers = (
     new,
@@ -57,21 +58,22 @@ module _ {D E : Type 0} (does : D → Exchange → D → Type 0) (p q : ReadPiec
 
   -- it ended for a cause
   pub ended_so : (hall : ℕ) → hall_of p ≡ hall → IsPatient p i → (r : Result Parting E) (new : Session)
-      → IfOk r (λ why. AnswersTaken does (EndsBehind GivesRead Ends why p i q j) beginning new d e o u) → IfOk r (λ why. EndsBetween hall why (reads_of j))
+      → IfOk r (λ why. AnswersTaken does (EndsBehind GivesRead Ends why p i q j) old new d e o u) → IfOk r (λ why. EndsBetween hall why (reads_of j))
   ended_so hall named patient (Ok why) new answers =
       subst (λ (h : ℕ). EndsBetween h why (reads_of j)) named ((reads_ended why answers.pieces p q i j answers.taken).2 patient)
   ended_so hall named patient (Err x) new answers = tt
 
   -- a write failed before that
-  pub stopped_so : (r : Result Parting E) → OnErr r (StopsAfter does (λ given. GivesAll GivesRead p i given q j) beginning d e o u)
+  pub stopped_so : (r : Result Parting E) → OnErr r (StopsAfter does (λ given. GivesAll GivesRead p i given q j) old d e o u)
       → OnErr r (StopsConversing does beginning d e (reads_of i) (reads_of j) o u)
   stopped_so (Ok why) stops = tt
   stopped_so (Err x) stops =
-      stops_so does (λ given. GivesAll GivesRead p i given q j) (WereRead (reads_of i) (reads_of j)) (λ pieces all. (reads_given pieces p q i j all).0) beginning d e o u stops
+      subst (λ (s : Session). StopsConversing does s d e (reads_of i) (reads_of j) o u) begins
+      (stops_so does (λ given. GivesAll GivesRead p i given q j) (WereRead (reads_of i) (reads_of j)) (λ pieces all. (reads_given pieces p q i j all).0) old d e o u stops)
 
   -- it was one connection
-  pub one_connection : (r : Result Parting E) (new : Session) → IfOk r (λ why. AnswersTaken does (EndsBehind GivesRead Ends why p i q j) beginning new d e o u)
-      → OnErr r (StopsAfter does (λ given. GivesAll GivesRead p i given q j) beginning d e o u) → number_read j ≡ number_read i
+  pub one_connection : (r : Result Parting E) (new : Session) → IfOk r (λ why. AnswersTaken does (EndsBehind GivesRead Ends why p i q j) old new d e o u)
+      → OnErr r (StopsAfter does (λ given. GivesAll GivesRead p i given q j) old d e o u) → number_read j ≡ number_read i
   one_connection (Ok why) new answers stops = (reads_ended why answers.pieces p q i j answers.taken).1
   one_connection (Err x) new answers stops = (reads_given (stops.front ++ stops.piece ∷ []) p q i j stops.taken).1
 

@@ -47,12 +47,14 @@ impl<'h> ReadPieces<'h> {
 
     // Notes what the newest read brought to the session, which has answered it.
     fn note(&mut self, session: &Session)
-        ensures others { self.new ≡ record self.old { patience = self.new.patience } }
+        ensures hall { hall_of self.new ≡ hall_of self.old }
         ensures limit { self.new.patience.limit ≡ self.old.patience.limit }
         ensures waited { self.new.patience.waited ≤ self.old.patience.waited + not_noted self.old.count }
     {
         if let Some(count) = self.count {
-            self.patience.note(session, &self.bytes[..count]);
+            let mut patience = self.patience;
+            patience.note(session, &self.bytes[..count]);
+            self.patience = patience;
         }
     }
 
