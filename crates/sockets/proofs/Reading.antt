@@ -51,8 +51,9 @@ module _ {D E : Type 0} (does : D → Exchange → D → Type 0) (p q : ReadPiec
       → OnOk r (IsAnswered does d e (reads_of i) (reads_of j) o u)
   answered_to_end (Ok why) new answers = (
     new,
-    taken_so does (EndsBehind GivesRead Ends why p i q j) (WereRead (reads_of i) (reads_of j)) (λ pieces all. (reads_ended why pieces p q i j all).0)
-        beginning new d e o u answers,
+    subst (λ (s : Session). Converses does s new d e (reads_of i) (reads_of j) o u) begins
+        (taken_so does (EndsBehind GivesRead Ends why p i q j) (WereRead (reads_of i) (reads_of j)) (λ pieces all. (reads_ended why pieces p q i j all).0)
+        old new d e o u answers),
   )
   answered_to_end (Err x) new answers = tt
 
