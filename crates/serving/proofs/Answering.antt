@@ -1,5 +1,5 @@
 -- Pieces that are answered, one after another.
-use Rattle.std.proofs.Common.{◌≡◌, ◌∙◌, ◌++◌, ℕ, true, false, List, [], ◌∷◌, Option, refl, sym, ap, subst, append_assoc}
+use Rattle.std.proofs.Common.{◌∙◌, ◌++◌, ℕ, true, false, List, [], ◌∷◌, Option, refl, sym, ap, subst, append_assoc}
 use Rattle.std.specs.Prelude.{Bool, Result, Ok, Err, OnOk}
 use Rattle.std.specs.Io.KnownBytes.{Keeps}
 use Rattle.std.proofs.KnownBytes.{Appends-nil, Appends-kept}
@@ -8,7 +8,7 @@ use Rattle.session.specs.Exchange.{Exchange}
 use Rattle.session.specs.Replies.{Asks, Feeds}
 use Rattle.session.specs.Calls.{Call, Fed, OfPiece, Calls}
 use Rattle.session.proofs.CallerLemmas.{asks-joined, appends-both, calls-joined, calls-one}
-use Rattle.serving.specs.Turns.{InputPiece, AreTurns, GivesAll, EndsBehind, Answers, TellsWhere, StopsIn, AnswersTaken, StopsAfter}
+use Rattle.serving.specs.Turns.{InputPiece, AreTurns, GivesAll, Answers, TellsWhere, StopsIn, AnswersTaken, StopsAfter}
 pub use Rattle.session.proofs.CallerLemmas.{on_err}
 
 -- what holds anyhow holds of a call that succeeds
@@ -142,8 +142,3 @@ module _ {D : Type 0} (does : D → Exchange → D → Type 0) where
         answers = taken.answers;
         stops = stops;
       }
-
-      -- or the input ends
-      pub taken_to_end : {E : Type 0} (ends : P → I → E → P → I → Type 0) (why : E) (r : P) (k : I) → ends q j why r k
-          → AnswersTaken does (EndsBehind gives ends why p i r k) old mid d e o u
-      taken_to_end ends why r k ended = record { pieces = taken.pieces; taken = (q, j, taken.taken, ended); answers = taken.answers }

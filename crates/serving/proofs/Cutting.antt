@@ -1,6 +1,5 @@
 -- What was read is cut behind each line.
-use Rattle.std.proofs.Common.{◌≡◌, ◌≢◌, ◌∙◌, ◌++◌, ◌+◌, ◌-◌, ◌<◌, ◌≤◌, ◌⊎◌, inl, inr, true, false, ℕ, zero, suc, List, [], ◌∷◌, length, take, drop, slice_index, slice_range, refl, sym, ap, subst, arith, take-take, take-add, drop-drop}
-use Rattle.serving.specs.Turns.{InputPiece}
+use Rattle.std.proofs.Common.{◌≡◌, ◌≢◌, ◌∙◌, ◌++◌, ◌+◌, ◌-◌, ◌<◌, ◌≤◌, inl, inr, true, false, ℕ, zero, suc, List, [], ◌∷◌, length, take, drop, slice_index, slice_range, refl, sym, ap, arith, take-take, take-add, drop-drop}
 use Rattle.session.specs.Line.{HasNoEnd}
 use Rattle.serving.specs.Serving.{IsOfLine}
 

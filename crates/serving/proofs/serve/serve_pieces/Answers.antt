@@ -1,5 +1,5 @@
 use Rattle.std.proofs.Common.{subst, sym, List, ℕ}
-use Rattle.serving.proofs.Answering.{on_err, stops_in, taken_more, taken_to_end, taken_yet}
+use Rattle.serving.proofs.Answering.{on_err, stops_in, taken_more, taken_yet}
 use Rattle.serving.proofs.serve.serve_pieces.Goals as goal
 
 pub pieces-init : goal.pieces-init

@@ -1,4 +1,3 @@
-use Rattle.sockets.specs.Host.{reads_of}
 use Rattle.sockets.proofs.Reading.{answered_nothing, answered_to_end, ended_so, one_connection, patient_yet, stopped_so}
 use Rattle.sockets.proofs.conversation.converse.Goals as goal
 

@@ -1,4 +1,4 @@
-use Rattle.std.proofs.Common.{◌≤◌, ◌+◌, ◌-◌, ℕ, List, drop, subst, arith}
+use Rattle.std.proofs.Common.{◌-◌, ℕ, List, drop, subst, arith}
 use Rattle.serving.specs.Serving.{IsOfLine}
 use Rattle.serving.proofs.Cutting.{front_of_left, left_parted, short_take}
 use Rattle.serving.proofs.lines.LinePieces.cut.Goals as goal
