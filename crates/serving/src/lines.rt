@@ -10,7 +10,8 @@ use session::{Session, text_length};
 /// How many bytes are read at once.
 const READ: usize = 8192;
 
-/// An input that is cut behind each line: text within a line is given, or the rest of a line with its end. What one read brings is given before the next read.
+/// An input that is cut behind each line: text within a line is given, or the rest of a line with its end. What one read brings is given
+/// before the next read.
 #[derive(Drop)]
 pub struct LinePieces {
     bytes: [u8; READ],

@@ -18,8 +18,8 @@ pub trait Pieces<I> {
     /// The bytes of the piece that was given last.
     ghost newest: { Self → List ℕ };
 
-    /// Reads the next piece, for a session that has answered those before, and answers whether the input is cut behind it. An empty piece is given where
-    /// nothing came. Refused where the input has ended.
+    /// Reads the next piece, for a session that has answered those before, and answers whether the input is cut behind it. An empty piece
+    /// is given where nothing came. Refused where the input has ended.
     fn next(&mut self, input: &mut I, session: &Session) -> Result<bool, Self::End>
         ensures given { IfOk result (λ is_cut. gives self.old input.old (record { bytes = newest self.new; is_cut = is_cut }) self.new input.new) }
         ensures ended { IfErr result (λ why. ends self.old input.old why self.new input.new) };

@@ -10,8 +10,8 @@ use session::{Desk, Output, Session, SessionEnded, Shelf};
 use std::alloc::Global;
 use std::sync::Wait;
 
-/// Serves a session by a desk until its input ends, and answers why it did: each piece is fed, the news are told where the input is cut behind it, and then
-/// all that was written is sent on. A write that fails ends it before that.
+/// Serves a session by a desk until its input ends, and answers why it did: each piece is fed, the news are told where the input is cut
+/// behind it, and then all that was written is sent on. A write that fails ends it before that.
 pub fn serve_pieces<R: Wait, K: Desk, I, P: Pieces<I>, O: Output>(
     rt: &R,
     alloc: Global,

@@ -15,8 +15,8 @@ use session::Session;
 /// How many bytes are read at once.
 const READ: usize = 8192;
 
-/// An input that is cut behind each read, also one that waited in vain. It ends where the input does or fails, where the peer is idle for as long as the
-/// patience with it has, or where the hall ends.
+/// An input that is cut behind each read, also one that waited in vain. It ends where the connection's input does or fails, where the peer is
+/// idle for as long as it may be, or where the hall ends.
 #[derive(Drop)]
 pub struct ReadPieces<'h> {
     hall: &'h Hall,
