@@ -1,1 +1,4 @@
-mod Streams
+mod Answering
+mod Cutting
+mod OfLines
+pub mod CallerLemmas

@@ -1,2 +1,4 @@
 pub mod InputView
+pub mod LinesView
 pub mod Serving
+pub mod Turns

@@ -1,8 +1,11 @@
-//! One session over a pair of streams, by any desk.
+//! The loop of a session, and a session over a pair of streams, by any desk.
 //!
-//! `serve_session` reads the input piece by piece and feeds it to a session line by line, so that the replies to a line and the news after
-//! it are out before the next one is taken. Its output is the replies to the lines of its input, made with the answers of its desk, and the
-//! news after each line (`specs/Serving.antt`). A `ServingError` is why a program ends before its end.
+//! `serve_pieces` is the loop. An input comes in pieces (`Pieces`), and says where it is cut and why it ends. In each turn a piece is fed to the
+//! session, the news are told where the input is cut behind it, and all that was written is sent on before the next piece is read. The output is the
+//! replies to the pieces, made with the answers of the desk, and the news of the turns (`specs/Turns.antt`).
+//!
+//! `serve_session` serves a stream, cut behind each line (`lines.rt`): the replies to a line and the news after it are out before the next one
+//! is taken (`specs/Serving.antt`). A `ServingError` is why a program ends before its end. The input of a connection is in `sockets`.
 //!
 //! An `Input` is what it reads from, as session's `Output` is what it writes to: it knows whether a read has failed, so that no caller is told
 //! of a stream that failed where none did.
@@ -40,8 +43,13 @@
 
 mod failure;
 mod input;
+mod lines;
+mod pieces;
 mod serve;
+mod streams;
 
 pub use failure::ServingError;
 pub use input::{Input, InputError, InputStream};
-pub use serve::serve_session;
+pub use pieces::Pieces;
+pub use serve::serve_pieces;
+pub use streams::serve_session;

@@ -1,197 +1,118 @@
-//! One session over a pair of streams.
-ghost use Rattle.std.specs.Prelude.{◌≡◌, ◌⊎◌, ◌≤◌, ◌<◌, ◌∷◌, ◌++◌, [], None, Some, true, false, IfOk, IfErr, OnOk, OnErr};
-ghost use Rattle.std.specs.Io.KnownBytes.{IsAtEnd, Keeps};
-ghost use Rattle.session.specs.Line.{HasNoEnd};
-ghost use Rattle.session.specs.Shelf.{Fits};
-ghost use Rattle.serving.specs.Serving.{Serves, ServesBytes, StopsBytes, StopsServing, BeginsWithEnd};
+//! One session, whatever its input is.
+ghost use Rattle.std.specs.Prelude.{◌≡◌, true, false, [], ◌∷◌, IfOk, OnOk, OnErr};
+ghost use Rattle.session.specs.Replies.{Feeds, Stops};
+ghost use Rattle.session.specs.Calls.{StopsNews};
+ghost use Rattle.session.specs.Shelf.{Fits, IsLater};
+ghost use Rattle.serving.specs.Turns.{Answers, AnswersTaken, EndsBehind, GivesAll, StopsAfter, StopsIn, TellsWhere};
 
-use crate::failure::ServingError;
-use crate::input::Input;
-use session::{Desk, Output, Session, Shelf, text_length};
+use crate::pieces::Pieces;
+use session::{Desk, Output, Session, SessionEnded, Shelf};
 use std::alloc::Global;
 use std::sync::Wait;
 
-/// How many bytes are read at once.
-const PIECE: usize = 8192;
-
-/// Serves a session by a desk, up to the end of the input, with the news after each line. It ends before that where a stream fails, and
-/// then at once (`Stream`): the output, or else the input, and then all that is due of what was taken is written.
-pub fn serve_session<R: Wait, K: Desk, I: Input, O: Output>(
+/// Serves a session by a desk until its input ends, and answers why it did: each piece is fed, the news are told where the input is cut
+/// behind it, and then all that was written is sent on. A write that fails ends it before that.
+pub fn serve_pieces<R: Wait, K: Desk, I, P: Pieces<I>, O: Output>(
     rt: &R,
     alloc: Global,
     session: &mut Session,
     desk: &mut K,
     shelf: &mut Shelf,
+    pieces: &mut P,
     input: &mut I,
     output: &mut O,
-) -> Result<(), ServingError>
+) -> Result<P::End, SessionEnded>
     requires fits { Fits (K.reached desk.old) shelf.old }
     requires works { session.old.ended ≡ false }
     ensures fits { Fits (K.reached desk.new) shelf.new }
-    ensures served { OnOk result (Serves K.does session.old session.new desk.old desk.new
-        (I.remaining input.old) (I.remaining input.new) (O.contents output.old) (O.contents output.new)) }
-    ensures at_end { OnOk result (IsAtEnd (I.remaining input.new)) }
-    ensures stopped { OnErr result (StopsServing K.does session.old desk.old desk.new
-        (I.remaining input.old) (I.remaining input.new) (O.contents output.old) (O.contents output.new)) }
-    ensures cause { OnErr result ((O.has_failed output.new ≡ true) ⊎ ((I.has_failed input.new ≡ true)
-        × Serves K.does session.old session.new desk.old desk.new
-        (I.remaining input.old) (I.remaining input.new) (O.contents output.old) (O.contents output.new))) }
-    ensures sent { OnOk result (O.has_failed output.new ≡ false) }
-    ensures read { OnOk result (I.has_failed input.new ≡ false) }
-    ensures only { IfErr result (λ e. e ≡ ServingError.Stream) }
+    // What was written is the replies to the pieces that were given, in order, and the news where the input was cut.
+    ensures answered { IfOk result (λ why. AnswersTaken K.does (EndsBehind P.gives P.ends why pieces.old input.old pieces.new input.new)
+        session.old session.new desk.old desk.new (O.contents output.old) (O.contents output.new)) }
+    // What was due before the write that failed was written, and a prefix of what that write was to write.
+    ensures stopped { OnErr result (StopsAfter K.does (λ given. GivesAll P.gives pieces.old input.old given pieces.new input.new)
+        session.old desk.old desk.new (O.contents output.old) (O.contents output.new)) }
+    ensures cause { OnErr result (O.has_failed output.new ≡ true) }
+    ensures sent { O.has_failed output.old ≡ false → OnOk result (O.has_failed output.new ≡ false) }
 {
     'pieces: for _ in rt.forever() {
-        if !serve_piece(alloc, session, desk, shelf, input, output)? {
-            return Ok(());
+        match pieces.next(input, session) {
+            Ok(is_cut) => answer(alloc, session, desk, shelf, pieces.piece(), is_cut, output)?,
+            Err(why) => return Ok(why),
         }
     }
     unreachable!()
 }
 
-// Reads a piece of the input and answers its lines. The answer is whether the input may have more. A read that a signal cut short took nothing.
-fn serve_piece<K: Desk, I: Input, O: Output>(
+// Answers a piece, tells the news where the input is cut behind it, and sends on all that was written.
+fn answer<K: Desk, O: Output>(
     alloc: Global,
     session: &mut Session,
     desk: &mut K,
     shelf: &mut Shelf,
-    input: &mut I,
+    piece: &[u8],
+    is_cut: bool,
     output: &mut O,
-) -> Result<bool, ServingError>
+) -> Result<(), SessionEnded>
     requires fits { Fits (K.reached desk.old) shelf.old }
     requires works { session.old.ended ≡ false }
     ensures fits { Fits (K.reached desk.new) shelf.new }
-    ensures served { OnOk result (Serves K.does session.old session.new desk.old desk.new
-        (I.remaining input.old) (I.remaining input.new) (O.contents output.old) (O.contents output.new)) }
-    ensures at_end { IfOk result (λ goes_on. goes_on ≡ false → IsAtEnd (I.remaining input.new)) }
-    ensures stopped { OnErr result (StopsServing K.does session.old desk.old desk.new
-        (I.remaining input.old) (I.remaining input.new) (O.contents output.old) (O.contents output.new)) }
-    ensures cause { OnErr result ((O.has_failed output.new ≡ true) ⊎ ((I.has_failed input.new ≡ true)
-        × Serves K.does session.old session.new desk.old desk.new
-        (I.remaining input.old) (I.remaining input.new) (O.contents output.old) (O.contents output.new))) }
+    ensures answered { OnOk result (Answers K.does session.old (record { bytes = piece.now; is_cut = is_cut } ∷ []) session.new
+        desk.old desk.new (O.contents output.old) (O.contents output.new)) }
+    ensures stopped { OnErr result (StopsIn K.does session.old desk.old (O.contents output.old)
+        (record { bytes = piece.now; is_cut = is_cut }) desk.new (O.contents output.new)) }
+    ensures cause { OnErr result (O.has_failed output.new ≡ true) }
     ensures works { OnOk result (session.new.ended ≡ false) }
-    ensures sent { IfOk result (λ goes_on. goes_on ≡ false → O.has_failed output.new ≡ false) }
-    ensures read { OnOk result (I.has_failed input.new ≡ false) }
-    ensures only { IfErr result (λ e. e ≡ ServingError.Stream) }
+    ensures sent { OnOk result (O.has_failed output.new ≡ false) }
 {
-    let mut piece = [0; PIECE];
-    let count = match input.read(&mut piece) {
-        Ok(Some(count)) => count,
-        Ok(None) => return Ok(true),
-        Err(_) => return Err(ServingError::Stream),
-    };
-    feed_all(alloc, session, desk, shelf, &piece[..count], output)?;
-    flush(output)?;
-    Ok(count > 0)
+    reply(alloc, session, desk, shelf, piece, output)?;
+    tell(alloc, session, desk, is_cut, output)?;
+    output.flush()?;
+    Ok(())
 }
 
-// Feeds a piece line by line, so that the replies to a line and the news after it are out before the next one is taken.
-fn feed_all<K: Desk, O: Output>(
+// Feeds what came, if anything did.
+fn reply<K: Desk, O: Output>(
     alloc: Global,
     session: &mut Session,
     desk: &mut K,
     shelf: &mut Shelf,
     piece: &[u8],
     output: &mut O,
-) -> Result<(), ServingError>
+) -> Result<(), SessionEnded>
     requires fits { Fits (K.reached desk.old) shelf.old }
     requires works { session.old.ended ≡ false }
     ensures fits { Fits (K.reached desk.new) shelf.new }
-    ensures served { OnOk result (ServesBytes K.does session.old piece.now session.new desk.old desk.new
+    ensures fed { OnOk result (Feeds K.does session.old piece.now session.new desk.old desk.new
         (O.contents output.old) (O.contents output.new)) }
-    ensures stopped { OnErr result (StopsBytes K.does session.old piece.now desk.old desk.new
+    ensures stopped { OnErr result (Stops K.does session.old piece.now session.new desk.old desk.new
         (O.contents output.old) (O.contents output.new)) }
     ensures cause { OnErr result (O.has_failed output.new ≡ true) }
     ensures works { OnOk result (session.new.ended ≡ false) }
-    ensures only { IfErr result (λ e. e ≡ ServingError.Stream) }
 {
-    let mut rest = piece;
-    while !rest.is_empty() {
-        let (text, behind) = parted(rest);
-        feed_text(alloc, session, desk, shelf, text, output)?;
-        rest = match behind.split_first() {
-            Some((_end, next)) => {
-                end_line(alloc, session, desk, shelf, output)?;
-                next
-            }
-            None => behind,
-        };
+    if piece.is_empty() {
+        return Ok(());
     }
-    Ok(())
+    session.feed(alloc, piece, output, desk, shelf)
 }
 
-// What stands in front of the first line end, and what stands from there on.
-fn parted(piece: &[u8]) -> (&[u8], &[u8])
-    ensures whole { piece.now ≡ result.0.now ++ result.1.now }
-    ensures text { HasNoEnd result.0.now }
-    ensures end { BeginsWithEnd result.1.now }
-{
-    piece.split_at(text_length(piece))
-}
-
-// Feeds text within a line.
-fn feed_text<K: Desk, O: Output>(
+// Tells the news where the input is cut.
+fn tell<K: Desk, O: Output>(
     alloc: Global,
     session: &mut Session,
     desk: &mut K,
-    shelf: &mut Shelf,
-    text: &[u8],
+    is_cut: bool,
     output: &mut O,
-) -> Result<(), ServingError>
-    requires fits { Fits (K.reached desk.old) shelf.old }
+) -> Result<(), SessionEnded>
     requires works { session.old.ended ≡ false }
-    requires text { HasNoEnd text.now }
-    ensures fits { Fits (K.reached desk.new) shelf.new }
-    ensures served { OnOk result (ServesBytes K.does session.old text.now session.new desk.old desk.new
-        (O.contents output.old) (O.contents output.new)) }
-    ensures stopped { OnErr result (StopsBytes K.does session.old text.now desk.old desk.new
-        (O.contents output.old) (O.contents output.new)) }
+    ensures later { IsLater (K.reached desk.old) (K.reached desk.new) }
+    ensures told { OnOk result (TellsWhere K.does is_cut session.old session.new desk.old desk.new (O.contents output.old) (O.contents output.new)) }
+    ensures cut { OnErr result (is_cut ≡ true) }
+    ensures stopped { OnErr result (StopsNews K.does session.old session.new desk.old desk.new (O.contents output.old) (O.contents output.new)) }
     ensures cause { OnErr result (O.has_failed output.new ≡ true) }
     ensures works { OnOk result (session.new.ended ≡ false) }
-    ensures only { IfErr result (λ e. e ≡ ServingError.Stream) }
 {
-    let Ok(()) = session.feed(alloc, text, output, desk, shelf) else {
-        return Err(ServingError::Stream);
-    };
-    Ok(())
-}
-
-// Feeds the end of a line, tells the news, and sends on what was written.
-fn end_line<K: Desk, O: Output>(
-    alloc: Global,
-    session: &mut Session,
-    desk: &mut K,
-    shelf: &mut Shelf,
-    output: &mut O,
-) -> Result<(), ServingError>
-    requires fits { Fits (K.reached desk.old) shelf.old }
-    requires works { session.old.ended ≡ false }
-    ensures fits { Fits (K.reached desk.new) shelf.new }
-    ensures served { OnOk result (ServesBytes K.does session.old (10 ∷ []) session.new desk.old desk.new
-        (O.contents output.old) (O.contents output.new)) }
-    ensures stopped { OnErr result (StopsBytes K.does session.old (10 ∷ []) desk.old desk.new
-        (O.contents output.old) (O.contents output.new)) }
-    ensures cause { OnErr result (O.has_failed output.new ≡ true) }
-    ensures works { OnOk result (session.new.ended ≡ false) }
-    ensures only { IfErr result (λ e. e ≡ ServingError.Stream) }
-{
-    let Ok(()) = session.feed(alloc, &[b'\n'], output, desk, shelf) else {
-        return Err(ServingError::Stream);
-    };
-    let Ok(_) = session.on_news(alloc, output, desk) else {
-        return Err(ServingError::Stream);
-    };
-    flush(output)?;
-    Ok(())
-}
-
-fn flush<O: Output>(output: &mut O) -> Result<(), ServingError>
-    ensures kept { Keeps (O.contents output.old) (O.contents output.new) }
-    ensures works { OnOk result (O.has_failed output.new ≡ false) }
-    ensures failed { OnErr result (O.has_failed output.new ≡ true) }
-    ensures only { IfErr result (λ e. e ≡ ServingError.Stream) }
-{
-    let Ok(()) = output.flush() else {
-        return Err(ServingError::Stream);
-    };
+    if is_cut {
+        session.on_news(alloc, output, desk)?;
+    }
     Ok(())
 }

@@ -1,4 +1,4 @@
-mod Turns
+mod Reading
 mod Served
 mod Crossing
 mod Unasked

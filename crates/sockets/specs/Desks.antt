@@ -3,22 +3,22 @@ use Rattle.std.specs.Prelude.{◌≡◌, ℕ, true, false, List, [], ◌∷◌, 
 use mathlib.Core.List.{IsPrefix}
 use Rattle.session.specs.Session.{Session}
 use Rattle.session.specs.Exchange.{Exchange}
-use Rattle.session.specs.Calls.{Call, Fed, IsForNews, Calls}
+use Rattle.session.specs.Calls.{Call, Fed, Calls}
 use Rattle.session.specs.Replies.{Asks}
+use Rattle.serving.specs.Turns.{beginning, InputPiece, AreNews, AreTurns}
 use Rattle.sockets.specs.declared.parting.Parting.{Parting}
 use Rattle.sockets.specs.declared.raw.Visit.{Visit}
 use Rattle.sockets.specs.Socket as socket
 use Rattle.sockets.specs.Socket.{Event, pieces_of, bytes_of}
 use Rattle.sockets.specs.Host.{reads_in, writes_in}
-use Rattle.sockets.specs.Conversation.{beginning, AreTurns}
 use Rattle.sockets.specs.Ends.{EndsBetween, ends_in_write, was_closed}
 
 -- These are turns, and the last one may have been broken off: a part of its piece was fed, and then one part more.
-pub data AreTurnsSoFar : List (List ℕ) → List Call → Type 0 where
+pub data AreTurnsSoFar : List InputPiece → List Call → Type 0 where
   no_turn : AreTurnsSoFar [] []
-  in_piece : (front part rest : List ℕ) → AreTurnsSoFar ((front ++ (part ++ rest)) ∷ []) (Fed front ∷ Fed part ∷ [])
-  turn_before : (piece : List ℕ) (pieces : List (List ℕ)) (news : Call) (calls : List Call) → IsForNews news → AreTurnsSoFar pieces calls
-      → AreTurnsSoFar (piece ∷ pieces) (Fed piece ∷ news ∷ calls)
+  in_piece : (piece : InputPiece) (front part rest : List ℕ) → piece.bytes ≡ front ++ (part ++ rest) → AreTurnsSoFar (piece ∷ []) (Fed front ∷ Fed part ∷ [])
+  turn_before : (piece : InputPiece) (pieces : List InputPiece) (news calls : List Call) → AreNews piece.is_cut news → AreTurnsSoFar pieces calls
+      → AreTurnsSoFar (piece ∷ pieces) (Fed piece.bytes ∷ (news ++ calls))
 
 -- What a peer was sent in a conversation is the replies to what was got of it, in order, and the news, told after each read and each wait,
 -- where these were asked; and it ended for a cause, until when the connection wasn't shut down. Where a write failed it was a prefix of that.

@@ -5,6 +5,7 @@ pub mod Host
 pub mod Outgoing
 pub mod Ends
 pub mod Conversation
+pub mod Reads
 pub mod Desks
 pub mod Room
 pub mod Door

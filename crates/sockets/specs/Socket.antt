@@ -1,5 +1,6 @@
 -- What a listener and its connections were asked, and what came of it.
-use Rattle.std.specs.Prelude.{◌≡◌, ℕ, ◌+◌, List, [], ◌∷◌, ◌++◌, take}
+use Rattle.std.specs.Prelude.{◌≡◌, ℕ, ◌+◌, true, List, [], ◌∷◌, ◌++◌, take}
+use Rattle.serving.specs.Turns.{InputPiece}
 use Rattle.sockets.specs.declared.raw.Got.{Got}
 use Rattle.sockets.specs.declared.raw.Got.TheVariants as got
 use Rattle.sockets.specs.declared.raw.Put.{Put}
@@ -34,11 +35,11 @@ event_of_write (put.Bytes count) bytes = Wrote (take count bytes)
 event_of_write put.Nothing bytes = WriteWaited
 event_of_write put.Failed bytes = WriteFailed
 
--- the pieces of the input, oldest first: what each read brought, no byte where it waited in vain
-abbrev pub pieces_of : List Event → List (List ℕ)
+-- The pieces of the input, oldest first: what each read brought, no byte where it waited in vain. The input is cut behind each.
+abbrev pub pieces_of : List Event → List InputPiece
 pieces_of [] = []
-pieces_of (Read bytes ∷ events) = pieces_of events ++ (bytes ∷ [])
-pieces_of (ReadWaited ∷ events) = pieces_of events ++ ([] ∷ [])
+pieces_of (Read bytes ∷ events) = pieces_of events ++ record { bytes = bytes; is_cut = true } ∷ []
+pieces_of (ReadWaited ∷ events) = pieces_of events ++ record { bytes = []; is_cut = true } ∷ []
 pieces_of (event ∷ events) = pieces_of events
 
 -- how many reads waited in vain

@@ -8,7 +8,6 @@ use crate::conversation::converse;
 use crate::hall::Hall;
 use crate::outgoing::Outgoing;
 use crate::parting::Parting;
-use crate::patience::Patience;
 use crate::raw::{HostPeer, HostReader, HostWriter, Visit};
 use crate::talk::Talk;
 use session::Desk;
@@ -55,16 +54,7 @@ fn serve_halves<'h, T: Talk, K: Desk, R: Wait>(
         Ok(output) => output,
         Err(writer) => return (Parting::NoMemory, Visit::of(reader, writer)),
     };
-    let mut patience = Patience::new(hall.idle());
-    let ended = converse(
-        rt,
-        alloc,
-        hall,
-        &mut patience,
-        desk,
-        &mut reader,
-        &mut output,
-    );
+    let ended = converse(rt, alloc, hall, desk, &mut reader, &mut output);
     match output.finish() {
         Ok(writer) => match ended {
             Ok(why) => (why, Visit::of(reader, writer)),

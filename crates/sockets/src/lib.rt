@@ -1,9 +1,9 @@
 //! Sessions over TCP: a thread for each desk, which serves one connection after another.
 //!
 //! `serve_desks` takes connections from a listener and hands each to a desk that is free, in the thread of that desk. A connection has a
-//! session of its own: what comes in one read is given to `Session::feed`, the news are told after each read and after each 100
-//! milliseconds in which nothing came, and all that was written then leaves at once. A peer that takes no byte of what is written to it
-//! holds up its own desk alone, and is closed: a write that took no byte in 5 seconds fails. One that took some is followed by another
+//! session of its own, in the loop of `serving`: its input is cut behind each read (`reads.rt`), so that what comes in one read is fed at
+//! once, the news are told after each read and after each 100 milliseconds in which nothing came, and all that was written then leaves at
+//! once. A peer that takes no byte of what is written to it holds up its own desk alone, and is closed: a write that took no byte in 5 seconds fails. One that took some is followed by another
 //! one, and the system takes a little more where it seemed full, so that this comes about after 5 to 15 seconds. A peer that is idle for as
 //! many seconds as were asked for is closed (`specs/Idle.antt`), which is counted by the reads in which nothing came: bytes of a line that
 //! has no end neither count nor begin anew. An error of the listener is waited out, but for those by which it can't work any more
@@ -71,6 +71,7 @@ mod attendance;
 mod begun;
 mod connection;
 mod conversation;
+mod desks;
 mod door;
 mod guests;
 mod hall;
@@ -80,12 +81,12 @@ mod parting;
 mod patience;
 mod pause;
 mod raw;
-mod serving;
+mod reads;
 mod talk;
 mod threads;
 mod watch;
 
 pub use attendance::{Attendance, Attended};
+pub use desks::serve_desks;
 pub use raw::{Addresses, HostListener, HostPeer, Listen, SocketNotes, Visit, Visits};
-pub use serving::serve_desks;
 pub use watch::{ListenerWatch, Peers};

@@ -8,7 +8,7 @@ use session::Session;
 const BEATS: u64 = 10;
 
 /// For how many waits of a read a peer has been idle, and for how many it may be; 0 is for ever.
-#[derive(Drop)]
+#[derive(Clone, Copy)]
 pub struct Patience {
     limit: u64,
     waited: u64,
