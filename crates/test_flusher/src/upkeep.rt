@@ -120,7 +120,7 @@ fn idle_turn<L: Life, R: Wait + Abort + AllocGlobal>(
     upkeep: &mut Upkeep,
     every: u32,
 )
-    requires { 1 ≤ every }
+    requires every { 1 ≤ every }
     requires at { IsAt writer.old flusher.old }
     ensures at { IsAt writer.new flusher.new }
 {

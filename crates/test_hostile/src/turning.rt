@@ -95,7 +95,7 @@ fn send<L: Life, R: Wait + AllocGlobal>(
     number: u64,
     step: &Step,
 ) -> Result<Option<Reply>, Refusal>
-    requires { 1 ≤ every }
+    requires every { 1 ≤ every }
     requires at { IsAt writer.old flusher.old }
     ensures at { IsAt writer.new flusher.new }
 {
@@ -118,7 +118,7 @@ fn asked<L: Life, R: Wait + AllocGlobal>(
     step: &Step,
     is_again: bool,
 ) -> Option<&'static str>
-    requires { 1 ≤ every }
+    requires every { 1 ≤ every }
     requires at { IsAt writer.old flusher.old }
     ensures at { IsAt writer.new flusher.new }
 {
@@ -167,7 +167,7 @@ fn send_steps<L: Life, R: Wait + AllocGlobal>(
     script: &Script,
     begin: Begin,
 ) -> (usize, Option<&'static str>)
-    requires { 1 ≤ every }
+    requires every { 1 ≤ every }
     requires at { IsAt writer.old flusher.old }
 {
     let mut upkeep = Upkeep::new(rt.alloc(), 0, None, flusher.state());
