@@ -1,5 +1,5 @@
 //! The flusher.
-ghost use Rattle.std.specs.Prelude.{◌≡◌, ◌<◌, ◌≤◌, ◌^◌, [], ◌∷◌, ◌++◌, false, Some, None, length, OnOk, IfOk, IfErr, IfSome, IsErrOf};
+ghost use Rattle.std.specs.Prelude.{◌≡◌, ◌⊎◌, ◌<◌, ◌≤◌, ◌^◌, [], ◌∷◌, ◌++◌, true, false, Some, None, length, OnOk, IfOk, IfErr, IfSome, IsErrOf};
 ghost use Rattle.std.specs.Option.{ForSome};
 ghost use mathlib.Core.List.{IsPrefix};
 ghost use Rattle.revision.specs.State.{fold};
@@ -14,7 +14,7 @@ use crate::begun::Begun;
 use crate::gate::{Gate, Moment};
 use crate::written::{Written, to_settle};
 use disk::Disk;
-use hub::Run;
+use hub::{Cause, Run};
 use published::{Life, Moments, Ordered, Told};
 use recovery::Store;
 use refusal::Refusal;
@@ -42,7 +42,7 @@ pub struct Flusher<D: Disk, L: Life> {
 
 impl<D: Disk, L: Life> Flusher<D, L> {
     ghost use Rattle.recovery.specs.Open.{IsWithOrWithout, has_failed};
-    ghost use Rattle.flusher.specs.Flushers.{cap_of};
+    ghost use Rattle.flusher.specs.Flushers.{IsUsedUp, cap_of};
     ghost use Rattle.recovery.specs.Freed.{HasFew, SyncsAtMost};
     ghost use Rattle.recovery.specs.Goes.{Goes};
     ghost use Rattle.flusher.specs.Holding.{KeepsBatches, HasNoRoom, LastsSince, store_of, told_of, committed_of, waiting_of, moments_of, opened_of};
@@ -227,6 +227,32 @@ impl<D: Disk, L: Life> Flusher<D, L> {
         ensures none { committed_of self.now ++ waiting_of self.now ≡ [] → result ≡ false }
     {
         self.publisher.holds() || self.waiting.is_some()
+    }
+
+    /// Whether the device of the store has failed.
+    pub fn has_failed(&self) -> bool
+        ensures { result ≡ has_failed (store_of self.now) }
+    {
+        self.store.has_failed()
+    }
+
+    /// Why its store takes no batch any more: the device has failed.
+    pub fn failed(&self) -> Cause<L>
+        requires { has_failed (store_of self.now) ≡ true }
+        ensures { result ≡ Refusal.Fault }
+    {
+        Cause::failed(self.publisher.log(), &self.store)
+    }
+
+    /// Why its store takes no batch any more: one that it held at a moment had no room then, and the last segment was opened.
+    pub fn full(&self, before: &Snapshot<Flusher<D, L>>, refusal: Refusal) -> Cause<L>
+        requires full { (refusal ≡ Refusal.JournalFull) ⊎ (refusal ≡ Refusal.StillNeeded) }
+        requires room { HasNoRoom before.now.value }
+        requires last { IsUsedUp (store_of before.now.value) }
+        ensures { result ≡ refusal }
+    {
+        let _ = before;
+        Cause::full(self.publisher.log(), refusal)
     }
 
     /// How many bytes a batch may have: what fits a slot in which nothing stands yet.

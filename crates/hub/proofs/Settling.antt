@@ -36,7 +36,7 @@ may_settle board writer batch told next settled taken (more, whole) =
     let place : length before ≡ board.settled = next.settled ∙ settled in
     let order : before ++ (batch ++ more) ≡ takens board.order = sym (append_assoc before batch more) ∙ ap (λ l. l ++ more) (sym joined) ∙ whole in
     let behind : drop board.settled (takens board.order) ≡ batch ++ more =
-        ap (λ n. drop n (takens board.order)) (sym place) ∙ ap (drop (length before)) (sym order) ∙ drop-append_seam before (batch ++ more) in
+    ap (λ n. drop n (takens board.order)) (sym place) ∙ ap (drop (length before)) (sym order) ∙ drop-append_seam before (batch ++ more) in
     let long : length (commands_of told) ≡ board.settled + length batch = omega (arith, ap length joined, length-append before batch, place) in
     record {
       next = sym (takens-take (length batch) (drop board.settled board.order) ∙ ap (take (length batch)) (takens-drop board.settled board.order ∙ behind) ∙ take-append_seam batch more);

@@ -14,6 +14,7 @@ ghost use Rattle.hub.specs.Placed.{IsPlaced, StandsFirst, WasSubmitted};
 ghost use Rattle.hub.specs.Runs.{AreMadeThere, IsLongest, untaken, MaySettle};
 
 use crate::ahead::moved_in;
+use crate::cause::Cause;
 use crate::found::Found;
 use crate::run::{Run, copied, is_beginning, longest};
 use crate::seat::{PLACES, Seat, Tally, Ticket, count};
@@ -438,10 +439,11 @@ impl<D, L: Life, C> Board<D, L, C> {
         }
     }
 
-    /// Notes that the store has failed. It takes no memory.
-    pub fn fail(&mut self)
+    /// Notes that the store has failed, for this cause, which is used up. It takes no memory.
+    pub fn fail(&mut self, cause: Cause<L>)
         ensures { self.new ≡ record self.old { failed = true } }
     {
+        drop(cause);
         self.failed = true;
     }
 }

@@ -51,6 +51,7 @@ ghost use Rattle.hub.specs.Runs.{ComesNext, counts_settled, counts_taken};
 ghost use Rattle.hub.specs.Submitted.{counted_all, counted_by};
 
 use crate::board::Board;
+use crate::cause::Cause;
 use crate::found::Found;
 use crate::locked::{Closer, Locked, Writer};
 use crate::place::Place;
@@ -269,12 +270,12 @@ impl<D, L: Life> Hub<D, L> {
         }
     }
 
-    /// Notes that the store has failed, for this reason, and wakes all who wait.
-    pub fn fail<R: Wait>(&self, rt: &R, writer: &mut Writer<L>, why: Refusal) -> Failed<L>
-        ensures why { result ≡ why }
+    /// Notes that the store has failed, for this cause, which is used up, and wakes all who wait.
+    pub fn fail<R: Wait>(&self, rt: &R, writer: &mut Writer<L>, cause: Cause<L>) -> Failed<L>
+        ensures why { result ≡ cause }
         ensures writer { writer.new ≡ writer.old }
     {
-        let failed = self.held(rt).fail(writer, why);
+        let failed = self.held(rt).fail(writer, cause);
         for place in self.places.iter() {
             place.lock(rt).stop(Stopped::by_failed(&failed));
         }

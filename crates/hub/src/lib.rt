@@ -24,7 +24,9 @@
 //! held, the commands from there on have none, until all before them are taken off.
 //!
 //! What is the flusher's, to take, to settle, to wait for work and to fail, asks for a hub's `Writer`, and to end it or to give its seats
-//! out for its `Closer`: `Hub::new` gives one of each, which can't be copied, so that no session's desk can do any of it. The hub's own calls
+//! out for its `Closer`: `Hub::new` gives one of each, which can't be copied, so that no session's desk can do any of it. To fail
+//! a board a `Cause` is used up besides, which only who has the life's log of what is published makes, of a store that has failed or is full for
+//! good: that is the life's flusher. The hub's own calls
 //! can't either: what lies under the lock stands in a module of its own (src/locked.rt), which lends the board for reading alone, and asks for
 //! the same rights. So `Hub::submit` can't take, settle, fail, end or give a seat, and `Hub::wait_work`, which is lent a `Writer` alone,
 //! can't end. `Hub::into_board` takes both back, so a board has one of each at a time.
@@ -95,6 +97,7 @@
 
 mod ahead;
 mod board;
+mod cause;
 mod found;
 mod hub;
 mod locked;
@@ -107,6 +110,7 @@ mod waiting;
 
 pub use ahead::Ahead;
 pub use board::Board;
+pub use cause::Cause;
 pub use found::Found;
 pub use hub::Hub;
 pub use locked::{Closer, Writer};

@@ -15,6 +15,7 @@ ghost use Rattle.hub.specs.Submitted.{counted_all, counted_by};
 ghost use Rattle.hub.specs.Waiting.{AreWoken, NobodyIsForgotten, StillRightly, WaitsRightly, WakesAll, nobody, and_for};
 
 use crate::board::Board;
+use crate::cause::Cause;
 use crate::found::Found;
 use crate::run::Run;
 use crate::seat::{Seat, Ticket};
@@ -140,15 +141,16 @@ impl<D, L: Life> Locked<D, L> {
         self.ended
     }
 
-    // notes that the store has failed, for this reason
-    pub(crate) fn fail(&mut self, writer: &mut Writer<L>, why: Refusal) -> Failed<L>
+    // notes that the store has failed, for this cause
+    pub(crate) fn fail(&mut self, writer: &mut Writer<L>, cause: Cause<L>) -> Failed<L>
         ensures kept { self.new ≡ record self.old { board = record self.old.board { failed = true } } }
-        ensures why { result ≡ why }
+        ensures why { result ≡ cause }
         ensures writer { writer.new ≡ writer.old }
     {
         let _ = writer;
-        self.board.fail();
-        Failed::by_board(&self.board, why)
+        let refusal = cause.refusal();
+        self.board.fail(cause);
+        Failed::by_board(&self.board, refusal)
     }
 
     // notes that the end was called

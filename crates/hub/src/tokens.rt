@@ -64,8 +64,8 @@ impl<D, L: Life> Settled<D, L> {
     }
 }
 
-/// That the hub was told that the store has failed, and why. Only `Hub::fail` makes one, of a board that knows it. Contracts see it as
-/// the refusal.
+/// That the hub was told that the store has failed, and why. Only `Hub::fail` makes one, which uses a `Cause` up, of a board that knows it.
+/// Contracts see it as the refusal.
 #[derive(Drop)]
 pub struct Failed<L: Life> {
     refusal: Refusal,
@@ -151,8 +151,8 @@ impl<L: Life> Ended<L> {
     }
 }
 
-/// That a board of the run had failed, or that its hub had ended: nothing is submitted from then on. Only a hub makes one, of what lies under
-/// its lock. It takes no memory.
+/// That a board of the run had failed, for a cause, or that its hub had ended: nothing is submitted from then on. Only a hub makes one, of
+/// what lies under its lock. It takes no memory.
 #[derive(Drop)]
 pub struct Stopped<L: Life> {
     of: PhantomData<L>,

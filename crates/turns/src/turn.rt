@@ -6,11 +6,12 @@ ghost use Rattle.recovery.specs.Open.{state_of, has_failed};
 ghost use Rattle.flusher.specs.Flushers.{cap_of};
 ghost use Rattle.flusher.specs.Holding.{store_of, told_of, committed_of, waiting_of};
 ghost use Rattle.hub.specs.Runs.{counts_taken};
+ghost use Rattle.flusher.specs.Writing.{IsWriteRefused};
 ghost use Rattle.turns.specs.Counting.{IsAt};
 ghost use Rattle.turns.specs.Writing.{Writes, IsTurnFailed, IsEndedBy};
 ghost use Rattle.turns.specs.Turning.{HasTurned};
 
-use crate::turn_error::{TurnError, stopped};
+use crate::turn_error::{Stop, TurnError, stopped};
 use crate::turned::Turned;
 use crate::upkeep::Upkeep;
 use composers::Composers;
@@ -20,6 +21,7 @@ use hub::{Failed, Hub, Idle, Nothing, Run, Writer};
 use published::Life;
 use refusal::Refusal;
 use std::alloc::Global;
+use std::snapshot::Snapshot;
 use std::sync::Wait;
 use std::thread;
 
@@ -61,7 +63,7 @@ pub fn flush_turn<D: Disk, L: Life, R: Wait, G: Gate>(
 {
     match try_turn(rt, alloc, flusher, hub, writer, upkeep, gate) {
         Ok(turned) => Ok(turned),
-        Err(refusal) => Err(stopped(rt, hub, writer, refusal)),
+        Err(stop) => Err(stopped(rt, hub, writer, stop)),
     }
 }
 
@@ -74,7 +76,7 @@ fn try_turn<D: Disk, L: Life, R: Wait, G: Gate>(
     writer: &mut Writer<L>,
     upkeep: &mut Upkeep,
     gate: &mut G,
-) -> Result<Turned<D, L>, Refusal>
+) -> Result<Turned<D, L>, Stop<L>>
     requires at { IsAt writer.old flusher.old }
     ensures at { IsAt writer.new flusher.new }
     ensures writes { Writes L.start flusher.old flusher.new }
@@ -87,12 +89,15 @@ fn try_turn<D: Disk, L: Life, R: Wait, G: Gate>(
         → IsTurnFailed flusher.old e flusher.new) }
 {
     flusher.kept();
-    if let Err(refusal) = upkeep.keep_up(rt, alloc, flusher) {
-        return Err(refusal);
+    if flusher.has_failed() {
+        return Err(Stop::by_cause(flusher.failed()));
+    }
+    if upkeep.keep_up(rt, alloc, flusher).is_err() {
+        return Err(Stop::by_cause(flusher.failed()));
     }
     let answer = match fetch_batch(rt, alloc, flusher, hub, writer) {
         Ok(answer) => answer,
-        Err(refusal) => return Err(refusal),
+        Err(_) => return Err(Stop::no_memory()),
     };
     match answer {
         None => write_held(rt, alloc, flusher, hub, writer, upkeep, gate),
@@ -172,8 +177,9 @@ fn write_held<D: Disk, L: Life, R: Wait, G: Gate>(
     writer: &mut Writer<L>,
     upkeep: &mut Upkeep,
     gate: &mut G,
-) -> Result<Turned<D, L>, Refusal>
+) -> Result<Turned<D, L>, Stop<L>>
     requires at { IsAt writer.old flusher.old }
+    requires works { has_failed (store_of flusher.old) ≡ false }
     requires held { committed_of flusher.old ++ waiting_of flusher.old ≢ [] }
     ensures at { IsAt writer.new flusher.new }
     ensures writes { Writes L.start flusher.old flusher.new }
@@ -186,11 +192,12 @@ fn write_held<D: Disk, L: Life, R: Wait, G: Gate>(
         → IsTurnFailed flusher.old e flusher.new) }
 {
     flusher.kept();
+    let before = Snapshot::of(&*flusher);
     let written = match flusher.write(rt, alloc, gate) {
         Ok(written) => written,
         Err(refusal) => {
             flusher.kept();
-            return Err(refusal);
+            return Err(stop_for(flusher, &before, refusal));
         }
     };
     match written {
@@ -202,6 +209,25 @@ fn write_held<D: Disk, L: Life, R: Wait, G: Gate>(
             Ok(Turned::Settled(settled))
         }
     }
+}
+
+// What stops a turn whose write was refused so.
+fn stop_for<D: Disk, L: Life>(
+    flusher: &Flusher<D, L>,
+    before: &Snapshot<Flusher<D, L>>,
+    refusal: Refusal,
+) -> Stop<L>
+    requires why { IsWriteRefused refusal before.now.value flusher.now }
+    requires fault { refusal ≡ Refusal.Fault → has_failed (store_of flusher.now) ≡ true }
+    ensures { result ≡ refusal }
+{
+    if refusal == Refusal::NoMemory {
+        return Stop::no_memory();
+    }
+    if refusal == Refusal::Fault {
+        return Stop::by_cause(flusher.failed());
+    }
+    Stop::by_cause(flusher.full(before, refusal))
 }
 
 /// Makes turns until the hub is ended and all that was ordered is settled, or until a turn fails the board. After a turn it waits where

@@ -147,6 +147,11 @@ impl<D: Disk, L: Life> Publisher<D, L> {
         }
     }
 
+    /// The log of what is published, which nobody else has.
+    pub fn log(&self) -> &Log<D, L> {
+        &self.log
+    }
+
     /// The token of what is published.
     pub fn told(&self) -> &Told<D, L>
         ensures { result.now ≡ self.now.told }

@@ -6,17 +6,29 @@ use Rattle.turns.proofs.Counting.{at_kept_up}
 use Rattle.turns.specs.declared.turned.Turned.TheVariants.{Nothing}
 use Rattle.turns.proofs.turn.try_turn.Goals as goal
 
--- the device failed at a milestone
+-- the device had failed before
+pub returns-then-has_failed-clause-writes : goal.returns-then-has_failed-clause-writes
+returns-then-has_failed-clause-writes g c = writes_none g.L.Life.start c.args.flusher.now c.kept.ensures
+
+-- it failed at a milestone
+pub failed-in-Err-requires : goal.failed-in-Err-requires
+failed-in-Err-requires g c = failed_at c.in-Err.refusal (has_failed (store_of c.args.flusher.now)) (has_failed (store_of c.keep_up.new.flusher)) (search rules) c.in-Err.ensures.fails c.in-Err.ensures.only
+
 pub returns-in-Err-clause-writes : goal.returns-in-Err-clause-writes
 returns-in-Err-clause-writes g c =
     let e = c.keep_up.ensures in
     writes_kept_up g.L.Life.start c.args.flusher.now c.keep_up.new.flusher c.kept.ensures e.keeps
 
 pub returns-in-Err-clause-fails : goal.returns-in-Err-clause-fails
-returns-in-Err-clause-fails g c = fails_err c.in-Err.refusal (has_failed (store_of c.args.flusher.now)) (has_failed (store_of c.keep_up.new.flusher)) c.in-Err.ensures.fails
+returns-in-Err-clause-fails g c =
+    fails_same c.by_cause-in-Err.result c.in-Err.refusal (has_failed (store_of c.args.flusher.now)) (has_failed (store_of c.keep_up.new.flusher))
+    (c.by_cause-in-Err.ensures ∙ c.failed-in-Err.ensures ∙ sym c.in-Err.ensures.only) c.in-Err.ensures.fails
 
 pub returns-in-Err-clause-causes : goal.returns-in-Err-clause-causes
-returns-in-Err-clause-causes g c = λ no_memory no_fault. absurd (no_fault c.in-Err.ensures.only)
+returns-in-Err-clause-causes g c = λ no_memory no_fault. absurd (no_fault (c.by_cause-in-Err.ensures ∙ c.failed-in-Err.ensures))
+
+pub returns-in-Err-clause-at : goal.returns-in-Err-clause-at
+returns-in-Err-clause-at g c = at_kept_up c.args.writer.now c.args.flusher.now c.keep_up.new.flusher c.keep_up.ensures.keeps c.requires.at
 
 -- memory is wanted for a run
 pub returns-in-Err-fetch_batch-clause-writes : goal.returns-in-Err-fetch_batch-clause-writes

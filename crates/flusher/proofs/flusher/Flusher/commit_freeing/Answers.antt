@@ -53,8 +53,15 @@ invariant_of-self-in-Ok g c =
       kept = kept;
       few = (
         omega (arith, ap (λ (p : Published). length p.unpublished) c.accept.ensures),
-        omega (arith, ap (λ (p : Published). length p.unpublished) c.accept.ensures, ap (λ (p : Published). length (commands_of p.unpublished)) c.accept.ensures,
-        length-append c.in-Ok.receipt.batch [], ap length names, ap length same, (before.fits c.in-Some.batch held).some),
+        omega (
+          arith,
+          ap (λ (p : Published). length p.unpublished) c.accept.ensures,
+          ap (λ (p : Published). length (commands_of p.unpublished)) c.accept.ensures,
+          length-append c.in-Ok.receipt.batch [],
+          ap length names,
+          ap length same,
+          (before.fits c.in-Some.batch held).some,
+        ),
       );
       fits = λ x is. absurd (let none : ⊥ = cc in none);
       placed = λ x is. absurd (let none : ⊥ = cc in none);
