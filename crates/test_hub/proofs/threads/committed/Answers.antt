@@ -24,8 +24,13 @@ module _ {D E : Type 0} where
   -- and all that is taken off is published then, as what was published before with the batch
   longer : (both : List (List Taken) × Receipt D) (told : List (List Taken)) → both.0 ≡ told ++ both.1.batch ∷ [] → length (commands_of both.0) ≡ length (commands_of told) + length both.1.batch
   longer both told ends =
-      omega (arith, ap (λ (t : List (List Taken)). length (commands_of t)) ends, ap length (commands-append told (both.1.batch ∷ [])), length-append (commands_of told) (both.1.batch ++ []),
-      length-append both.1.batch [])
+      omega (
+        arith,
+        ap (λ (t : List (List Taken)). length (commands_of t)) ends,
+        ap length (commands-append told (both.1.batch ∷ [])),
+        length-append (commands_of told) (both.1.batch ++ []),
+        length-append both.1.batch [],
+      )
 
   taken_all : (result : Result (List (List Taken) × Receipt D) E) (old new : Writer) (told : List (List Taken)) (run : List Taken) → old.taken ≡ length (commands_of told)
       → new ≡ counts_taken old (length run) → IfOk result (λ both. both.0 ≡ told ++ both.1.batch ∷ []) → IfOk result (λ both. both.1.batch ≡ run)
