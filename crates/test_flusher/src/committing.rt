@@ -21,7 +21,6 @@ use std::sync::ledger::Blank;
 use test_fixtures::{command, new_store, wide_command};
 
 // Submits a command and holds it as a batch, whose commit alone is answered as it is wanted. Then it is written and settled.
-#[tactic(auto, using(turns::proofs::CallerLemmas::at_committed, turns::proofs::CallerLemmas::comes_next, turns::proofs::CallerLemmas::at_settled))]
 fn is_committed<L: Life, R: Wait + Abort + AllocGlobal>(
     rt: &R,
     flusher: &mut Flusher<MemDisk, L>,
@@ -47,7 +46,6 @@ fn is_committed<L: Life, R: Wait + Abort + AllocGlobal>(
     let _settled = batch.settle(rt, hub, writer);
 }
 
-#[tactic(auto, using(turns::proofs::CallerLemmas::at_begun))]
 fn three_batches<L: Life, R: Wait + Abort + AllocGlobal>(
     rt: &R,
     store: Store<MemDisk>,

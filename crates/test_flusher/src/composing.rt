@@ -118,17 +118,22 @@ fn a_document_that_was_opened_gets_a_milestone(rt: HostRuntime) {
     assert!(rt; disk.bytes().get(2_112).copied() == Some(0));
 }
 
-// Puts both milestones of the only document at revision 2.
-fn put_both<L: Life>(rt: &(impl Abort + AllocGlobal), flusher: &mut Flusher<MemDisk, L>)
+// Behind the second command, puts both milestones of the only document at revision 2.
+fn put_both<L: Life>(
+    rt: &(impl Abort + AllocGlobal),
+    flusher: &mut Flusher<MemDisk, L>,
+    number: u64,
+)
     ensures { KeepsBatches flusher.old flusher.new }
 {
-    for _ in 0..2u8 {
-        assert!(rt; flusher.put_document(rt.alloc(), 0, 2).is_ok());
+    if number != 2 {
+        return;
     }
+    assert!(rt; flusher.put_document(rt.alloc(), 0, 2).is_ok());
+    assert!(rt; flusher.put_document(rt.alloc(), 0, 2).is_ok());
 }
 
 // Makes a turn for each of these commands, with no composers. After the second both milestones of the only document are put.
-#[tactic(auto, using(turns::proofs::CallerLemmas::at_begun, turns::proofs::CallerLemmas::at_kept))]
 fn retired_before<L: Life, R: Wait + Abort + AllocGlobal>(
     rt: &R,
     store: Store<MemDisk>,
@@ -159,9 +164,7 @@ fn retired_before<L: Life, R: Wait + Abort + AllocGlobal>(
             &mut OpenGate,
         );
         assert!(rt; turned.is_ok());
-        if command.number() == 2 {
-            put_both(rt, &mut flusher);
-        }
+        put_both(rt, &mut flusher, command.number());
     }
     flusher.end(rt).close()
 }

@@ -40,7 +40,7 @@ impl<L: Life> Gate for Looks<L> {
 }
 
 /// Takes the one command that was submitted off the board, and holds it.
-#[tactic(auto, using(crate::proofs::Fitting::fits_slot, turns::proofs::CallerLemmas::at_held))]
+#[tactic(auto, using(crate::proofs::Fitting::fits_slot))]
 pub fn hold_next<L: Life, R: Wait + Abort + AllocGlobal>(
     rt: &R,
     flusher: &mut Flusher<MemDisk, L>,
@@ -62,7 +62,6 @@ pub fn hold_next<L: Life, R: Wait + Abort + AllocGlobal>(
 }
 
 // Submits the next command, and writes and settles it: its reader was shown the revision before it until then, and is shown it now.
-#[tactic(auto, using(turns::proofs::CallerLemmas::comes_next, turns::proofs::CallerLemmas::at_settled))]
 fn is_shown<L: Life, R: Wait + Abort + AllocGlobal>(
     rt: &R,
     flusher: &mut Flusher<MemDisk, L>,
@@ -113,7 +112,6 @@ fn learns<L: Life>(
     assert_eq!(rt; deltas.len(), 1);
 }
 
-#[tactic(auto, using(turns::proofs::CallerLemmas::at_begun))]
 fn two_batches<L: Life, R: Wait + Abort + AllocGlobal>(
     rt: &R,
     store: Store<MemDisk>,

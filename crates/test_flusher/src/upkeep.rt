@@ -111,7 +111,6 @@ fn turn<L: Life, R: Wait + Abort + AllocGlobal>(
 
 // Makes a turn in which nothing is to be written. No segment is left after it that could be retired, and no job of the first document is due
 // that isn't out.
-#[tactic(auto, using(turns::proofs::CallerLemmas::at_kept_up))]
 fn idle_turn<L: Life, R: Wait + Abort + AllocGlobal>(
     rt: &R,
     flusher: &mut Flusher<MemDisk, L>,
@@ -172,7 +171,6 @@ fn are_put<L: Life>(flusher: &Flusher<MemDisk, L>, last: u64) -> bool
 
 // Makes turns for all commands, and two more, while the composers hold what they have taken. Then these may go on, and turns are made until
 // all milestones are put.
-#[tactic(auto, using(turns::proofs::CallerLemmas::at_begun))]
 fn turned<L: Life, R: Wait + Clock + Abort + AllocGlobal>(
     rt: &R,
     store: Store<MemDisk>,
@@ -325,7 +323,6 @@ fn the_turn_that_puts_a_milestone_retires_what_waits_for_it(rt: HostRuntime) {
 }
 
 // Makes turns while nobody takes from the channel, and more once the composers' ends are gone.
-#[tactic(auto, using(turns::proofs::CallerLemmas::at_begun))]
 fn alone<L: Life, R: Wait + Abort + AllocGlobal>(
     rt: &R,
     store: Store<MemDisk>,

@@ -25,12 +25,14 @@ fn put_due<L: Life>(rt: &impl AllocGlobal, flusher: &mut Flusher<FaultDisk, L>, 
     requires { 1 ≤ every }
     ensures { KeepsBatches flusher.old flusher.new }
 {
-    if let Some(revision) = flusher.job_due(0, u64::from(every)) {
-        let put = flusher.put_document(rt.alloc(), 0, revision);
-        if matches!(put, Err(Refusal::NoMemory)) {
-            let _ = flusher.put_document(rt.alloc(), 0, revision);
-        }
+    let Some(revision) = flusher.job_due(0, u64::from(every)) else {
+        return;
+    };
+    let put = flusher.put_document(rt.alloc(), 0, revision);
+    if !matches!(put, Err(Refusal::NoMemory)) {
+        return;
     }
+    let _ = flusher.put_document(rt.alloc(), 0, revision);
 }
 
 // A turn, whose failure is told as its refusal.
@@ -83,7 +85,6 @@ fn acknowledged<L: Life, R: Wait>(
 }
 
 // A command is submitted, written in a turn after the milestone that is due, and acknowledged.
-#[tactic(auto, using(turns::proofs::CallerLemmas::at_kept))]
 fn send<L: Life, R: Wait + AllocGlobal>(
     rt: &R,
     flusher: &mut Flusher<FaultDisk, L>,
@@ -198,7 +199,6 @@ fn send_steps<L: Life, R: Wait + AllocGlobal>(
 }
 
 // The life of a hub over a store.
-#[tactic(auto, using(turns::proofs::CallerLemmas::at_begun))]
 fn lived<L: Life, R: Wait + Abort + AllocGlobal>(
     rt: &R,
     store: Store<FaultDisk>,
