@@ -5,10 +5,10 @@ ghost use Rattle.recovery.specs.Open.{state_of};
 ghost use Rattle.flusher.specs.Holding.{committed_of, waiting_of};
 
 use crate::rows::SHAPE;
-use crate::seats::submitted;
+use crate::seats::{started, submitted};
 use crate::shows::hold_next;
 use disk::MemDisk;
-use flusher::{Flusher, OpenGate, start};
+use flusher::{Flusher, OpenGate};
 use hub::{Hub, Seat, Writer};
 use published::{Life, Opened};
 use recovery::Store;
@@ -59,12 +59,8 @@ fn three_batches<L: Life, R: Wait + Abort + AllocGlobal>(
     requires begin { state_of store ≡ L.start }
 {
     let alloc = rt.alloc();
-    let (mut flusher, mut board) = match start::<_, L>(alloc, store, opened, blank, 1) {
-        Ok(both) => both,
-        Err(fault) => panic!(rt; "{}", fault.refusal),
-    };
-    let mut seat = board.seat().expect(rt, "a seat");
-    let (hub, mut writer, _closer) = Hub::new(board);
+    let (mut flusher, hub, mut writer, mut closer) = started::<L>(rt, store, opened, blank, 1);
+    let mut seat = hub.seat(rt, &mut closer).expect(rt, "a seat");
     let first = command(alloc, 1, 1).expect(rt, "a command");
     is_committed(
         rt,

@@ -5,9 +5,9 @@ ghost use Rattle.recovery.specs.Open.{state_of};
 ghost use Rattle.flusher.specs.Holding.{committed_of, waiting_of};
 
 use crate::rows::SHAPE;
-use crate::seats::{acknowledged, submitted};
+use crate::seats::{acknowledged, started, submitted};
 use disk::MemDisk;
-use flusher::{Flusher, Gate, Moment, start};
+use flusher::{Flusher, Gate, Moment};
 use hub::{Hub, Seat, Writer};
 use published::{Life, Opened, Told};
 use recovery::Store;
@@ -124,12 +124,8 @@ fn two_batches<L: Life, R: Wait + Abort + AllocGlobal>(
     requires seats { blank.parts ≡ 2 }
     requires begin { state_of store ≡ L.start }
 {
-    let (mut flusher, mut board) = match start::<_, L>(rt.alloc(), store, opened, blank, 1) {
-        Ok(both) => both,
-        Err(fault) => panic!(rt; "{}", fault.refusal),
-    };
-    let mut seat = board.seat().expect(rt, "a seat");
-    let (hub, mut writer, _closer) = Hub::new(board);
+    let (mut flusher, hub, mut writer, mut closer) = started::<L>(rt, store, opened, blank, 1);
+    let mut seat = hub.seat(rt, &mut closer).expect(rt, "a seat");
     let mut gate = Looks {
         viewer: flusher.viewer().expect(rt, "a place"),
         learner: flusher.viewer().expect(rt, "a place"),

@@ -3,9 +3,9 @@ ghost use Rattle.std.specs.Prelude.{◌≡◌, ◌≤◌};
 ghost use Rattle.turns.specs.Counting.{IsAt};
 ghost use Rattle.recovery.specs.Open.{state_of};
 
-use crate::composing::{ROOMY, TURNS, started};
+use crate::composing::{ROOMY, TURNS};
 use crate::rows::SHAPE;
-use crate::seats::submitted;
+use crate::seats::{started, submitted};
 use disk::{Disk, MemDisk};
 use flusher::{Flusher, OpenGate};
 use hub::{Hub, Seat, Writer};
@@ -189,9 +189,8 @@ fn turned<L: Life, R: Wait + Clock + Abort + AllocGlobal>(
     let every = work.every;
     let last = work.last;
     assert!(rt; 1 <= every && 2 <= last);
-    let (mut flusher, mut board) = started::<L>(rt, store, opened, blank);
-    let mut seat = board.seat().expect(rt, "a seat");
-    let (hub, mut writer, _closer) = Hub::new(board);
+    let (mut flusher, hub, mut writer, mut closer) = started::<L>(rt, store, opened, blank, 1);
+    let mut seat = hub.seat(rt, &mut closer).expect(rt, "a seat");
     let mut upkeep = Upkeep::new(rt.alloc(), every, Some(ends), flusher.state());
     write_commands(
         rt,
@@ -335,8 +334,7 @@ fn alone<L: Life, R: Wait + Abort + AllocGlobal>(
     requires seats { blank.parts ≡ 2 }
     requires begin { state_of store ≡ L.start }
 {
-    let (mut flusher, board) = started::<L>(rt, store, opened, blank);
-    let (hub, mut writer, _closer) = Hub::new(board);
+    let (mut flusher, hub, mut writer, _closer) = started::<L>(rt, store, opened, blank, 1);
     let (ends, first, second) = channels(rt.alloc()).expect(rt, "memory");
     let mut upkeep = Upkeep::new(rt.alloc(), 4, Some(ends), flusher.state());
     for _ in 0..3u8 {

@@ -215,7 +215,7 @@ fn lived<L: Life, R: Wait + Abort + AllocGlobal>(
     requires begin { state_of store ≡ L.start }
     requires every { 1 ≤ every }
 {
-    let (mut flusher, mut board) = match start::<_, L>(rt.alloc(), store, opened, blank, 1) {
+    let (mut flusher, board) = match start::<_, L>(rt.alloc(), store, opened, blank, 1) {
         Ok(both) => both,
         Err(fault) => {
             return Ended {
@@ -225,8 +225,8 @@ fn lived<L: Life, R: Wait + Abort + AllocGlobal>(
             };
         }
     };
-    let mut seat = board.seat().expect(rt, "a seat");
-    let (hub, mut writer, _closer) = Hub::new(board);
+    let (hub, mut writer, mut closer) = Hub::new(board);
+    let mut seat = hub.seat(rt, &mut closer).expect(rt, "a seat");
     let (done, stopped) = send_steps(
         rt,
         &mut flusher,
