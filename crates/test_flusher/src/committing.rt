@@ -5,10 +5,10 @@ ghost use Rattle.recovery.specs.Open.{state_of};
 ghost use Rattle.flusher.specs.Holding.{committed_of, waiting_of};
 
 use crate::rows::SHAPE;
-use crate::seats::submitted;
+use crate::seats::{started, submitted};
 use crate::shows::hold_next;
 use disk::MemDisk;
-use flusher::{Flusher, OpenGate, start};
+use flusher::{Flusher, OpenGate};
 use hub::{Hub, Seat, Writer};
 use published::{Life, Opened};
 use recovery::Store;
@@ -21,7 +21,6 @@ use std::sync::ledger::Blank;
 use test_fixtures::{command, new_store, wide_command};
 
 // Submits a command and holds it as a batch, whose commit alone is answered as it is wanted. Then it is written and settled.
-#[tactic(auto, using(turns::proofs::CallerLemmas::at_committed, turns::proofs::CallerLemmas::comes_next, turns::proofs::CallerLemmas::at_settled))]
 fn is_committed<L: Life, R: Wait + Abort + AllocGlobal>(
     rt: &R,
     flusher: &mut Flusher<MemDisk, L>,
@@ -47,7 +46,6 @@ fn is_committed<L: Life, R: Wait + Abort + AllocGlobal>(
     let _settled = batch.settle(rt, hub, writer);
 }
 
-#[tactic(auto, using(turns::proofs::CallerLemmas::at_begun))]
 fn three_batches<L: Life, R: Wait + Abort + AllocGlobal>(
     rt: &R,
     store: Store<MemDisk>,
@@ -61,12 +59,8 @@ fn three_batches<L: Life, R: Wait + Abort + AllocGlobal>(
     requires begin { state_of store ≡ L.start }
 {
     let alloc = rt.alloc();
-    let (mut flusher, mut board) = match start::<_, L>(alloc, store, opened, blank, 1) {
-        Ok(both) => both,
-        Err(fault) => panic!(rt; "{}", fault.refusal),
-    };
-    let mut seat = board.seat().expect(rt, "a seat");
-    let (hub, mut writer, _closer) = Hub::new(board);
+    let (mut flusher, hub, mut writer, mut closer) = started::<L>(rt, store, opened, blank, 1);
+    let mut seat = hub.seat(rt, &mut closer).expect(rt, "a seat");
     let first = command(alloc, 1, 1).expect(rt, "a command");
     is_committed(
         rt,

@@ -3,13 +3,12 @@ ghost use Rattle.std.specs.Prelude.{◌≡◌};
 ghost use Rattle.turns.specs.Counting.{IsAt};
 ghost use Rattle.recovery.specs.Open.{state_of};
 ghost use Rattle.flusher.specs.Holding.{KeepsBatches};
-ghost use Rattle.flusher.specs.Standing.{HaveBegun};
 
 use crate::rows::SHAPE;
-use crate::seats::submitted;
+use crate::seats::{started, submitted};
 use disk::{Disk, MemDisk};
-use flusher::{Flusher, OpenGate, start};
-use hub::{Board, Hub, Writer};
+use flusher::{Flusher, OpenGate};
+use hub::{Hub, Writer};
 use published::{Life, Opened};
 use recovery::{Shape, Store};
 use revision::Command;
@@ -34,26 +33,6 @@ pub const ROOMY: Shape = Shape {
 
 /// So many turns are made at most, a millisecond apart.
 pub const TURNS: u64 = 20_000;
-
-/// A flusher and a board of a store.
-pub fn started<L: Life>(
-    rt: &(impl Abort + AllocGlobal),
-    store: Store<MemDisk>,
-    opened: Opened,
-    blank: Blank,
-) -> (Flusher<MemDisk, L>, Board<MemDisk, L>)
-    requires book { opened ≡ L.book }
-    requires name { blank.name ≡ L.name }
-    requires parts { blank.parts ≡ L.parts }
-    requires seats { blank.parts ≡ 2 }
-    requires begin { state_of store ≡ L.start }
-    ensures { HaveBegun L.start store 1 result.0 result.1 }
-{
-    match start::<_, L>(rt.alloc(), store, opened, blank, 1) {
-        Ok(both) => both,
-        Err(fault) => panic!(rt; "{}", fault.refusal),
-    }
-}
 
 // Makes turns in which nothing is to be written, until a milestone of the only document is put. Its revision is 9, and each fourth one is a
 // multiple: so the milestone is at 8, where a job for each ninth is due, and none for each eighth.
@@ -80,7 +59,6 @@ fn turned<L: Life, R: Wait + Clock + AllocGlobal>(
     false
 }
 
-#[tactic(auto, using(turns::proofs::CallerLemmas::at_begun))]
 fn composed_beside<L: Life + Send + Sync, R: Threads + Wait + Clock + Abort + AllocGlobal + Sync>(
     rt: &R,
     store: Store<MemDisk>,
@@ -93,8 +71,7 @@ fn composed_beside<L: Life + Send + Sync, R: Threads + Wait + Clock + Abort + Al
     requires seats { blank.parts ≡ 2 }
     requires begin { state_of store ≡ L.start }
 {
-    let (mut flusher, board) = started::<L>(rt, store, opened, blank);
-    let (hub, mut writer, _closer) = Hub::new(board);
+    let (mut flusher, hub, mut writer, _closer) = started::<L>(rt, store, opened, blank, 1);
     let (ends, first, second) = channels(rt.alloc()).expect(rt, "memory");
     let (_ended, put) = join(
         rt,
@@ -118,17 +95,22 @@ fn a_document_that_was_opened_gets_a_milestone(rt: HostRuntime) {
     assert!(rt; disk.bytes().get(2_112).copied() == Some(0));
 }
 
-// Puts both milestones of the only document at revision 2.
-fn put_both<L: Life>(rt: &(impl Abort + AllocGlobal), flusher: &mut Flusher<MemDisk, L>)
+// Behind the second command, puts both milestones of the only document at revision 2.
+fn put_both<L: Life>(
+    rt: &(impl Abort + AllocGlobal),
+    flusher: &mut Flusher<MemDisk, L>,
+    number: u64,
+)
     ensures { KeepsBatches flusher.old flusher.new }
 {
-    for _ in 0..2u8 {
-        assert!(rt; flusher.put_document(rt.alloc(), 0, 2).is_ok());
+    if number != 2 {
+        return;
     }
+    assert!(rt; flusher.put_document(rt.alloc(), 0, 2).is_ok());
+    assert!(rt; flusher.put_document(rt.alloc(), 0, 2).is_ok());
 }
 
 // Makes a turn for each of these commands, with no composers. After the second both milestones of the only document are put.
-#[tactic(auto, using(turns::proofs::CallerLemmas::at_begun, turns::proofs::CallerLemmas::at_kept))]
 fn retired_before<L: Life, R: Wait + Abort + AllocGlobal>(
     rt: &R,
     store: Store<MemDisk>,
@@ -143,9 +125,8 @@ fn retired_before<L: Life, R: Wait + Abort + AllocGlobal>(
     requires begin { state_of store ≡ L.start }
 {
     let alloc = rt.alloc();
-    let (mut flusher, mut board) = started::<L>(rt, store, opened, blank);
-    let mut seat = board.seat().expect(rt, "a seat");
-    let (hub, mut writer, _closer) = Hub::new(board);
+    let (mut flusher, hub, mut writer, mut closer) = started::<L>(rt, store, opened, blank, 1);
+    let mut seat = hub.seat(rt, &mut closer).expect(rt, "a seat");
     let mut upkeep = Upkeep::new(alloc, 0, None, flusher.state());
     for command in turns {
         let _ticket = submitted(rt, &hub, &mut seat, command);
@@ -159,9 +140,7 @@ fn retired_before<L: Life, R: Wait + Abort + AllocGlobal>(
             &mut OpenGate,
         );
         assert!(rt; turned.is_ok());
-        if command.number() == 2 {
-            put_both(rt, &mut flusher);
-        }
+        put_both(rt, &mut flusher, command.number());
     }
     flusher.end(rt).close()
 }

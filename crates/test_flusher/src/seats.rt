@@ -1,10 +1,42 @@
-//! What a session's thread asks of a hub, where nothing is refused.
+//! The hub of a store, and what a session's thread asks of it, where nothing is refused.
+ghost use Rattle.std.specs.Prelude.{◌≡◌, ◌+◌, []};
+ghost use Rattle.recovery.specs.Open.{state_of};
+ghost use Rattle.flusher.specs.Holding.{committed_of, waiting_of};
+ghost use Rattle.turns.specs.Counting.{IsAt};
+
 use disk::MemDisk;
-use hub::{Hub, Seat, Ticket};
-use published::{Life, Told};
+use flusher::{Flusher, start};
+use hub::{Closer, Hub, Seat, Ticket, Writer};
+use published::{Life, Opened, Told};
+use recovery::Store;
 use revision::Command;
 use std::process::Abort;
 use std::sync::Wait;
+use std::sync::ledger::Blank;
+
+/// The flusher and the hub of a store, with the rights to the hub.
+pub fn started<L: Life>(
+    rt: &(impl Abort + AllocGlobal),
+    store: Store<MemDisk>,
+    opened: Opened,
+    blank: Blank,
+    seats: u32,
+) -> (Flusher<MemDisk, L>, Hub<MemDisk, L>, Writer<L>, Closer<L>)
+    requires book { opened ≡ L.book }
+    requires name { blank.name ≡ L.name }
+    requires parts { blank.parts ≡ L.parts }
+    requires seats { blank.parts ≡ seats + 1 }
+    requires begin { state_of store ≡ L.start }
+    ensures at { IsAt result.2 result.0 }
+    ensures nothing { (committed_of result.0 ≡ []) × (waiting_of result.0 ≡ []) }
+{
+    let (flusher, board) = match start::<_, L>(rt.alloc(), store, opened, blank, seats) {
+        Ok(both) => both,
+        Err(fault) => panic!(rt; "{}", fault.refusal),
+    };
+    let (hub, writer, closer) = Hub::new(board);
+    (flusher, hub, writer, closer)
+}
 
 /// A command that is taken.
 pub fn submitted<L: Life, R: Wait + Abort + AllocGlobal>(

@@ -5,9 +5,9 @@ ghost use Rattle.recovery.specs.Open.{state_of};
 ghost use Rattle.flusher.specs.Holding.{committed_of, waiting_of};
 
 use crate::rows::SHAPE;
-use crate::seats::{acknowledged, submitted};
+use crate::seats::{acknowledged, started, submitted};
 use disk::MemDisk;
-use flusher::{Flusher, Gate, Moment, start};
+use flusher::{Flusher, Gate, Moment};
 use hub::{Hub, Seat, Writer};
 use published::{Life, Opened, Told};
 use recovery::Store;
@@ -40,7 +40,7 @@ impl<L: Life> Gate for Looks<L> {
 }
 
 /// Takes the one command that was submitted off the board, and holds it.
-#[tactic(auto, using(crate::proofs::Fitting::fits_slot, turns::proofs::CallerLemmas::at_held))]
+#[tactic(auto, using(crate::proofs::Fitting::fits_slot))]
 pub fn hold_next<L: Life, R: Wait + Abort + AllocGlobal>(
     rt: &R,
     flusher: &mut Flusher<MemDisk, L>,
@@ -62,7 +62,6 @@ pub fn hold_next<L: Life, R: Wait + Abort + AllocGlobal>(
 }
 
 // Submits the next command, and writes and settles it: its reader was shown the revision before it until then, and is shown it now.
-#[tactic(auto, using(turns::proofs::CallerLemmas::comes_next, turns::proofs::CallerLemmas::at_settled))]
 fn is_shown<L: Life, R: Wait + Abort + AllocGlobal>(
     rt: &R,
     flusher: &mut Flusher<MemDisk, L>,
@@ -113,7 +112,6 @@ fn learns<L: Life>(
     assert_eq!(rt; deltas.len(), 1);
 }
 
-#[tactic(auto, using(turns::proofs::CallerLemmas::at_begun))]
 fn two_batches<L: Life, R: Wait + Abort + AllocGlobal>(
     rt: &R,
     store: Store<MemDisk>,
@@ -126,12 +124,8 @@ fn two_batches<L: Life, R: Wait + Abort + AllocGlobal>(
     requires seats { blank.parts ≡ 2 }
     requires begin { state_of store ≡ L.start }
 {
-    let (mut flusher, mut board) = match start::<_, L>(rt.alloc(), store, opened, blank, 1) {
-        Ok(both) => both,
-        Err(fault) => panic!(rt; "{}", fault.refusal),
-    };
-    let mut seat = board.seat().expect(rt, "a seat");
-    let (hub, mut writer, _closer) = Hub::new(board);
+    let (mut flusher, hub, mut writer, mut closer) = started::<L>(rt, store, opened, blank, 1);
+    let mut seat = hub.seat(rt, &mut closer).expect(rt, "a seat");
     let mut gate = Looks {
         viewer: flusher.viewer().expect(rt, "a place"),
         learner: flusher.viewer().expect(rt, "a place"),

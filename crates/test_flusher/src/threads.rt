@@ -2,13 +2,12 @@
 ghost use Rattle.std.specs.Prelude.{◌≡◌};
 ghost use Rattle.turns.specs.Counting.{IsAt};
 ghost use Rattle.recovery.specs.Open.{state_of};
-ghost use Rattle.flusher.specs.Standing.{HaveBegun};
 
 use crate::rows::SHAPE;
-use crate::seats::{acknowledged, submitted as ordered};
+use crate::seats::{acknowledged, started, submitted as ordered};
 use disk::MemDisk;
-use flusher::{Flusher, Gate, Moment, start};
-use hub::{Board, Closer, Hub, Seat, Writer};
+use flusher::{Flusher, Gate, Moment};
+use hub::{Closer, Hub, Seat, Writer};
 use published::{Life, Opened};
 use recovery::Store;
 use refusal::Refusal;
@@ -118,26 +117,6 @@ fn flushed<L: Life, R: Wait>(
     }
 }
 
-fn started<L: Life, R: Abort + AllocGlobal>(
-    rt: &R,
-    store: Store<MemDisk>,
-    opened: Opened,
-    blank: Blank,
-) -> (Flusher<MemDisk, L>, Board<MemDisk, L>)
-    requires book { opened ≡ L.book }
-    requires name { blank.name ≡ L.name }
-    requires parts { blank.parts ≡ L.parts }
-    requires seats { blank.parts ≡ 3 }
-    requires begin { state_of store ≡ L.start }
-    ensures { HaveBegun L.start store 2 result.0 result.1 }
-{
-    match start::<_, L>(rt.alloc(), store, opened, blank, 2) {
-        Ok(both) => both,
-        Err(fault) => panic!(rt; "{}", fault.refusal),
-    }
-}
-
-#[tactic(auto, using(turns::proofs::CallerLemmas::at_begun))]
 fn beside<L: Life + Send + Sync, R: Threads + Wait + Abort + AllocGlobal + Sync>(
     rt: &R,
     store: Store<MemDisk>,
@@ -151,10 +130,9 @@ fn beside<L: Life + Send + Sync, R: Threads + Wait + Abort + AllocGlobal + Sync>
     requires begin { state_of store ≡ L.start }
 {
     let alloc = rt.alloc();
-    let (mut flusher, mut board) = started::<L, R>(rt, store, opened, blank);
-    let mut one = board.seat().expect(rt, "a seat");
-    let mut other = board.seat().expect(rt, "a seat");
-    let (hub, mut writer, mut closer) = Hub::new(board);
+    let (mut flusher, hub, mut writer, mut closer) = started::<L>(rt, store, opened, blank, 2);
+    let mut one = hub.seat(rt, &mut closer).expect(rt, "a seat");
+    let mut other = hub.seat(rt, &mut closer).expect(rt, "a seat");
     let reached = AtomicBool::new(false);
     let (held, saw) = join(
         rt,

@@ -3,9 +3,9 @@ ghost use Rattle.std.specs.Prelude.{◌≡◌, ◌≤◌};
 ghost use Rattle.turns.specs.Counting.{IsAt};
 ghost use Rattle.recovery.specs.Open.{state_of};
 
-use crate::composing::{ROOMY, TURNS, started};
+use crate::composing::{ROOMY, TURNS};
 use crate::rows::SHAPE;
-use crate::seats::submitted;
+use crate::seats::{started, submitted};
 use disk::{Disk, MemDisk};
 use flusher::{Flusher, OpenGate};
 use hub::{Hub, Seat, Writer};
@@ -111,7 +111,6 @@ fn turn<L: Life, R: Wait + Abort + AllocGlobal>(
 
 // Makes a turn in which nothing is to be written. No segment is left after it that could be retired, and no job of the first document is due
 // that isn't out.
-#[tactic(auto, using(turns::proofs::CallerLemmas::at_kept_up))]
 fn idle_turn<L: Life, R: Wait + Abort + AllocGlobal>(
     rt: &R,
     flusher: &mut Flusher<MemDisk, L>,
@@ -120,7 +119,7 @@ fn idle_turn<L: Life, R: Wait + Abort + AllocGlobal>(
     upkeep: &mut Upkeep,
     every: u32,
 )
-    requires { 1 ≤ every }
+    requires every { 1 ≤ every }
     requires at { IsAt writer.old flusher.old }
     ensures at { IsAt writer.new flusher.new }
 {
@@ -172,7 +171,6 @@ fn are_put<L: Life>(flusher: &Flusher<MemDisk, L>, last: u64) -> bool
 
 // Makes turns for all commands, and two more, while the composers hold what they have taken. Then these may go on, and turns are made until
 // all milestones are put.
-#[tactic(auto, using(turns::proofs::CallerLemmas::at_begun))]
 fn turned<L: Life, R: Wait + Clock + Abort + AllocGlobal>(
     rt: &R,
     store: Store<MemDisk>,
@@ -191,9 +189,8 @@ fn turned<L: Life, R: Wait + Clock + Abort + AllocGlobal>(
     let every = work.every;
     let last = work.last;
     assert!(rt; 1 <= every && 2 <= last);
-    let (mut flusher, mut board) = started::<L>(rt, store, opened, blank);
-    let mut seat = board.seat().expect(rt, "a seat");
-    let (hub, mut writer, _closer) = Hub::new(board);
+    let (mut flusher, hub, mut writer, mut closer) = started::<L>(rt, store, opened, blank, 1);
+    let mut seat = hub.seat(rt, &mut closer).expect(rt, "a seat");
     let mut upkeep = Upkeep::new(rt.alloc(), every, Some(ends), flusher.state());
     write_commands(
         rt,
@@ -325,7 +322,6 @@ fn the_turn_that_puts_a_milestone_retires_what_waits_for_it(rt: HostRuntime) {
 }
 
 // Makes turns while nobody takes from the channel, and more once the composers' ends are gone.
-#[tactic(auto, using(turns::proofs::CallerLemmas::at_begun))]
 fn alone<L: Life, R: Wait + Abort + AllocGlobal>(
     rt: &R,
     store: Store<MemDisk>,
@@ -338,8 +334,7 @@ fn alone<L: Life, R: Wait + Abort + AllocGlobal>(
     requires seats { blank.parts ≡ 2 }
     requires begin { state_of store ≡ L.start }
 {
-    let (mut flusher, board) = started::<L>(rt, store, opened, blank);
-    let (hub, mut writer, _closer) = Hub::new(board);
+    let (mut flusher, hub, mut writer, _closer) = started::<L>(rt, store, opened, blank, 1);
     let (ends, first, second) = channels(rt.alloc()).expect(rt, "memory");
     let mut upkeep = Upkeep::new(rt.alloc(), 4, Some(ends), flusher.state());
     for _ in 0..3u8 {

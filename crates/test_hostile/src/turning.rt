@@ -25,12 +25,14 @@ fn put_due<L: Life>(rt: &impl AllocGlobal, flusher: &mut Flusher<FaultDisk, L>, 
     requires { 1 ≤ every }
     ensures { KeepsBatches flusher.old flusher.new }
 {
-    if let Some(revision) = flusher.job_due(0, u64::from(every)) {
-        let put = flusher.put_document(rt.alloc(), 0, revision);
-        if matches!(put, Err(Refusal::NoMemory)) {
-            let _ = flusher.put_document(rt.alloc(), 0, revision);
-        }
+    let Some(revision) = flusher.job_due(0, u64::from(every)) else {
+        return;
+    };
+    let put = flusher.put_document(rt.alloc(), 0, revision);
+    if !matches!(put, Err(Refusal::NoMemory)) {
+        return;
     }
+    let _ = flusher.put_document(rt.alloc(), 0, revision);
 }
 
 // A turn, whose failure is told as its refusal.
@@ -83,7 +85,6 @@ fn acknowledged<L: Life, R: Wait>(
 }
 
 // A command is submitted, written in a turn after the milestone that is due, and acknowledged.
-#[tactic(auto, using(turns::proofs::CallerLemmas::at_kept))]
 fn send<L: Life, R: Wait + AllocGlobal>(
     rt: &R,
     flusher: &mut Flusher<FaultDisk, L>,
@@ -95,7 +96,7 @@ fn send<L: Life, R: Wait + AllocGlobal>(
     number: u64,
     step: &Step,
 ) -> Result<Option<Reply>, Refusal>
-    requires { 1 ≤ every }
+    requires every { 1 ≤ every }
     requires at { IsAt writer.old flusher.old }
     ensures at { IsAt writer.new flusher.new }
 {
@@ -118,7 +119,7 @@ fn asked<L: Life, R: Wait + AllocGlobal>(
     step: &Step,
     is_again: bool,
 ) -> Option<&'static str>
-    requires { 1 ≤ every }
+    requires every { 1 ≤ every }
     requires at { IsAt writer.old flusher.old }
     ensures at { IsAt writer.new flusher.new }
 {
@@ -167,7 +168,7 @@ fn send_steps<L: Life, R: Wait + AllocGlobal>(
     script: &Script,
     begin: Begin,
 ) -> (usize, Option<&'static str>)
-    requires { 1 ≤ every }
+    requires every { 1 ≤ every }
     requires at { IsAt writer.old flusher.old }
 {
     let mut upkeep = Upkeep::new(rt.alloc(), 0, None, flusher.state());
@@ -198,7 +199,6 @@ fn send_steps<L: Life, R: Wait + AllocGlobal>(
 }
 
 // The life of a hub over a store.
-#[tactic(auto, using(turns::proofs::CallerLemmas::at_begun))]
 fn lived<L: Life, R: Wait + Abort + AllocGlobal>(
     rt: &R,
     store: Store<FaultDisk>,
@@ -215,7 +215,7 @@ fn lived<L: Life, R: Wait + Abort + AllocGlobal>(
     requires begin { state_of store ≡ L.start }
     requires every { 1 ≤ every }
 {
-    let (mut flusher, mut board) = match start::<_, L>(rt.alloc(), store, opened, blank, 1) {
+    let (mut flusher, board) = match start::<_, L>(rt.alloc(), store, opened, blank, 1) {
         Ok(both) => both,
         Err(fault) => {
             return Ended {
@@ -225,8 +225,8 @@ fn lived<L: Life, R: Wait + Abort + AllocGlobal>(
             };
         }
     };
-    let mut seat = board.seat().expect(rt, "a seat");
-    let (hub, mut writer, _closer) = Hub::new(board);
+    let (hub, mut writer, mut closer) = Hub::new(board);
+    let mut seat = hub.seat(rt, &mut closer).expect(rt, "a seat");
     let (done, stopped) = send_steps(
         rt,
         &mut flusher,

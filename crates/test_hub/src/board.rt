@@ -5,7 +5,8 @@ ghost use Rattle.recovery.specs.Open.{state_of};
 use crate::publishing::Publishing;
 use crate::rows::Step::{Ack, Behind, Fail, Order, Settle, Submit, Take, Wide};
 use crate::rows::{BoardLife, Gives, Row, SHAPE, SMALL, given, stands};
-use disk::{Disk, MemDisk};
+use crate::stores::{NEVER, fails_second, store_by};
+use disk::{Disk, FaultDisk};
 use hub::Board;
 use published::{Life, Opened};
 use recovery::{Pick, Shape, Store};
@@ -14,7 +15,7 @@ use revision::Reply::{Again, Taken};
 use std::marker::Brand;
 use std::process::Abort;
 use std::sync::ledger::Blank;
-use test_fixtures::{new_store, open_store};
+use test_fixtures::open_store;
 
 const FIRST: Gives = Gives::Ordered(Taken { rev: 1 }, 1);
 
@@ -87,22 +88,21 @@ const FAILING: [Row; 10] = [
 ];
 
 /// Each on its device, with the revision and the letters that the store then has.
-const RUNS: [(Shape, &[Row], u64, u64); 5] = [
+const RUNS: [(Shape, &[Row], u64, u64); 4] = [
     (SHAPE, &IN_TWO, 3, 214),
     (SMALL, &ON_1600, 3, 2),
     (SHAPE, &OF_241, 2, 160),
     (SHAPE, &OF_242, 2, 161),
-    (SHAPE, &FAILING, 1, 1),
 ];
 
 // What each row gives, at a board of a store, with one seat and without commands. The store comes back.
 fn lived<L: Life, R: Abort + AllocGlobal>(
     rt: &R,
-    store: Store<MemDisk>,
+    store: Store<FaultDisk>,
     opened: Opened,
     blank: Blank,
     rows: &[Row],
-) -> Store<MemDisk>
+) -> Store<FaultDisk>
     requires book { opened ≡ L.book }
     requires name { blank.name ≡ L.name }
     requires parts { blank.parts ≡ L.parts }
@@ -111,7 +111,7 @@ fn lived<L: Life, R: Abort + AllocGlobal>(
 {
     let alloc = rt.alloc();
     let state = store.state().copy(alloc).expect(rt, "memory");
-    let (log, told, order) = opened.named::<MemDisk, L>(store.state());
+    let (log, told, order) = opened.named::<FaultDisk, L>(store.state());
     let mut board = Board::new(alloc, &store, state, told.copy(), order, blank, 1);
     let seat = board.seat().expect(rt, "a seat");
     let mut life = BoardLife::new(rt, board, seat, Publishing::new(store, log, told));
@@ -124,7 +124,7 @@ fn lived<L: Life, R: Abort + AllocGlobal>(
 // A store that is opened again has one document at this revision, with so many letters.
 fn is_opened_at(
     rt: &(impl Abort + AllocGlobal),
-    store: Store<MemDisk>,
+    store: Store<FaultDisk>,
     revision: u64,
     letters: u64,
 ) {
@@ -135,9 +135,18 @@ fn is_opened_at(
 #[test]
 fn each_step_of_a_board_gives_its_answer(rt: HostRuntime) {
     for (shape, rows, revision, letters) in &RUNS {
-        let store = new_store(rt.alloc(), *shape).expect(&rt, "a store");
+        let store = store_by(&rt, *shape, NEVER);
         let opened = Opened::new().expect(&rt, "logs");
         let store = lived::<Brand, _>(&rt, store, opened, Blank::new(2), *rows);
         is_opened_at(&rt, store, *revision, *letters);
     }
+}
+
+// The device fails at the second commit, which leaves nothing.
+#[test]
+fn a_failed_board_gives_what_was_settled(rt: HostRuntime) {
+    let store = store_by(&rt, SHAPE, fails_second(&rt, SHAPE));
+    let opened = Opened::new().expect(&rt, "logs");
+    let store = lived::<Brand, _>(&rt, store, opened, Blank::new(2), &FAILING);
+    is_opened_at(&rt, store, 1, 1);
 }

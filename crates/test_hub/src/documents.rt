@@ -4,9 +4,10 @@ ghost use Rattle.recovery.specs.Open.{state_of};
 
 use crate::publishing::Publishing;
 use crate::rows::SHAPE;
+use crate::stores::{NEVER, store_by};
 use attributes::Attrs;
 use delta::{Builder, Delta, Op, OpRef};
-use disk::MemDisk;
+use disk::FaultDisk;
 use document::Document;
 use hub::{Board, Seat};
 use published::{Life, Opened};
@@ -17,7 +18,6 @@ use std::alloc::Global;
 use std::marker::Brand;
 use std::process::Abort;
 use std::sync::ledger::Blank;
-use test_fixtures::new_store;
 
 /// Each makes its document, or puts a text in front of it. The entries have 43, 40 and 43 bytes, and a batch has 4 more.
 const COMMANDS: [(&str, u64, &str); 3] = [("y", 1, "one"), ("y", 2, "six"), ("z", 1, "two")];
@@ -51,7 +51,7 @@ fn command(alloc: Global, name: &str, number: u64, text: &str) -> Result<Command
 
 fn ordered<L: Life>(
     rt: &(impl Abort + AllocGlobal),
-    board: &mut Board<MemDisk, L>,
+    board: &mut Board<FaultDisk, L>,
     seat: &mut Seat<L>,
     asked: &(&str, u64, &str),
 ) {
@@ -81,7 +81,7 @@ fn are_texts(rt: &(impl Abort + AllocGlobal), documents: &[Document], wanted: &[
 // The next run has the documents of these texts, and gives them out once it is committed.
 fn hands_out<L: Life>(
     rt: &(impl Abort + AllocGlobal),
-    board: &mut Board<MemDisk, L>,
+    board: &mut Board<FaultDisk, L>,
     publishing: &mut Publishing<L>,
     wanted: &[&str],
 ) {
@@ -96,7 +96,7 @@ fn hands_out<L: Life>(
 
 fn handed_out<L: Life, R: Abort + AllocGlobal>(
     rt: &R,
-    store: Store<MemDisk>,
+    store: Store<FaultDisk>,
     opened: Opened,
     blank: Blank,
 )
@@ -108,7 +108,7 @@ fn handed_out<L: Life, R: Abort + AllocGlobal>(
 {
     let alloc = rt.alloc();
     let state = store.state().copy(alloc).expect(rt, "memory");
-    let (log, told, order) = opened.named::<MemDisk, L>(store.state());
+    let (log, told, order) = opened.named::<FaultDisk, L>(store.state());
     let mut board = Board::new(alloc, &store, state, told.copy(), order, blank, 1);
     let mut seat = board.seat().expect(rt, "a seat");
     let mut publishing = Publishing::new(store, log, told);
@@ -122,7 +122,7 @@ fn handed_out<L: Life, R: Abort + AllocGlobal>(
 
 #[test]
 fn each_run_has_the_documents_that_its_commands_leave(rt: HostRuntime) {
-    let store = new_store(rt.alloc(), SHAPE).expect(&rt, "a store");
+    let store = store_by(&rt, SHAPE, NEVER);
     let opened = Opened::new().expect(&rt, "logs");
     handed_out::<Brand, _>(&rt, store, opened, Blank::new(2));
 }

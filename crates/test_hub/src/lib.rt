@@ -14,4 +14,6 @@ mod rows;
 #[cfg(test)]
 mod seats;
 #[cfg(test)]
+mod stores;
+#[cfg(test)]
 mod threads;

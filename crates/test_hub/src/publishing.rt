@@ -4,12 +4,11 @@ ghost use Rattle.recovery.specs.Found.{commands_of};
 ghost use Rattle.recovery.specs.Open.{state_of};
 
 use core::mem::replace_with;
-use disk::MemDisk;
+use disk::FaultDisk;
 use document::Document;
-use hub::Run;
+use hub::{Cause, Run};
 use published::{Life, Log, Told};
 use recovery::{Receipt, Store};
-use refusal::Refusal;
 use std::alloc::Global;
 use std::marker::Model;
 use std::process::Abort;
@@ -18,9 +17,9 @@ use test_fixtures::commit;
 /// A store, the log of what is published of it, which is all that was committed, and a token of all of that. Contracts see it as its batches.
 #[derive(Drop)]
 pub struct Publishing<L: Life> {
-    store: Store<MemDisk>,
-    log: Log<MemDisk, L>,
-    told: Told<MemDisk, L>,
+    store: Store<FaultDisk>,
+    log: Log<FaultDisk, L>,
+    told: Told<FaultDisk, L>,
 }
 
 impl<L: Life> Model for Publishing<L> {
@@ -39,7 +38,11 @@ impl<L: Life> Model for Publishing<L> {
 
 impl<L: Life> Publishing<L> {
     /// A store without a published batch.
-    pub fn new(store: Store<MemDisk>, log: Log<MemDisk, L>, told: Told<MemDisk, L>) -> Publishing<L>
+    pub fn new(
+        store: Store<FaultDisk>,
+        log: Log<FaultDisk, L>,
+        told: Told<FaultDisk, L>,
+    ) -> Publishing<L>
         requires none { (log.batches ≡ []) × (told ≡ []) }
         requires start { state_of store ≡ L.start }
         ensures { result ≡ [] }
@@ -48,14 +51,14 @@ impl<L: Life> Publishing<L> {
     }
 
     /// The token of all that is published.
-    pub fn told(&self) -> &Told<MemDisk, L>
+    pub fn told(&self) -> &Told<FaultDisk, L>
         ensures { result.now ≡ self.now }
     {
         &self.told
     }
 
     /// Gives the store back.
-    pub fn into_store(self) -> Store<MemDisk> {
+    pub fn into_store(self) -> Store<FaultDisk> {
         let Publishing {
             store,
             log: _,
@@ -69,8 +72,8 @@ impl<L: Life> Publishing<L> {
     pub fn write(
         &mut self,
         rt: &(impl Abort + AllocGlobal),
-        run: Run<MemDisk, L>,
-    ) -> (Receipt<MemDisk>, Vec<Document>)
+        run: Run<FaultDisk, L>,
+    ) -> (Receipt<FaultDisk>, Vec<Document>)
         requires place { run.place ≡ length (commands_of self.old) }
         requires some { 1 ≤ length run.commands }
     {
@@ -86,19 +89,41 @@ impl<L: Life> Publishing<L> {
     }
 
     /// Gives a run up, which isn't written.
-    pub fn give_up(&mut self, run: Run<MemDisk, L>)
+    pub fn give_up(&mut self, run: Run<FaultDisk, L>)
         ensures { self.new ≡ self.old }
     {
         replace_with(self, run, given_up::<L>)
     }
 
-    /// The same by one that gives up where the commit is refused.
+    /// Why the store takes no batch any more, where its device has failed.
+    pub fn cause(&self) -> Option<Cause<L>> {
+        cause_of(&self.log, &self.store)
+    }
+
+    /// Commits a run on a device that fails, and gives the run up. It gives what `cause` does.
+    pub fn fail(
+        &mut self,
+        rt: &(impl Abort + AllocGlobal),
+        run: Run<FaultDisk, L>,
+    ) -> Option<Cause<L>>
+        ensures { self.new ≡ self.old }
+    {
+        match commit(rt.alloc(), &mut self.store, run.batch()) {
+            Ok(_receipt) => panic!(rt; "it is committed"),
+            Err(_refusal) => {
+                self.give_up(run);
+                self.cause()
+            }
+        }
+    }
+
+    /// Commits a run as `write` does, by one that gives up where the commit is refused, with what `cause` gives then.
     #[tactic(auto, using(published::proofs::CallerLemmas::committed_moment, published::proofs::CallerLemmas::committed_state))]
     pub fn write_or_end(
         self,
         alloc: Global,
-        run: Run<MemDisk, L>,
-    ) -> Result<(Publishing<L>, Receipt<MemDisk>), Refusal>
+        run: Run<FaultDisk, L>,
+    ) -> Result<(Publishing<L>, Receipt<FaultDisk>), Option<Cause<L>>>
         requires place { run.place ≡ length (commands_of self) }
         requires some { 1 ≤ length run.commands }
         ensures told { IfOk result (λ both. both.0 ≡ self ++ both.1.batch ∷ []) }
@@ -116,16 +141,25 @@ impl<L: Life> Publishing<L> {
                 let told = told.add(&mut log, &receipt, &ordered);
                 Ok((Publishing { store, log, told }, receipt))
             }
-            Err(refusal) => {
+            Err(_refusal) => {
+                let cause = cause_of(&log, &store);
                 let _ = run.unwritten(store);
-                Err(refusal)
+                Err(cause)
             }
         }
     }
 }
 
+// why a store takes no batch any more, where its device has failed
+fn cause_of<L: Life>(log: &Log<FaultDisk, L>, store: &Store<FaultDisk>) -> Option<Cause<L>> {
+    if !store.has_failed() {
+        return None;
+    }
+    Some(Cause::failed(log, store))
+}
+
 // gives a run up, by whoever has the store
-fn given_up<L: Life>(publishing: Publishing<L>, run: Run<MemDisk, L>) -> (Publishing<L>, ())
+fn given_up<L: Life>(publishing: Publishing<L>, run: Run<FaultDisk, L>) -> (Publishing<L>, ())
     ensures { result.0 ≡ publishing }
 {
     let Publishing { store, log, told } = publishing;

@@ -1,6 +1,6 @@
 //! The life of a board as rows: what is done, and what that gives.
 use crate::publishing::Publishing;
-use disk::MemDisk;
+use disk::FaultDisk;
 use hub::{Board, Seat, Ticket};
 use published::{Life, Told};
 use recovery::{Receipt, Shape, Store};
@@ -49,6 +49,7 @@ pub enum Step {
     Settle(usize, usize),
     /// Acknowledges the ticket of this place.
     Ack(usize),
+    /// Takes the next batch, whose commit the device fails, and fails the board for that.
     Fail,
 }
 
@@ -67,7 +68,7 @@ pub enum Gives {
     Waits,
     Failed,
     Refused(Refusal),
-    /// There is none of this place, or it isn't the newest.
+    /// There is none of this place, or it isn't the newest, or nothing has failed.
     Nothing,
 }
 
@@ -76,19 +77,19 @@ pub type Row = (Step, Gives);
 /// A board with its one seat, the store of its batches with what is published of it, and what was given out so far.
 #[derive(Drop)]
 pub struct BoardLife<L: Life> {
-    board: Board<MemDisk, L>,
+    board: Board<FaultDisk, L>,
     seat: Seat<L>,
     publishing: Publishing<L>,
     tickets: Vec<Ticket<L>>,
-    batches: Vec<Receipt<MemDisk>>,
-    tokens: Vec<Told<MemDisk, L>>,
+    batches: Vec<Receipt<FaultDisk>>,
+    tokens: Vec<Told<FaultDisk, L>>,
 }
 
 impl<L: Life> BoardLife<L> {
     /// A board with a seat, and the store under it with what is published of it.
     pub fn new(
         rt: &(impl Abort + AllocGlobal),
-        board: Board<MemDisk, L>,
+        board: Board<FaultDisk, L>,
         seat: Seat<L>,
         publishing: Publishing<L>,
     ) -> BoardLife<L> {
@@ -105,7 +106,7 @@ impl<L: Life> BoardLife<L> {
     }
 
     /// Gives the store back.
-    pub fn into_store(self) -> Store<MemDisk> {
+    pub fn into_store(self) -> Store<FaultDisk> {
         let BoardLife {
             board: _,
             seat: _,
@@ -183,6 +184,17 @@ fn acknowledged<L: Life>(life: &BoardLife<L>, at: usize) -> Gives {
     }
 }
 
+fn failed<L: Life>(rt: &(impl Abort + AllocGlobal), life: &mut BoardLife<L>) -> Gives {
+    let run = life.board.take(rt.alloc(), CAP).expect(rt, "memory");
+    match life.publishing.fail(rt, run) {
+        Some(cause) => {
+            life.board.fail(cause);
+            Gives::Failed
+        }
+        None => Gives::Nothing,
+    }
+}
+
 /// Does a step.
 pub fn given<L: Life>(
     rt: &(impl Abort + AllocGlobal),
@@ -199,9 +211,6 @@ pub fn given<L: Life>(
         Step::Take => committed(rt, life),
         Step::Settle(batch, token) => settled(life, batch, token),
         Step::Ack(ticket) => acknowledged(life, ticket),
-        Step::Fail => {
-            life.board.fail();
-            Gives::Failed
-        }
+        Step::Fail => failed(rt, life),
     }
 }

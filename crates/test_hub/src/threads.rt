@@ -6,8 +6,9 @@ ghost use Rattle.recovery.specs.Open.{state_of};
 
 use crate::publishing::Publishing;
 use crate::rows::{CAP, SHAPE};
-use disk::MemDisk;
-use hub::{Board, Closer, Hub, Seat, Ticket, Writer};
+use crate::stores::{NEVER, fails_second, store_by};
+use disk::FaultDisk;
+use hub::{Board, Cause, Closer, Hub, Seat, Ticket, Writer};
 use published::{Life, Opened};
 use recovery::{Receipt, Shape, Store};
 use refusal::Refusal;
@@ -17,12 +18,12 @@ use std::process::Abort;
 use std::sync::Wait;
 use std::sync::ledger::Blank;
 use std::thread::{Threads, join};
-use test_fixtures::{command, new_store};
+use test_fixtures::command;
 
 // Waits until a ticket is acknowledged, and counts the commands that the token holds.
 fn acknowledged<L: Life, R: Wait>(
     rt: &R,
-    hub: &Hub<MemDisk, L>,
+    hub: &Hub<FaultDisk, L>,
     ticket: &Ticket<L>,
 ) -> Result<u64, Refusal> {
     let told = match hub.wait_ack(rt, ticket) {
@@ -43,7 +44,7 @@ fn acknowledged<L: Life, R: Wait>(
 fn submitted_one<L: Life, R: Wait>(
     rt: &R,
     alloc: Global,
-    hub: &Hub<MemDisk, L>,
+    hub: &Hub<FaultDisk, L>,
     seat: &mut Seat<L>,
     edit: &(u64, u32),
 ) -> Result<u64, Refusal> {
@@ -59,7 +60,7 @@ fn submitted_one<L: Life, R: Wait>(
 fn submitted<L: Life, R: Wait>(
     rt: &R,
     alloc: Global,
-    hub: &Hub<MemDisk, L>,
+    hub: &Hub<FaultDisk, L>,
     seat: &mut Seat<L>,
     edits: &[(u64, u32)],
 ) -> Result<u64, Refusal> {
@@ -74,7 +75,7 @@ fn submitted<L: Life, R: Wait>(
 fn submitted_all<L: Life, R: Wait>(
     rt: &R,
     alloc: Global,
-    hub: &Hub<MemDisk, L>,
+    hub: &Hub<FaultDisk, L>,
     closer: &mut Closer<L>,
     seat: &mut Seat<L>,
     edits: &[(u64, u32)],
@@ -84,24 +85,28 @@ fn submitted_all<L: Life, R: Wait>(
     answer
 }
 
-// Commits the next run and publishes it, and gives what publishes back with the receipt.
+// Commits the next run and publishes it, and gives what publishes back with the receipt; or the cause where the device failed, and none where
+// anything else keeps it from that.
 fn committed<L: Life, R: Wait>(
     rt: &R,
     alloc: Global,
-    hub: &Hub<MemDisk, L>,
+    hub: &Hub<FaultDisk, L>,
     writer: &mut Writer<L>,
     publishing: Publishing<L>,
-) -> Result<(Publishing<L>, Receipt<MemDisk>), Refusal>
+) -> Result<(Publishing<L>, Receipt<FaultDisk>), Option<Cause<L>>>
     requires taken { writer.old.taken ≡ length (commands_of publishing) }
     requires settled { writer.old.settled ≡ length (commands_of publishing) }
     ensures next { IfOk result (λ both. ComesNext writer.new both.1.batch both.0) }
     ensures taken { IfOk result (λ both. writer.new.taken ≡ length (commands_of both.0)) }
     ensures settled { IfOk result (λ both. writer.new.settled + length both.1.batch ≡ length (commands_of both.0)) }
 {
-    let run = hub.take(rt, alloc, writer, CAP)?;
+    let run = match hub.take(rt, alloc, writer, CAP) {
+        Ok(run) => run,
+        Err(_no_memory) => return Err(None),
+    };
     if run.len() == 0 {
         run.nothing();
-        return Err(Refusal::Stranger);
+        return Err(None);
     }
     publishing.write_or_end(alloc, run)
 }
@@ -110,10 +115,10 @@ fn committed<L: Life, R: Wait>(
 fn written<L: Life, R: Wait>(
     rt: &R,
     alloc: Global,
-    hub: &Hub<MemDisk, L>,
+    hub: &Hub<FaultDisk, L>,
     writer: &mut Writer<L>,
     publishing: Publishing<L>,
-) -> Result<u64, Refusal>
+) -> Result<u64, Option<Cause<L>>>
     requires taken { writer.old.taken ≡ length (commands_of publishing) }
     requires settled { writer.old.settled ≡ length (commands_of publishing) }
 {
@@ -123,19 +128,23 @@ fn written<L: Life, R: Wait>(
         if let Err(_idle) = hub.wait_work(rt, writer) {
             return Ok(batches);
         }
-        let (after, receipt) = committed(rt, alloc, hub, writer, publishing)?;
-        publishing = after;
-        hub.settle(rt, writer, &receipt, publishing.told().copy());
+        match committed(rt, alloc, hub, writer, publishing) {
+            Ok((after, receipt)) => {
+                publishing = after;
+                hub.settle(rt, writer, &receipt, publishing.told().copy());
+            }
+            Err(cause) => return Err(cause),
+        }
         batches = batches.saturating_add(1);
     }
     unreachable!()
 }
 
-// And tells the hub where the store failed.
-fn written_or_failed<L: Life, R: Wait>(
+// And tells the hub where the device failed.
+fn written_or_failed<L: Life, R: Wait + Abort>(
     rt: &R,
     alloc: Global,
-    hub: &Hub<MemDisk, L>,
+    hub: &Hub<FaultDisk, L>,
     writer: &mut Writer<L>,
     publishing: Publishing<L>,
 ) -> Result<u64, Refusal>
@@ -144,13 +153,14 @@ fn written_or_failed<L: Life, R: Wait>(
 {
     match written(rt, alloc, hub, writer, publishing) {
         Ok(batches) => Ok(batches),
-        Err(refusal) => Err(hub.fail(rt, writer, refusal).refusal()),
+        Err(Some(cause)) => Err(hub.fail(rt, writer, cause).refusal()),
+        Err(None) => panic!(rt; "it isn't written"),
     }
 }
 
 fn both<L: Life + Send + Sync, R: Threads + Wait + Abort + AllocGlobal + Sync>(
     rt: &R,
-    store: Store<MemDisk>,
+    store: Store<FaultDisk>,
     opened: Opened,
     blank: Blank,
     edits: &[(u64, u32)],
@@ -179,7 +189,7 @@ fn both<L: Life + Send + Sync, R: Threads + Wait + Abort + AllocGlobal + Sync>(
 #[test]
 fn one_submits_while_the_other_writes(rt: HostRuntime) {
     let shape = Shape { slots: 8, ..SHAPE };
-    let store = new_store(rt.alloc(), shape).expect(&rt, "a store");
+    let store = store_by(&rt, shape, NEVER);
     let opened = Opened::new().expect(&rt, "logs");
     let edits = [(1, 1), (2, 14), (3, 20), (3, 20), (4, 9)];
     let (held, batches) = both::<Brand, _>(&rt, store, opened, Blank::new(65), &edits);
@@ -187,13 +197,13 @@ fn one_submits_while_the_other_writes(rt: HostRuntime) {
     assert!(rt; batches.expect(&rt, "written") == 4);
 }
 
-// The journal is full after the second slot: who waits is told that the store failed.
+// The device fails at the second commit: who waits is told that the store failed.
 #[test]
 fn who_waits_is_told_of_a_failure(rt: HostRuntime) {
-    let store = new_store(rt.alloc(), SHAPE).expect(&rt, "a store");
+    let store = store_by(&rt, SHAPE, fails_second(&rt, SHAPE));
     let opened = Opened::new().expect(&rt, "logs");
-    let edits = [(1, 190), (2, 199), (3, 199)];
+    let edits = [(1, 1), (2, 199), (3, 199)];
     let (held, batches) = both::<Brand, _>(&rt, store, opened, Blank::new(65), &edits);
     assert!(rt; matches!(held, Err(Refusal::StoreFailed)));
-    assert!(rt; matches!(batches, Err(Refusal::JournalFull)));
+    assert!(rt; matches!(batches, Err(Refusal::Fault)));
 }

@@ -1,4 +1,4 @@
-use Rattle.std.proofs.Common.{◌≡◌, ◌≤◌, ◌+◌, List, [], ◌∷◌, ◌++◌, length, ap, arith, length-append, rules}
+use Rattle.std.proofs.Common.{◌≡◌, ◌≤◌, ◌+◌, List, [], ◌∷◌, ◌++◌, length, ap, arith, length-append}
 use Rattle.std.specs.Prelude.{Result, Ok, Err, IfOk}
 use Rattle.revision.specs.Command.{Taken}
 use Rattle.recovery.specs.Found.{commands_of}
@@ -6,6 +6,17 @@ use Rattle.recovery.specs.Moment.{Receipt}
 use Rattle.recovery.proofs.CallerLemmas.{commands-append}
 use Rattle.hub.specs.Runs.{ComesNext, Writer, counts_taken}
 use Rattle.test_hub.proofs.threads.committed.Goals as goal
+
+-- and all that is taken off is published then, as what was published before with the batch
+longer : {D : Type 0} (both : List (List Taken) × Receipt D) (told : List (List Taken)) → both.0 ≡ told ++ both.1.batch ∷ [] → length (commands_of both.0) ≡ length (commands_of told) + length both.1.batch
+longer both told ends =
+    omega (
+      arith,
+      ap (λ (t : List (List Taken)). length (commands_of t)) ends,
+      ap length (commands-append told (both.1.batch ∷ [])),
+      length-append (commands_of told) (both.1.batch ++ []),
+      length-append both.1.batch [],
+    )
 
 module _ {D E : Type 0} where
   -- the batch that was committed comes next
@@ -21,12 +32,6 @@ module _ {D E : Type 0} where
   }
   next (Err refusal) old new told run taken settled is some ends same = tt
 
-  -- and all that is taken off is published then, as what was published before with the batch
-  longer : (both : List (List Taken) × Receipt D) (told : List (List Taken)) → both.0 ≡ told ++ both.1.batch ∷ [] → length (commands_of both.0) ≡ length (commands_of told) + length both.1.batch
-  longer both told ends =
-      omega (arith, ap (λ (t : List (List Taken)). length (commands_of t)) ends, ap length (commands-append told (both.1.batch ∷ [])), length-append (commands_of told) (both.1.batch ++ []),
-      length-append both.1.batch [])
-
   taken_all : (result : Result (List (List Taken) × Receipt D) E) (old new : Writer) (told : List (List Taken)) (run : List Taken) → old.taken ≡ length (commands_of told)
       → new ≡ counts_taken old (length run) → IfOk result (λ both. both.0 ≡ told ++ both.1.batch ∷ []) → IfOk result (λ both. both.1.batch ≡ run)
       → IfOk result (λ both. new.taken ≡ length (commands_of both.0))
@@ -41,16 +46,16 @@ module _ {D E : Type 0} where
 
 pub returns-clause-next : goal.returns-clause-next
 returns-clause-next g c =
-    let some : 1 ≤ length c.in_ok-run.run.commands = search rules in
-    next c.write_or_end.result c.args.writer.now c.take-run.new.writer c.args.publishing c.in_ok-run.run.commands c.requires.taken c.requires.settled c.in_ok-run.ensures.counts some
+    let some : 1 ≤ length c.in-Ok.run'.commands = omega arith in
+    next c.write_or_end.result c.args.writer.now c.take.new.writer c.args.publishing c.in-Ok.run'.commands c.requires.taken c.requires.settled c.in-Ok.ensures.counts some
     c.write_or_end.ensures.told c.write_or_end.ensures.batch
 
 pub returns-clause-taken : goal.returns-clause-taken
 returns-clause-taken g c =
-    taken_all c.write_or_end.result c.args.writer.now c.take-run.new.writer c.args.publishing c.in_ok-run.run.commands c.requires.taken c.in_ok-run.ensures.counts
+    taken_all c.write_or_end.result c.args.writer.now c.take.new.writer c.args.publishing c.in-Ok.run'.commands c.requires.taken c.in-Ok.ensures.counts
     c.write_or_end.ensures.told c.write_or_end.ensures.batch
 
 pub returns-clause-settled : goal.returns-clause-settled
 returns-clause-settled g c =
-    settled_all c.write_or_end.result c.args.writer.now c.take-run.new.writer c.args.publishing c.in_ok-run.run.commands c.requires.settled c.in_ok-run.ensures.counts
+    settled_all c.write_or_end.result c.args.writer.now c.take.new.writer c.args.publishing c.in-Ok.run'.commands c.requires.settled c.in-Ok.ensures.counts
     c.write_or_end.ensures.told
