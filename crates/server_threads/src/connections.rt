@@ -145,7 +145,7 @@ impl<N: Listen, D: Disk + Send + Drop, R: Threads + Wait + Clock + Sync, W: Watc
         desks: Vec<HubDesk<'a, D, L, R>>,
     ) -> (Heard<N>, Vec<HubDesk<'a, D, L, R>>)
         requires first { All (λ desk. desk ≡ first_desk) desks.items }
-        ensures ends { WereHeard result.0.answer L.start (N.arrivals self.listener) (N.arrivals result.0.listener) result.0.attendance
+        ensures ends { WereHeard result.0.answer L.start (N.arrivals self.entry.listener) (N.arrivals result.0.listener) result.0.attendance
             result.1.items }
         ensures as_many { length result.1.items ≡ length desks.entry.items }
     {
