@@ -1,12 +1,9 @@
 -- What serving sessions over connections leaves of their desks.
-use Rattle.std.specs.Prelude.{◌≡◌, ℕ, true, List, [], ◌∷◌, Result, OnOk}
+use Rattle.std.specs.Prelude.{ℕ, List, [], ◌∷◌}
 use Rattle.revision.specs.State.{State}
 use Rattle.hub_desk.specs.AtHub.{Desk, PassesAtHub}
-use Rattle.sockets.specs.declared.attendance.Attendance.{Attendance}
 use Rattle.sockets.specs.declared.raw.Visit.{Visit}
-use Rattle.sockets.specs.Attendance.{visits_of, IsAttended}
 use Rattle.sockets.specs.Desks.{ServesVisits}
-use Rattle.sockets.specs.Socket.{Event}
 use Rattle.server_threads.specs.Answers.{first_desk}
 
 -- Each desk of a hall has served its visits, from its beginning on: it was asked just what their conversations ask, one after another. A desk
@@ -20,9 +17,3 @@ EachServes start hall (visits ∷ others) (desk ∷ desks) = ServesVisits (Passe
 -- in some one hall
 abbrev pub EachHasServed : State → List (List Visit) → List Desk → Type 0
 EachHasServed start visits desks = (hall : ℕ) × EachServes start hall visits desks
-
--- Between these calls of a listener these came. Each desk has served its visits, and all are there who came, where that was answered well.
-pub record WereHeard {E : Type 0} (answer : Result (Unit {0}) E) (start : State) (old new : List Event) (attendance : Attendance) (desks : List Desk) : Type 0 where
-  pub served : EachHasServed start (visits_of attendance) desks
-  pub attended : IsAttended old new attendance
-  pub complete : OnOk answer (attendance.is_complete ≡ true)

@@ -1,5 +1,5 @@
 -- What serving one session over a pair of streams leaves of the streams.
-use Rattle.std.specs.Prelude.{◌≡◌, ◌⊎◌, ℕ, Bool, true, false, List, [], ◌∷◌, Option, Result, Ok, Err, IfErr}
+use Rattle.std.specs.Prelude.{◌≡◌, ◌⊎◌, ℕ, Bool, true, false, List, [], ◌∷◌, Option, Result, Ok, Err}
 use Rattle.refusal.specs.declared.Refusal.{Refusal}
 use Rattle.refusal.specs.declared.Refusal.TheVariants.{NoMemory, StoreFailed}
 use Rattle.revision.specs.State.{State}
@@ -34,11 +34,6 @@ pub record ByOne (P : Desk → Type 0) (desks : List Desk) : Type 0 where
   pub last : Desk
   pub one : desks ≡ last ∷ []
   pub session : P last
-
--- There was one desk, and its session ended so: all of the input is answered, or a stream has failed.
-pub record WasPiped (answer : Result (Unit {0}) ServingError) (start : State) (input input' output output' : Option (List ℕ)) (in_failed out_failed : Bool) (desks : List Desk) : Type 0 where
-  pub session : ByOne (EndsAtHub answer start input input' output output' in_failed out_failed) desks
-  pub only : IfErr answer (λ failure. failure ≡ Stream)
 
 -- how serving over streams ends: as the session did, and where that ended well, well where the writing did
 abbrev pub first_of : Result (Unit {0}) ServingError → Result (Unit {0}) Refusal → Result (Unit {0}) ServingError

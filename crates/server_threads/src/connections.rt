@@ -1,27 +1,39 @@
 //! A store over connections.
-ghost use Rattle.std.specs.Prelude.{◌≡◌, ◌+◌, ◌↔◌, true, false, Ok, Err, All, OnOk, IsErrOf, is_ok, length};
+ghost use Rattle.std.specs.Prelude.{◌≡◌, ◌+◌, ◌↔◌, true, false, Ok, Err, All, IfOk, IfErr, OnOk, IsErrOf, is_ok, length};
 ghost use Rattle.sockets.specs.Attendance.{visits_of, IsAttended, IsOfNobody};
 ghost use Rattle.recovery.specs.Open.{state_of, has_failed};
+ghost use Rattle.flusher.specs.Holding.{store_of};
 ghost use Rattle.server_threads.specs.Answers.{first_desk};
 ghost use Rattle.server_threads.specs.Connections.{EachHasServed};
-ghost use Rattle.server_threads.specs.Served.{WasServed};
+ghost use Rattle.server_threads.specs.Held.{HasHeld};
+ghost use Rattle.server_threads.specs.Served.{IsStarted, WasServed};
 
+use crate::beside::{Both, hold_beside};
+use crate::desks::desks_at;
+use crate::life::{Ending, Server, begin, end, tally_all};
 use crate::seated::Seated;
-use crate::sessions::{Lived, Sessions, serve_sessions};
 use crate::watch::Watch;
+use crate::writing::Shared;
 use disk::Disk;
+use flusher::Flusher;
+use hub::Hub;
 use hub_desk::HubDesk;
-use published::Life;
+use published::{Life, Opened};
 use recovery::Store;
 use refusal::Refusal;
 use sockets::{Attendance, Attended, Listen, serve_desks};
 use std::alloc::{AllocError, Global};
+use std::marker::Brand;
 use std::sync::Wait;
+use std::sync::ledger::Blank;
 use std::thread::Threads;
 use std::time::Clock;
 
 /// How many sessions run at once.
 const SEATS: u32 = 64;
+
+/// The parts of the ledger that counts what each seat took: one for each seat, and one that is left.
+const PARTS: u64 = 65;
 
 /// What serving those who connect gives back: the store, the listener, who came, and how it ended.
 #[derive(Drop)]
@@ -59,62 +71,113 @@ pub fn serve_on<R: Threads + Wait + Clock + Sync, N: Listen, D: Disk + Send + Dr
     // It fails only with the device.
     ensures fails { has_failed store ≡ false → (has_failed result.store ≡ true ↔ IsErrOf result.served Refusal.Fault) }
 {
-    let over = OverListener {
-        listener,
-        idle,
-        watch,
+    let Some(opened) = Opened::new() else {
+        return unserved(alloc, store, listener, Refusal::NoMemory);
     };
-    match serve_sessions(rt, alloc, store, over, SEATS, every, watch) {
-        Ok(lived) => given_back(lived),
-        Err((store, over)) => unserved(alloc, store, over.listener),
-    }
+    let blank = Blank::new(PARTS);
+    serve_run::<Brand, R, N, D, W>(
+        rt, alloc, store, opened, blank, listener, every, idle, watch,
+    )
 }
 
-// Nobody was served, out of memory.
-fn unserved<N, D: Disk>(alloc: Global, store: Store<D>, listener: N) -> Connected<N, D>
-    ensures back { (result.store ≡ store) × (result.listener ≡ listener) × (result.served ≡ Err Refusal.NoMemory) }
+// Nobody was served, for this reason.
+fn unserved<N, D: Disk>(
+    alloc: Global,
+    store: Store<D>,
+    listener: N,
+    refusal: Refusal,
+) -> Connected<N, D>
+    ensures back { (result.store ≡ store) × (result.listener ≡ listener) × (result.served ≡ Err refusal) }
     ensures nobody { IsOfNobody result.attendance }
 {
     Connected {
         store,
         listener,
         attendance: Attendance::of_nobody(alloc),
-        served: Err(Refusal::NoMemory),
+        served: Err(refusal),
     }
 }
 
-// What a life leaves, and how it ended.
-fn given_back<N, D: Disk>(lived: Lived<Heard<N>, D>) -> Connected<N, D>
-    ensures store { result.store ≡ lived.store }
-    ensures listener { result.listener ≡ lived.after.listener }
-    ensures attendance { result.attendance ≡ lived.after.attendance }
-    ensures ok { OnOk result.served ((lived.written ≡ Ok tt) × (lived.after.answer ≡ Ok tt)) }
-    ensures fault { IsErrOf result.served Refusal.Fault ↔ IsErrOf lived.written Refusal.Fault }
-{
-    let Lived {
-        store,
-        after,
-        written,
-    } = lived;
-    let Heard {
-        listener,
-        attendance,
-        answer,
-    } = after;
-    Connected {
-        store,
-        listener,
-        attendance,
-        served: first_failure(written, answer),
-    }
-}
-
-// A listener, whose peers have sessions.
-#[derive(Drop)]
-struct OverListener<'a, N, W> {
+// Serves the run that its ledger, its logs and its store's state name.
+fn serve_run<
+    L: Life + Sync + Send,
+    R: Threads + Wait + Clock + Sync,
+    N: Listen,
+    D: Disk + Send + Drop,
+    W: Watch<D>,
+>(
+    rt: &R,
+    alloc: Global,
+    store: Store<D>,
+    opened: Opened,
+    blank: Blank,
     listener: N,
+    every: u32,
     idle: u32,
-    watch: &'a W,
+    watch: &W,
+) -> Connected<N, D>
+    requires book { opened ≡ L.book }
+    requires name { blank.name ≡ L.name }
+    requires parts { blank.parts ≡ L.parts }
+    requires seats { blank.parts ≡ 65 }
+    requires start { state_of store ≡ L.start }
+    ensures served { WasServed (EachHasServed (state_of store) (visits_of result.attendance)) (is_ok result.served) store result.store }
+    ensures attended { IsAttended (N.arrivals listener) (N.arrivals result.listener) result.attendance }
+    ensures complete { OnOk result.served (result.attendance.is_complete ≡ true) }
+    ensures fails { has_failed store ≡ false → (has_failed result.store ≡ true ↔ IsErrOf result.served Refusal.Fault) }
+{
+    match begin::<L, R, D>(rt, alloc, store, opened, blank, SEATS) {
+        Ok((hub, server)) => serve_from(rt, alloc, hub, server, listener, every, idle, watch),
+        Err((store, refusal)) => unserved(alloc, store, listener, refusal),
+    }
+}
+
+// Serves from a server's beginning to its end.
+fn serve_from<
+    L: Life + Sync + Send,
+    R: Threads + Wait + Clock + Sync,
+    N: Listen,
+    D: Disk + Send + Drop,
+    W: Watch<D>,
+>(
+    rt: &R,
+    alloc: Global,
+    hub: Hub<D, L>,
+    server: Server<D, L>,
+    listener: N,
+    every: u32,
+    idle: u32,
+    watch: &W,
+) -> Connected<N, D>
+    requires store { server.held.value ≡ store_of server.flusher }
+    requires started { IsStarted server.flusher }
+    requires new { All (λ seat. seat ≡ 0) server.seats.items }
+    requires parts { length server.seats.items + 1 ≡ L.parts }
+    requires none { server.tally ≡ record { seats = 0; counted = 0 } }
+    ensures served { WasServed (EachHasServed L.start (visits_of result.attendance)) (is_ok result.served) (store_of server.flusher) result.store }
+    ensures attended { IsAttended (N.arrivals listener) (N.arrivals result.listener) result.attendance }
+    ensures complete { OnOk result.served (result.attendance.is_complete ≡ true) }
+    ensures fails { has_failed (store_of server.flusher) ≡ false → (has_failed result.store ≡ true ↔ IsErrOf result.served Refusal.Fault) }
+{
+    match hold_at(rt, alloc, &hub, server, listener, every, idle, watch) {
+        Ok((past, heard)) => {
+            let (store, written) = end(rt, hub, past);
+            let Heard {
+                listener,
+                attendance,
+                answer,
+            } = heard;
+            Connected {
+                store,
+                listener,
+                attendance,
+                served: first_failure(written, answer),
+            }
+        }
+        Err((flusher, listener)) => {
+            unserved(alloc, flusher.end(rt), listener, Refusal::NoMemory)
+        }
+    }
 }
 
 // What is left of a listener whose sessions have ended: who came, and whether all did, whom it took.
@@ -125,36 +188,91 @@ struct Heard<N> {
     answer: Result<(), AllocError>,
 }
 
-impl<N: Listen, D: Disk + Send + Drop, R: Threads + Wait + Clock + Sync, W: Watch<D>> Sessions<D, R>
-    for OverListener<'_, N, W> {
-    ghost use Rattle.std.specs.Prelude.{◌≡◌, All, length};
-    ghost use Rattle.server_threads.specs.Answers.{first_desk};
-    ghost use Rattle.server_threads.specs.Connections.{WereHeard};
-
-    type After = Heard<N>;
-
-    ghost seats = { 64 };
-
-    ghost ends = { λ start over heard desks.
-        WereHeard heard.answer start (N.arrivals over.listener) (N.arrivals heard.listener) heard.attendance desks };
-
-    fn hold<'a, L: Life + Sync + Send>(
-        self,
-        rt: &R,
-        alloc: Global,
-        desks: Vec<HubDesk<'a, D, L, R>>,
-    ) -> (Heard<N>, Vec<HubDesk<'a, D, L, R>>)
-        requires first { All (λ desk. desk ≡ first_desk) desks.items }
-        ensures ends { WereHeard result.0.answer L.start (N.arrivals self.entry.listener) (N.arrivals result.0.listener) result.0.attendance
-            result.1.items }
-        ensures as_many { length result.1.items ≡ length desks.entry.items }
-    {
-        let OverListener {
-            listener,
-            idle,
-            watch,
-        } = self;
-        serve_all(rt, alloc, desks, listener, idle, watch)
+// Holds sessions over the connections at the desks of a hub, while a thread of its own writes. Refused where there is no memory or no
+// thread; the flusher and the listener are unchanged then.
+fn hold_at<
+    L: Life + Sync + Send,
+    R: Threads + Wait + Clock + Sync,
+    N: Listen,
+    D: Disk + Send + Drop,
+    W: Watch<D>,
+>(
+    rt: &R,
+    alloc: Global,
+    hub: &Hub<D, L>,
+    server: Server<D, L>,
+    listener: N,
+    every: u32,
+    idle: u32,
+    watch: &W,
+) -> Result<(Ending<D, L>, Heard<N>), (Flusher<D, L>, N)>
+    requires store { server.held.value ≡ store_of server.flusher }
+    requires started { IsStarted server.flusher }
+    requires new { All (λ seat. seat ≡ 0) server.seats.items }
+    requires none { server.tally ≡ record { seats = 0; counted = 0 } }
+    ensures held { IfOk result (λ both. HasHeld (EachHasServed L.start (visits_of both.1.attendance)) L.start server.flusher both.0.ordered
+        both.0.published both.0.tally.counted both.0.written (store_of both.0.flusher)) }
+    ensures attended { IfOk result (λ both. IsAttended (N.arrivals listener) (N.arrivals both.1.listener) both.1.attendance) }
+    ensures complete { IfOk result (λ both. OnOk both.1.answer (both.1.attendance.is_complete ≡ true)) }
+    ensures seats { IfOk result (λ both. both.0.tally.seats ≡ length server.seats.items) }
+    ensures refused { IfErr result (λ back. (back.0 ≡ server.flusher) × (back.1 ≡ listener)) }
+{
+    let Server {
+        held,
+        flusher,
+        writer,
+        closer,
+        seats,
+        tally,
+    } = server;
+    let mut tally = tally;
+    let Ok(desks) = desks_at(
+        rt,
+        alloc,
+        &flusher,
+        hub,
+        watch.counters(),
+        seats,
+        &mut tally,
+    ) else {
+        return Err((flusher, listener));
+    };
+    let shared = Shared {
+        rt,
+        alloc,
+        hub,
+        every,
+        watch,
+    };
+    flusher.kept();
+    match hold_beside(
+        &shared,
+        held,
+        flusher,
+        writer,
+        closer,
+        listener,
+        desks,
+        |listener, desks| -> (Heard<N>, Vec<HubDesk<'_, D, L, R>>)
+            requires { All (λ desk. desk ≡ first_desk) desks.items }
+            ensures served { EachHasServed L.start (visits_of result.0.attendance) result.1.items }
+            ensures attended { IsAttended (N.arrivals listener) (N.arrivals result.0.listener) result.0.attendance }
+            ensures complete { OnOk result.0.answer (result.0.attendance.is_complete ≡ true) }
+            ensures as_many { length result.1.items ≡ length desks.entry.items }
+        { serve_all(rt, alloc, desks, listener, idle, watch) },
+    ) {
+        Ok(
+            Both {
+                flusher,
+                written,
+                rights,
+                held,
+            },
+        ) => {
+            let (heard, desks) = held;
+            Ok((tally_all(flusher, written, rights, desks, tally), heard))
+        }
+        Err(back) => Err(back),
     }
 }
 

@@ -1,6 +1,6 @@
 use Rattle.std.proofs.Common.{sym, subst, rules}
 use Rattle.server_threads.specs.Written.{HasWritten}
-use Rattle.server_threads.proofs.sessions.hold_at.Goals as goal
+use Rattle.server_threads.proofs.connections.hold_at.Goals as goal
 
 -- the sessions were held, and the desks that they left are tallied
 pub returns-in-Ok-hold_beside-clause-held : goal.returns-in-Ok-hold_beside-clause-held
