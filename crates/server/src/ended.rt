@@ -11,15 +11,15 @@ pub(crate) const LISTENING: &str = "listening on";
 
 /// What stands behind a `Fault`: what was tried, with which file or address, and the system's reason.
 #[derive(Clone, Copy)]
-pub(crate) struct Cause<'a> {
+pub(crate) struct FileCause<'a> {
     pub(crate) tried: &'static str,
     pub(crate) what: &'a str,
     pub(crate) reason: io::Error,
 }
 
-impl Display for Cause<'_> {
+impl Display for FileCause<'_> {
     fn fmt<W: fmt::Write>(&self, f: &mut Formatter<W>) -> fmt::Result {
-        let Cause {
+        let FileCause {
             tried,
             what,
             reason,
@@ -32,7 +32,7 @@ impl Display for Cause<'_> {
 #[derive(Drop)]
 pub(crate) enum Ended<'a> {
     /// It was refused, which is printed on standard error, with the cause where the refusal has one.
-    Refused(Refusal, Option<Cause<'a>>),
+    Refused(Refusal, Option<FileCause<'a>>),
     /// A standard stream failed, which is not printed.
     Stream,
     /// The words can't be used, which is printed.
@@ -44,7 +44,7 @@ impl<'a> Ended<'a> {
     pub(crate) fn fault(tried: &'static str, what: &'a str, reason: io::Error) -> Ended<'a> {
         Ended::Refused(
             Refusal::Fault,
-            Some(Cause {
+            Some(FileCause {
                 tried,
                 what,
                 reason,
@@ -98,12 +98,16 @@ impl From<LinesError> for Ended<'_> {
 }
 
 /// What stands behind a refusal by a store in a file: the first call on the file that failed, where it is a `Fault`.
-pub(crate) fn cause_of<'a>(path: &'a str, disk: &FileDisk, refusal: Refusal) -> Option<Cause<'a>> {
+pub(crate) fn cause_of<'a>(
+    path: &'a str,
+    disk: &FileDisk,
+    refusal: Refusal,
+) -> Option<FileCause<'a>> {
     if refusal != Refusal::Fault {
         return None;
     }
     let fault = disk.fault()?;
-    Some(Cause {
+    Some(FileCause {
         tried: fault.tried.name(),
         what: path,
         reason: fault.reason,
@@ -111,7 +115,7 @@ pub(crate) fn cause_of<'a>(path: &'a str, disk: &FileDisk, refusal: Refusal) -> 
 }
 
 /// Tells of a refusal, and on a line of its own what stands behind it.
-pub(crate) fn tell<E: Write>(refusal: Refusal, cause: Option<Cause<'_>>, errors: &mut E) {
+pub(crate) fn tell<E: Write>(refusal: Refusal, cause: Option<FileCause<'_>>, errors: &mut E) {
     let _ = writeln!(errors, "{refusal}");
     if let Some(cause) = cause {
         let _ = writeln!(errors, "richd: {cause}");

@@ -1,5 +1,5 @@
 //! The lines for an operator: when something happened, what, and names with their values.
-use crate::ended::Cause;
+use crate::ended::FileCause;
 use disk::FileDisk;
 use inspection::changes_in;
 use recovery::{Shape, Store};
@@ -50,7 +50,7 @@ pub(crate) enum Event<'a> {
     /// All commands waited so many milliseconds for the writing of one batch.
     Waited(u64),
     /// The store has failed.
-    Failed(Refusal, Option<Cause<'a>>),
+    Failed(Refusal, Option<FileCause<'a>>),
     /// So many connections were closed since no session was free.
     Full(u64),
     /// So many were closed since they took nothing of what was written to them.

@@ -32,9 +32,6 @@ use std::time::Clock;
 /// How many sessions run at once.
 const SEATS: u32 = 64;
 
-/// The parts of the ledger that counts what each seat took: one for each seat, and one that is left.
-const PARTS: u64 = 65;
-
 /// What serving those who connect gives back: the store, the listener, who came, and how it ended.
 #[derive(Drop)]
 pub struct Connected<N, D: Disk> {
@@ -74,7 +71,7 @@ pub fn serve_on<R: Threads + Wait + Clock + Sync, N: Listen, D: Disk + Send + Dr
     let Some(opened) = Opened::new() else {
         return unserved(alloc, store, listener, Refusal::NoMemory);
     };
-    let blank = Blank::new(PARTS);
+    let blank = Blank::new(u64::from(SEATS) + 1);
     serve_run::<Brand, R, N, D, W>(
         rt, alloc, store, opened, blank, listener, every, idle, watch,
     )

@@ -28,8 +28,8 @@ use std::sync::Wait;
 use std::sync::ledger::Blank;
 use std::thread::Threads;
 
-/// The parts of the ledger that counts what the one seat took: one for it, and one that is left.
-const PARTS: u64 = 2;
+/// How many sessions run at once.
+const SEATS: u32 = 1;
 
 /// What serving over a pair of streams gives back: the store, the streams, and how it ended.
 #[derive(Drop)]
@@ -80,7 +80,7 @@ pub fn serve_streams<
             served: Err(ServingError::Refused(Refusal::NoMemory)),
         };
     };
-    let blank = Blank::new(PARTS);
+    let blank = Blank::new(u64::from(SEATS) + 1);
     serve_run::<Brand, R, I, O, D, W>(rt, alloc, store, opened, blank, input, output, every, watch)
 }
 
@@ -116,7 +116,7 @@ fn serve_run<
     ensures works { OnOk result.served (has_failed store ≡ false → has_failed result.store ≡ false) }
 {
     let streams = OverStreams { input, output };
-    match begin::<L, R, D>(rt, alloc, store, opened, blank, 1) {
+    match begin::<L, R, D>(rt, alloc, store, opened, blank, SEATS) {
         Ok((hub, server)) => serve_from(rt, alloc, hub, server, streams, every, watch),
         Err((store, refusal)) => streams.back(store, Err(ServingError::Refused(refusal))),
     }

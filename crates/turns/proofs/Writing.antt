@@ -473,7 +473,7 @@ module _ {D L : Type 0} {disk : Ghosts D} where
       full : (refusal ≡ JournalFull) ⊎ (refusal ≡ StillNeeded) → HasNoRoom old → IsFullForGood refusal (store_of old) new
       full told none = record {
         told = told;
-        no_room = (none.0, ((left.still no_memory).batches.waiting ∙ none.1, none.2));
+        no_room = (none.0, (left.still no_memory).batches.waiting ∙ none.1, none.2);
         last = why.used_up told;
       }
 

@@ -223,3 +223,9 @@ returns-in_err-settle_on-in-Some-clause-unpublished g c =
     absurd (false≢true (c.in_err-settle_on-in-Some.ensures.stranger
     (may_settle g.L.Life.start (standing c.args.board.now c.args.flusher.now) c.take.new.self.board run c.in-Some.both.0.batch c.in-Some.both.1 c.requires.calm c.in_ok-run.ensures.run
     (ap (λ (b : Board). b.board) c.in_ok-run.ensures.board) some same tells)))
+
+pub returns-in_ok-settle_on-in-Some-clause-works : goal.returns-in_ok-settle_on-in-Some-clause-works
+returns-in_ok-settle_on-in-Some-clause-works g c =
+    false_from_ne_true (has_failed (store_of c.write.new.self)) (λ failed.
+    let fault = (c.in_ok-write.ensures.faults.fails (ap has_failed c.hold.ensures.store ∙ c.requires.works)).0 failed in
+    let no : ⊥ = cc in no)

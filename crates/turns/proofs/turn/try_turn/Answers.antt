@@ -1,4 +1,4 @@
-use Rattle.std.proofs.Common.{◌∙◌, ap, sym, arith, rules}
+use Rattle.std.proofs.Common.{◌≡◌, ◌∙◌, false, ap, sym, arith, rules}
 use Rattle.recovery.specs.Open.{has_failed}
 use Rattle.flusher.specs.Holding.{store_of}
 use Rattle.turns.proofs.Writing.{kept_up_same, writes_none, writes_kept_up, failed_at, fails_same, writes_on, works_after, fails_ok, fails_not, memory_not_fault, turned_after, causes_after}
@@ -11,8 +11,8 @@ pub returns-then-has_failed-clause-writes : goal.returns-then-has_failed-clause-
 returns-then-has_failed-clause-writes g c = writes_none g.L.Life.start c.args.flusher.now c.kept.ensures
 
 -- it failed at a milestone
-pub failed-in-Err-requires : goal.failed-in-Err-requires
-failed-in-Err-requires g c = failed_at c.in-Err.field-0 (has_failed (store_of c.args.flusher.now)) (has_failed (store_of c.keep_up.new.flusher)) (search rules) c.in-Err.ensures.fails c.in-Err.ensures.only
+pub failed-requires-in-Err : goal.failed-requires-in-Err
+failed-requires-in-Err g c = failed_at c.in-Err.field-0 (has_failed (store_of c.args.flusher.now)) (has_failed (store_of c.keep_up.new.flusher)) (search rules) c.in-Err.ensures.fails c.in-Err.ensures.only
 
 pub returns-in-Err-clause-writes : goal.returns-in-Err-clause-writes
 returns-in-Err-clause-writes g c =
@@ -39,11 +39,11 @@ pub returns-in-Err-fetch_batch-clause-fails : goal.returns-in-Err-fetch_batch-cl
 returns-in-Err-fetch_batch-clause-fails g c =
     let old = has_failed (store_of c.args.flusher.now) in
     let works = works_after c.in_default.field-0 old (has_failed (store_of c.keep_up.new.flusher)) c.in_default.ensures.fails in
-    let refusal = c.in-Err-fetch_batch.field-0 in
-    fails_not refusal old (has_failed (store_of c.fetch_batch.new.flusher)) (λ worked. ap has_failed c.fetch_batch.ensures.store ∙ works worked) (memory_not_fault refusal c.in-Err-fetch_batch.ensures.only)
+    let refusal = c.no_memory.result in
+    fails_not refusal old (has_failed (store_of c.fetch_batch.new.flusher)) (λ worked. ap has_failed c.fetch_batch.ensures.store ∙ works worked) (memory_not_fault refusal c.no_memory.ensures)
 
 pub returns-in-Err-fetch_batch-clause-causes : goal.returns-in-Err-fetch_batch-clause-causes
-returns-in-Err-fetch_batch-clause-causes g c = λ no_memory no_fault. absurd (no_memory c.in-Err-fetch_batch.ensures.only)
+returns-in-Err-fetch_batch-clause-causes g c = λ no_memory no_fault. absurd (no_memory c.no_memory.ensures)
 
 -- there is no run
 pub returns-in-Some-clause-writes : goal.returns-in-Some-clause-writes
@@ -77,7 +77,11 @@ returns-in-None-clause-turned g c =
     turned_after c.write_held.result c.args.flusher.now c.fetch_batch.new.flusher c.write_held.new.flusher (c.fetch_batch.ensures.told ∙ c.keep_up.ensures.keeps.batches.told) c.write_held.ensures.turned
 
 pub write_held-requires : goal.write_held-requires
-write_held-requires g c = (omega arith, (c.fetch_batch.ensures.at, rw c.in-None.is at c.in-Ok.ensures.held))
+write_held-requires g c =
+    let old = has_failed (store_of c.args.flusher.now) in
+    let worked : old ≡ false = search rules in
+    let works = works_after c.in_default.field-0 old (has_failed (store_of c.keep_up.new.flusher)) c.in_default.ensures.fails worked in
+    (omega arith, (c.fetch_batch.ensures.at, (ap has_failed c.fetch_batch.ensures.store ∙ works, rw c.in-None.is at c.in-Ok.ensures.held)))
 
 pub fetch_batch-requires : goal.fetch_batch-requires
 fetch_batch-requires g c = (omega arith, at_kept_up c.args.writer.now c.args.flusher.now c.keep_up.new.flusher c.keep_up.ensures.keeps c.requires.at)

@@ -2,7 +2,8 @@ use Rattle.std.proofs.Common.{◌≢◌, ◌∙◌, sym, subst, arith}
 use Rattle.refusal.specs.declared.Refusal.TheVariants.{NoMemory, Fault}
 use Rattle.recovery.specs.Open.{has_failed}
 use Rattle.flusher.specs.Holding.{store_of}
-use Rattle.turns.proofs.Writing.{writes_refused, writes_written, one_written, turn_failed, works_after, fails_ok, fails_same}
+use Rattle.flusher.specs.Writing.{IsFullForGood}
+use Rattle.turns.proofs.Writing.{full_for_good, writes_refused, writes_written, one_written, turn_failed, works_after, fails_ok, fails_same}
 use Rattle.turns.proofs.Counting.{at_still, at_settled, comes_next}
 use Rattle.turns.specs.Writing.{IsTurnFailed}
 use Rattle.turns.specs.declared.turned.Turned.TheVariants.{Settled}
@@ -27,7 +28,7 @@ returns-in-Err-clause-causes g c =
 pub stop_for-requires-clause-full : goal.stop_for-requires-clause-full
 stop_for-requires-clause-full g c =
     let e = c.in-Err.ensures in
-    subst (λ s. NoMemory ≢ c.in-Err.refusal → IsFullForGood c.in-Err.refusal s c.write.new.self) (sym c.snapshot.ensures)
+    subst (λ s. c.in-Err.refusal ≢ NoMemory → c.in-Err.refusal ≢ Fault → IsFullForGood c.in-Err.refusal s c.write.new.self) (sym c.snapshot-then.ensures)
     (full_for_good c.args.flusher.now c.write.new.self c.in-Err.refusal e.refused e.why)
 
 -- a batch is held, so the write doesn't answer that none was
