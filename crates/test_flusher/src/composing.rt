@@ -76,7 +76,9 @@ fn composed_beside<L: Life + Send + Sync, R: Threads + Wait + Clock + Abort + Al
     let (_ended, put) = join(
         rt,
         move || compose_workers(rt, rt.alloc(), first, second, &OpenHalves),
-        || turned(rt, &mut flusher, &hub, &mut writer, ends),
+        ||
+            requires { IsAt writer flusher }
+        { turned(rt, &mut flusher, &hub, &mut writer, ends) },
     );
     assert!(rt; put);
     flusher.end(rt).close()

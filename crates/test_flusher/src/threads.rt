@@ -137,7 +137,9 @@ fn beside<L: Life + Send + Sync, R: Threads + Wait + Abort + AllocGlobal + Sync>
     let (held, saw) = join(
         rt,
         || submitted_all(rt, &hub, &mut closer, &mut one, &mut other, &reached),
-        || flushed(rt, alloc, &mut flusher, &hub, &mut writer, &reached),
+        ||
+            requires { IsAt writer flusher }
+        { flushed(rt, alloc, &mut flusher, &hub, &mut writer, &reached) },
     );
     let store = flusher.end(rt);
     assert_eq!(rt; held, 2);

@@ -181,7 +181,10 @@ fn both<L: Life + Send + Sync, R: Threads + Wait + Abort + AllocGlobal + Sync>(
     join(
         rt,
         || submitted_all(rt, alloc, &hub, &mut closer, &mut seat, edits),
-        || written_or_failed(rt, alloc, &hub, &mut writer, publishing),
+        ||
+            requires taken { writer.taken ≡ length (commands_of publishing) }
+            requires settled { writer.settled ≡ length (commands_of publishing) }
+        { written_or_failed(rt, alloc, &hub, &mut writer, publishing) },
     )
 }
 

@@ -1,8 +1,8 @@
 use Rattle.test_flusher.proofs.Keeping.{keeps_all, keeps_on}
 use Rattle.test_flusher.proofs.composing.put_both.Goals as goal
 
-pub returns-then : goal.returns-then
-returns-then g c = keeps_all c.args.flusher.now
+pub returns-then-number-ne2 : goal.returns-then-number-ne2
+returns-then-number-ne2 g c = keeps_all c.args.flusher.now
 
 pub returns : goal.returns
 returns g c =

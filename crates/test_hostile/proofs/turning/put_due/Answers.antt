@@ -1,11 +1,11 @@
 use Rattle.test_hostile.proofs.Keeping.{keeps_all, keeps_on}
 use Rattle.test_hostile.proofs.turning.put_due.Goals as goal
 
-pub returns-else : goal.returns-else
-returns-else g c = keeps_all c.args.flusher.now
+pub returns-in_default : goal.returns-in_default
+returns-in_default g c = keeps_all c.args.flusher.now
 
-pub returns-then : goal.returns-then
-returns-then g c = c.put_document-put.ensures.keeps.batches
+pub returns-then-not-matches : goal.returns-then-not-matches
+returns-then-not-matches g c = c.put_document-put.ensures.keeps.batches
 
 pub returns : goal.returns
 returns g c =
