@@ -77,7 +77,7 @@ module _ {D L : Type 0} {disk : Ghosts D} where
     pub needed : refusal ≡ StillNeeded → HasNoRoom old × (IsOpen (store_of old) → HasFew (store_of old) × IsUnchanged (store_of old) (store_of new))
     pub used_up : (refusal ≡ JournalFull) ⊎ (refusal ≡ StillNeeded) → IsUsedUp (store_of old)
 
-  -- The batch that is held had no room in the store as it was then, which is told so, and had opened its last segment.
+  -- It is told so: the batch that is held had no room in the store of that moment, which had opened its last segment.
   pub record IsFullForGood (refusal : Refusal) (then : Store D disk) (flusher : Flusher D L disk) : Type 0 where
     pub told : (refusal ≡ JournalFull) ⊎ (refusal ≡ StillNeeded)
     pub no_room : (batch : List Taken) × (waiting_of flusher ≡ batch ∷ []) × (has_room then batch ≡ false)

@@ -251,8 +251,8 @@ impl<D: Disk, L: Life> Flusher<D, L> {
         Snapshot::of(&self.store)
     }
 
-    /// Why its store takes no batch any more: as it was then, the batch that is held had no room in it, and the last segment that there can be
-    /// was opened.
+    /// Why its store takes no batch any more: then the batch that is held had no room in it, and the last segment that there can be was
+    /// opened.
     pub fn full(&self, then: &Snapshot<Store<D>>, refusal: Refusal) -> Cause<L>
         requires { IsFullForGood refusal then.now.value self.now }
         ensures { result ≡ refusal }
