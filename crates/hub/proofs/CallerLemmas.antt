@@ -9,7 +9,7 @@ use Rattle.core.proofs.ledger.Share.TheSendSync as share
 use Rattle.ownlog.proofs.CallerLemmas.{owner_send}
 use Rattle.revision.specs.contracts.past.moved.MovedEdit as moved
 use Rattle.world.specs.contracts.entry.Entry as entry
-use Rattle.world.specs.contracts.board.Board as board
+use Rattle.world.specs.contracts.progress.Progress as progress
 use Rattle.published.specs.declared.life.Life as life
 use Rattle.published.proofs.Crossing.{delta_send, document_send, entry_send, ordered_send, state_send, told_send}
 use Rattle.hub.specs.contracts.ahead.Ahead as ahead

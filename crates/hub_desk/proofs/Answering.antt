@@ -6,7 +6,7 @@ use Rattle.revision.specs.Command.{Command, Taken}
 use Rattle.revision.specs.State.{State}
 use Rattle.recovery.specs.Found.{commands_of}
 use Rattle.published.proofs.CallerLemmas.{prefix_trans}
-use Rattle.world.specs.Board.{Ticket}
+use Rattle.world.specs.Progress.{Ticket}
 use Rattle.world.specs.World.{Entry, takens}
 use Rattle.hub.specs.Legal.{counted}
 use Rattle.hub.specs.Found.{IsSubmittedAfter}

@@ -22,7 +22,7 @@ use Rattle.recovery.specs.declared.store.Store.{Store}
 use Rattle.recovery.specs.Found.{commands_of}
 use Rattle.recovery.specs.Moment.{Moment}
 use Rattle.recovery.specs.Open.{IsOpen, device_of, state_of, moment_now, has_failed}
-use Rattle.world.specs.Board.{Ticket}
+use Rattle.world.specs.Progress.{Ticket}
 use Rattle.world.specs.World.{Entry, entry_of, takens, World, begun, is_of, last_sent}
 use Rattle.world.specs.Step.{may_leave}
 use Rattle.world.specs.Shown.{Shown, shown, all_shown}

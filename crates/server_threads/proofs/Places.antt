@@ -11,7 +11,7 @@ use Rattle.revision.specs.State.{State}
 use Rattle.revision.specs.Acceptance as acceptance
 use Rattle.revision.specs.Acceptance.{TakenAt, AgainAt, Refused}
 use Rattle.recovery.specs.Found.{commands_of}
-use Rattle.world.specs.Board.{Ticket}
+use Rattle.world.specs.Progress.{Ticket}
 use Rattle.world.specs.World.{Entry, entry_of, takens}
 use Rattle.published.proofs.CallerLemmas.{prefix_trans, takens_begin}
 use Rattle.flusher.proofs.CallerLemmas.{commands-append}

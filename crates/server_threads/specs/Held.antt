@@ -8,7 +8,7 @@ use Rattle.revision.specs.State.{State, fold}
 use Rattle.recovery.specs.declared.store.Store.{Store}
 use Rattle.recovery.specs.Found.{commands_of}
 use Rattle.recovery.specs.Open.{state_of}
-use Rattle.world.specs.Board as world
+use Rattle.world.specs.Progress as world
 use Rattle.world.specs.World.{Entry, takens}
 use Rattle.flusher.specs.declared.flusher.Flusher.{Flusher}
 use Rattle.flusher.specs.Holding.{LastsSince, store_of, told_of, committed_of, waiting_of, opened_of}
