@@ -45,7 +45,7 @@ returns-clause-writes g c =
 pub returns-clause-turned : goal.returns-clause-turned
 returns-clause-turned g c =
     let done = rw c.in-Some.is at c.in-Ok.ensures.published in
-    (one_written c.args.flusher.now c.write.new.self c.in-Some.both done, c.settle-receipt.ensures.settled ∙ done.some.token_is)
+    (one_written c.args.flusher.now c.write.new.self c.in-Some.both done, c.settle-receipt.ensures.settled.settled ∙ done.some.token_is)
 
 pub returns-clause-fails : goal.returns-clause-fails
 returns-clause-fails g c =
@@ -59,7 +59,7 @@ settle-receipt-requires g c =
 
 pub returns-clause-at : goal.returns-clause-at
 returns-clause-at g c =
-    at_settled c.args.writer.now c.settle-receipt.new.writer c.args.flusher.now c.write.new.self c.in-Some.both (rw c.in-Some.is at c.in-Ok.ensures.published) c.settle-receipt.ensures.counts
+    at_settled c.args.writer.now c.settle-receipt.new.writer c.args.flusher.now c.write.new.self c.in-Some.both (rw c.in-Some.is at c.in-Ok.ensures.published) c.settle-receipt.ensures.settled.counts
     c.requires.at
 
 pub returns-in-Err-clause-at : goal.returns-in-Err-clause-at
