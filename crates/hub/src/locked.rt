@@ -201,7 +201,7 @@ impl<D, L: Life> Locked<D, L> {
     }
 
     // submits a command to the board, unless the end was called, and notes that its seat waits
-    #[tactic(auto, using(crate::proofs::Settling::counts_stay))]
+    #[tactic(auto, using(crate::proofs::Moving::counts_kept))]
     pub(crate) fn submit(
         &mut self,
         alloc: Global,
@@ -219,6 +219,8 @@ impl<D, L: Life> Locked<D, L> {
         if self.ended {
             return Err(SubmitError::Stopped(Stopped::by_locked(self)));
         }
+        // its order is a legal history
+        self.board.facts();
         match self.board.submit(alloc, seat, command) {
             Ok(ticket) => Ok(self.awaiting(ticket)),
             Err(refusal) => Err(SubmitError::by_board(&self.board, refusal)),
