@@ -17,7 +17,7 @@ use Rattle.hub.specs.Placed.{StandsFirst}
 use Rattle.hub.specs.Moves.{IsAcked, IsSubmittedTo, StandsAt}
 use Rattle.lives.specs.declared.calls.Call.TheVariants.{Submit}
 use Rattle.lives.specs.declared.calls.Answer.TheVariants.{Submitted, Refused}
-use Rattle.lives.specs.Driving.{AckGives, Gives}
+use Rattle.lives.specs.Driving.{AckGives, Between, Gives}
 use Rattle.lives.proofs.Counting.{counts_more}
 
 -- a ticket whose order is a prefix of commands is no longer than these
@@ -29,7 +29,7 @@ holds start ticket commands stands =
 pub acks : {E : Type 0} (start : State) (board : Board) (ticket : Ticket) (told : Option (List (List Taken))) → board.failed ≡ false
     → IsAcked {E = E} board ticket (Ok told) → StandsAt {E = E} start ticket (Ok told) → AckGives board (Some ticket) told
 acks start board ticket None works acked stands = (acked.waits.0 refl).0
-acks {E = E} start board ticket (Some told) works acked stands = by_length (can_ack board.progress ticket) refl
+acks start board ticket (Some told) works acked stands = by_length (can_ack board.progress ticket) refl
   where
     by_length : (can : Bool) → can_ack board.progress ticket ≡ can → AckGives board (Some ticket) (Some told)
     by_length true yes =
@@ -60,6 +60,9 @@ module _ (start : State) (old new : Board) (command : Command) (works : old.fail
       ap (λ (b : Board). b.progress) given.unchanged ∙ ap (submitted_by (entry_of command) old.progress) (sym (by_rule refusal given other))
 
   module _ {D L : Type 0} {disk : Ghosts D} (cap : ℕ) (store : Store D disk) (tickets out : List Ticket) where
+    abbrev between_calls : Board → List Ticket → Between D disk
+    between_calls board held = record { board = board; tickets = held; store = store }
+
     pub gives_ticket : (ticket : Ticket) (at : ℕ) → IsSubmittedTo start old command (Ok ticket) new → at ≡ length tickets → out ≡ tickets ++ ticket ∷ []
         → Gives {D = D} {L = L} cap (record { board = old; tickets = tickets; store = store }) (Submit command) (Submitted at)
         (record { board = new; tickets = out; store = store })
@@ -70,6 +73,6 @@ module _ (start : State) (old new : Board) (command : Command) (works : old.fail
         → Gives {D = D} {L = L} cap (record { board = old; tickets = tickets; store = store }) (Submit command) (Refused refusal)
         (record { board = new; tickets = out; store = store })
     gives_refusal refusal given other same = (
-      ap₂ (λ (b : Board) (t : List Ticket). record { board = b; tickets = t; store = store }) given.unchanged same,
+      ap₂ between_calls given.unchanged same,
       by_rule refusal given other,
     )
