@@ -45,19 +45,19 @@
 #![tactic(auto)]
 
 mod batch;
-mod counts;
 pub mod laws;
+mod ledgers;
 mod life;
 mod log;
-mod mark;
 mod moments;
 mod order;
+mod prefix;
 mod told;
 
-pub use counts::{Counts, OfSettled, OfTaken};
+pub use ledgers::{Ledgers, OfSettled, OfTaken};
 pub use life::Life;
 pub use log::{Log, Opened};
-pub use mark::Mark;
 pub use moments::Moments;
 pub use order::{Order, Ordered};
+pub use prefix::PublishedPrefix;
 pub use told::Told;
