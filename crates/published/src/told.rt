@@ -90,7 +90,8 @@ impl<D, L: Life> Told<D, L> {
         requires { length ordered.now ≤ length (commands_of self.now) }
         ensures { IsPrefix (takens ordered.now) (commands_of self.now) }
     {
-        self.ordered().meets(ordered);
+        let mine = self.ordered();
+        mine.meets(ordered);
     }
 
     /// What is published begins the order that a token has, where that is no shorter. It takes no memory.
@@ -98,7 +99,8 @@ impl<D, L: Life> Told<D, L> {
         requires { length (commands_of self.now) ≤ length ordered.now }
         ensures { IsPrefix (commands_of self.now) (takens ordered.now) }
     {
-        self.ordered().meets(ordered);
+        let mine = self.ordered();
+        mine.meets(ordered);
     }
 
     /// A token of the order that has all its commands first. It takes no memory.
