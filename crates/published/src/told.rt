@@ -17,8 +17,8 @@ use disk::Disk;
 use recovery::Receipt;
 use std::marker::{Model, PhantomData};
 
-/// A token of what was published by a store over a device of this type: a prefix of it, and the device's type. Contracts see it as its batches,
-/// the oldest first.
+/// A token of what a run over a device of this type has published: a prefix of it that was seen. Contracts see it as its batches, the oldest
+/// first.
 #[derive(Drop)]
 pub struct Told<D, L: Life> {
     pub(crate) prefix: PublishedPrefix<L>,
