@@ -28,6 +28,16 @@ impl<L: Life> Model for Moments<L> {
 }
 
 impl<L: Life> Moments<L> {
+    /// Another token of the same moments. It takes no memory.
+    pub fn copy(&self) -> Moments<L>
+        ensures { result ≡ self.now }
+    {
+        Moments {
+            front: self.front.copy(),
+            of: PhantomData,
+        }
+    }
+
     /// The moments of two tokens of one run begin one list. It takes no memory.
     pub fn meets(&self, other: &Moments<L>)
         ensures { (all : List Point) × IsPrefix self.now all × IsPrefix other.now all }

@@ -21,7 +21,7 @@ use published::{Life, Log, Moments, Opened, Order, Ordered, Told};
 use recovery::Receipt;
 use revision::State;
 use std::alloc::{AllocError, Global};
-use std::marker::{Model, PhantomData};
+use std::marker::Model;
 use std::sync::Wait;
 
 /// So many viewers there may be at once.
@@ -70,8 +70,8 @@ where
       moments = spec.moments_in ⟦<D as Disk>⟧ p.log.moments p.stage;
     } };
 
-    ghost invariant = { λ p. spec.AreShown L.book.logs L.start p.told p.writer.desk.shown.value
-        × (drop p.writer.behind p.writer.log.items ≡ spec.waiting L.book.logs L.start p.stage) × spec.IsLogged p.log.batches p.told p.stage
+    ghost invariant = { λ p. spec.AreShown L.start p.told p.writer.desk.shown.value
+        × (drop p.writer.behind p.writer.log.items ≡ spec.waiting p.stage) × spec.IsLogged p.log.batches p.told p.stage
         × spec.IsGiven L.start p.told p.stage × spec.IsTimed ⟦<D as Disk>⟧ L.start p.told p.stage };
 }
 
@@ -89,18 +89,16 @@ impl<D: Disk, L: Life> Publisher<D, L> {
         ensures told { IfOk result (λ made. made.1 ≡ []) }
         ensures order { IfOk result (λ made. made.2 ≡ []) }
     {
-        let (log, told, order) = opened.named::<D, L>(state);
+        let (log, told, order) = opened.named::<D, L>();
         let first = Shown {
             alloc,
             state: state.copy(alloc)?,
-            mark: told.mark(),
-            of: PhantomData,
+            published: told.prefix().copy(),
         };
         let second = Shown {
             alloc,
             state: state.copy(alloc)?,
-            mark: told.mark(),
-            of: PhantomData,
+            published: told.prefix().copy(),
         };
         let writer = Writer::new(alloc, first, second, VIEWERS)?;
         let start = told.copy();
@@ -294,7 +292,7 @@ fn queued<D: Disk, L: Life, R: Wait>(
     Publisher<D, L>,
     Result<Option<(Receipt<D>, Told<D, L>)>, AllocError>,
 )
-    requires shown { AreShown L.book.logs L.start told writer.desk.shown.value }
+    requires shown { AreShown L.start told writer.desk.shown.value }
     requires waiting { drop writer.behind writer.log.items ≡ [] }
     requires next { next ≡ told ++ receipt.batch ∷ [] }
     requires made { AreMade (fold L.start (commands_of told)) receipt.batch made.items }
@@ -329,7 +327,7 @@ fn appended<D, L: Life>(
     requires made { AreMade (fold L.start (commands_of told.now)) receipt.now.batch made.items }
     ensures desk { writer.new.desk ≡ writer.old.desk }
     ensures waiting { MatchBool result (drop writer.new.behind writer.new.log.items
-        ≡ to_show L.book.logs L.start receipt.now.batch next.now ∷ []) (drop writer.new.behind writer.new.log.items ≡ []) }
+        ≡ to_show receipt.now.batch next.now ∷ []) (drop writer.new.behind writer.new.log.items ≡ []) }
 {
     match news_of(receipt, told, next, made) {
         Ok(news) => writer.append(news).is_ok(),
@@ -349,8 +347,8 @@ fn shown<D: Disk, L: Life, R: Wait>(
     Publisher<D, L>,
     Result<Option<(Receipt<D>, Told<D, L>)>, AllocError>,
 )
-    requires shown { AreShown L.book.logs L.start told writer.desk.shown.value }
-    requires waiting { drop writer.behind writer.log.items ≡ to_show L.book.logs L.start receipt.batch next ∷ [] }
+    requires shown { AreShown L.start told writer.desk.shown.value }
+    requires waiting { drop writer.behind writer.log.items ≡ to_show receipt.batch next ∷ [] }
     requires next { next ≡ told ++ receipt.batch ∷ [] }
     requires log { log.batches ≡ next }
     ensures done { IfOk result.1 (λ published. IfSome published (λ p. (p.0 ≡ receipt) × (p.1 ≡ next)
@@ -391,13 +389,12 @@ fn news_of<D, L: Life>(
 ) -> Result<News<L>, AllocError>
     requires next { next.now ≡ told.now ++ receipt.now.batch ∷ [] }
     requires made { AreMade (fold L.start (commands_of told.now)) receipt.now.batch made.items }
-    ensures news { IfOk result (λ news. news ≡ to_show L.book.logs L.start receipt.now.batch next.now) }
+    ensures news { IfOk result (λ news. news ≡ to_show receipt.now.batch next.now) }
 {
     Ok(News {
         batch: receipt.batch().share()?,
         made,
-        before: told.mark(),
-        mark: next.mark(),
-        of: PhantomData,
+        before: told.prefix().copy(),
+        published: next.prefix().copy(),
     })
 }

@@ -101,7 +101,7 @@ impl<D, L: Life> Viewer<D, L> {
                 return Err(Refusal::StoreFailed);
             }
         };
-        let seen = Told::of_mark(reading.get().mark.copy());
+        let seen = Told::of(reading.get().published.copy());
         if !self.told.begins(&seen) {
             self.reader = Some(reading.leave());
             return Err(Refusal::StoreFailed);
