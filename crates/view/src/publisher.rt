@@ -1,5 +1,5 @@
 //! The writer of the view.
-ghost use Rattle.std.specs.Prelude.{◌≡◌, ◌∷◌, ◌++◌, [], drop, length, nat_lt, IfOk, IfSome, IfNone, OnErr, MatchBool};
+ghost use Rattle.std.specs.Prelude.{◌≡◌, ◌⊎◌, ◌∷◌, ◌++◌, [], drop, length, nat_lt, IfOk, IfSome, IfNone, OnErr, MatchBool};
 ghost use mathlib.Core.List.{IsPrefix};
 ghost use Rattle.recovery.specs.Found.{commands_of};
 ghost use Rattle.recovery.specs.Moment.{IsMomentOf, moment_of};
@@ -145,8 +145,12 @@ impl<D: Disk, L: Life> Publisher<D, L> {
         }
     }
 
-    /// The log of what is published, which nobody else has.
-    pub fn log(&self) -> &Log<D, L> {
+    /// The log of what is published, which nobody else has. The batch that was given may be in it already.
+    pub fn log(&self) -> &Log<D, L>
+        ensures batches { (result.now.batches ≡ self.now.told)
+            ⊎ (result.now.batches ≡ self.now.told ++ self.now.unpublished) }
+        ensures moments { IsPrefix result.now.moments self.now.moments }
+    {
         &self.log
     }
 
