@@ -1,11 +1,11 @@
 //! The token of what was published.
-ghost use Rattle.std.specs.Prelude.{◌≡◌, ◌⊎◌, ◌≤◌, ◌<◌, ◌+◌, ◌^◌, ◌∷◌, ◌++◌, [], ◌↔◌, true, length, IsTrue, MatchBool};
+ghost use Rattle.std.specs.Prelude.{◌≡◌, ◌≤◌, ◌<◌, ◌+◌, ◌^◌, ◌∷◌, ◌++◌, [], ◌↔◌, length, IsTrue, MatchBool};
 ghost use mathlib.Core.List.{IsPrefix};
 ghost use Rattle.revision.specs.State.{fold};
 ghost use Rattle.recovery.specs.Found.{commands_of};
 ghost use Rattle.recovery.specs.Moment.{IsMomentOf, moment_of};
 ghost use Rattle.world.specs.World.{takens};
-ghost use Rattle.published.specs.Batches.{IsShorter};
+ghost use Rattle.published.specs.Batches.{IsShorter, IsTheLonger};
 ghost use Rattle.published.specs.Moments.{AreMoments};
 
 use crate::life::Life;
@@ -65,9 +65,7 @@ impl<D, L: Life> Told<D, L> {
 
     /// The longer of two tokens, which the other begins. It takes no memory.
     pub fn longer(&self, other: &Told<D, L>) -> Told<D, L>
-        ensures one { (result ≡ self.now) ⊎ (result ≡ other.now) }
-        ensures this { IsPrefix self.now result }
-        ensures that { IsPrefix other.now result }
+        ensures { IsTheLonger self.now other.now result }
     {
         if self.begins(other) {
             other.copy()
@@ -78,9 +76,7 @@ impl<D, L: Life> Told<D, L> {
 
     /// Becomes the longer of the two. It takes no memory.
     pub fn learn(&mut self, other: &Told<D, L>)
-        ensures one { (self.new ≡ self.old) ⊎ (self.new ≡ other.now) }
-        ensures this { IsPrefix self.old self.new }
-        ensures that { IsPrefix other.now self.new }
+        ensures { IsTheLonger self.old other.now self.new }
     {
         *self = self.longer(other);
     }

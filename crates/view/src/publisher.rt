@@ -1,5 +1,5 @@
 //! The writer of the view.
-ghost use Rattle.std.specs.Prelude.{◌≡◌, ◌⊎◌, ◌∷◌, ◌++◌, [], drop, length, nat_lt, IfOk, IfSome, IfNone, OnErr, MatchBool};
+ghost use Rattle.std.specs.Prelude.{◌≡◌, ◌⊎◌, ◌∷◌, ◌++◌, [], drop, length, nat_lt, IfOk, IfSome, MatchBool};
 ghost use mathlib.Core.List.{IsPrefix};
 ghost use Rattle.recovery.specs.Found.{commands_of};
 ghost use Rattle.recovery.specs.Moment.{IsMomentOf, moment_of};
@@ -8,6 +8,7 @@ ghost use Rattle.revision.specs.State.{fold};
 ghost use Rattle.world.specs.World.{takens};
 ghost use Rattle.published.specs.Moments.{AreMoments};
 ghost use Rattle.view.specs.Published.{Published};
+ghost use Rattle.view.specs.Publishing.{Publishes, ShowsNext};
 ghost use Rattle.view.specs.Stages.{AreShown, IsNext, news_of as to_show};
 
 use crate::shown::{Basis, InLog, News, Sees, Shown};
@@ -216,13 +217,7 @@ impl<D: Disk, L: Life> Publisher<D, L> {
         rt: &R,
         alloc: Global,
     ) -> Result<Option<(Receipt<D>, Told<D, L>)>, AllocError>
-        ensures batch { IfOk result (λ published. IfSome published (λ p. self.old.unpublished ≡ p.0.batch ∷ [])) }
-        ensures told { IfOk result (λ published. IfSome published (λ p. p.1 ≡ self.old.told ++ p.0.batch ∷ [])) }
-        ensures shown { IfOk result (λ published. IfSome published
-            (λ p. self.new ≡ record { told = p.1; unpublished = []; moments = self.old.moments })) }
-        ensures none { IfOk result (λ published. IfNone published
-            ((self.old.unpublished ≡ []) × (self.new ≡ self.old))) }
-        ensures unchanged { OnErr result (self.new ≡ self.old) }
+        ensures { Publishes self.old result self.new }
     {
         replace_with(self, (rt, alloc), published::<D, L, R>)
     }
@@ -247,13 +242,7 @@ fn published<D: Disk, L: Life, R: Wait>(
     Publisher<D, L>,
     Result<Option<(Receipt<D>, Told<D, L>)>, AllocError>,
 )
-    ensures batch { IfOk result.1 (λ published. IfSome published (λ p. publisher.unpublished ≡ p.0.batch ∷ [])) }
-    ensures told { IfOk result.1 (λ published. IfSome published (λ p. p.1 ≡ publisher.told ++ p.0.batch ∷ [])) }
-    ensures shown { IfOk result.1 (λ published. IfSome published
-        (λ p. result.0 ≡ record { told = p.1; unpublished = []; moments = publisher.moments })) }
-    ensures none { IfOk result.1 (λ published. IfNone published
-        ((publisher.unpublished ≡ []) × (result.0 ≡ publisher))) }
-    ensures unchanged { OnErr result.1 (result.0 ≡ publisher) }
+    ensures { Publishes publisher result.1 result.0 }
 {
     let (rt, alloc) = with;
     let Publisher {
@@ -301,10 +290,7 @@ fn queued<D: Disk, L: Life, R: Wait>(
     requires next { next ≡ told ++ receipt.batch ∷ [] }
     requires made { AreMade (fold L.start (commands_of told)) receipt.batch made.items }
     requires log { log.batches ≡ next }
-    ensures done { IfOk result.1 (λ published. IfSome published (λ p. (p.0 ≡ receipt) × (p.1 ≡ next)
-        × (result.0 ≡ record { told = next; unpublished = []; moments = log.moments }))) }
-    ensures some { IfOk result.1 (λ published. IfNone published ⊥) }
-    ensures unchanged { OnErr result.1 (result.0 ≡ record { told = told; unpublished = receipt.batch ∷ []; moments = log.moments }) }
+    ensures { ShowsNext told receipt next log.moments result.1 result.0 }
 {
     if !appended(&mut writer, &receipt, &told, &next, made) {
         let logged = Publisher {
@@ -355,10 +341,7 @@ fn shown<D: Disk, L: Life, R: Wait>(
     requires waiting { drop writer.behind writer.log.items ≡ to_show receipt.batch next ∷ [] }
     requires next { next ≡ told ++ receipt.batch ∷ [] }
     requires log { log.batches ≡ next }
-    ensures done { IfOk result.1 (λ published. IfSome published (λ p. (p.0 ≡ receipt) × (p.1 ≡ next)
-        × (result.0 ≡ record { told = next; unpublished = []; moments = log.moments }))) }
-    ensures some { IfOk result.1 (λ published. IfNone published ⊥) }
-    ensures unchanged { OnErr result.1 (result.0 ≡ record { told = told; unpublished = receipt.batch ∷ []; moments = log.moments }) }
+    ensures { ShowsNext told receipt next log.moments result.1 result.0 }
 {
     let (writer, published) = writer.publish_as::<Sees<L>, R>(rt);
     match published {
