@@ -17,8 +17,8 @@ use Rattle.revision.specs.contracts.rule.taken.Taken as taken
 use Rattle.revision.specs.contracts.past.state.State as state
 use Rattle.world.specs.contracts.entry.Entry as entry
 use Rattle.published.specs.declared.life.Life as life
-use Rattle.published.specs.contracts.batch.Batch as batch
-use Rattle.published.specs.contracts.batch.Moment as moment
+use Rattle.published.specs.contracts.batch.BatchItem as batch
+use Rattle.published.specs.contracts.batch.MomentItem as moment
 use Rattle.published.specs.contracts.moments.Moments as moments
 use Rattle.published.specs.contracts.order.Ordered as ordered
 use Rattle.published.specs.contracts.prefix.PublishedPrefix as prefix

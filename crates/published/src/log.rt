@@ -6,7 +6,7 @@ ghost use Rattle.recovery.specs.Found.{commands_of};
 ghost use Rattle.recovery.specs.Moment.{IsMomentOf, moment_of};
 ghost use Rattle.published.specs.Moments.{AreMoments};
 
-use crate::batch::{AtReceipt, Batch, Moment, OfReceipt};
+use crate::batch::{AtReceipt, BatchItem, MomentItem, OfReceipt};
 use crate::ledgers::Ledgers;
 use crate::life::Life;
 use crate::moments::Moments;
@@ -22,9 +22,9 @@ use world::Entry;
 
 /// The empty logs of a run that has no name yet, and its two empty ledgers. Contracts see them as their own names.
 pub struct Opened {
-    batches: Owner<Batch>,
+    batches: Owner<BatchItem>,
     order: Owner<Entry>,
-    moments: Owner<Moment>,
+    moments: Owner<MomentItem>,
     takes: Blank,
     settles: Blank,
 }
@@ -98,8 +98,8 @@ impl Opened {
 /// owns it publishes. Contracts see it as its batches, the oldest first, and their moments. It takes two words of memory, however long it is.
 #[derive(Drop)]
 pub struct Log<D, L: Life> {
-    pub(crate) owner: Owner<Batch>,
-    pub(crate) moments: Owner<Moment>,
+    pub(crate) owner: Owner<BatchItem>,
+    pub(crate) moments: Owner<MomentItem>,
     pub(crate) of: PhantomData<(D, L)>,
 }
 

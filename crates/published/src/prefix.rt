@@ -6,7 +6,7 @@ ghost use Rattle.world.specs.World.{takens};
 ghost use Rattle.published.specs.Batches.{IsShorter};
 ghost use Rattle.published.specs.Moments.{AreMoments};
 
-use crate::batch::Batch;
+use crate::batch::BatchItem;
 use crate::life::Life;
 use crate::moments::Moments;
 use crate::order::Ordered;
@@ -19,7 +19,7 @@ use std::marker::Model;
 pub struct PublishedPrefix<L: Life> {
     pub(crate) batches: u64,
     pub(crate) len: u64,
-    pub(crate) log: Front<Batch>,
+    pub(crate) log: Front<BatchItem>,
     pub(crate) order: Ordered<L>,
     pub(crate) moments: Moments<L>,
 }
