@@ -54,6 +54,6 @@ module _ {D L : Type 0} {disk : Ghosts D} where
   pub record HaveBegun (start : State) (store : Store D disk) (seats : ℕ) (flusher : Flusher D L disk) (board : HubBoard) : Type 0 where
     pub over : store_of flusher ≡ store
     pub opened : opened_of flusher ≡ store_of flusher
-    pub fresh : board ≡ record { board = begun_progress start; failed = false; told = []; left = seats }
+    pub fresh : board ≡ record { progress = begun_progress start; failed = false; told = []; left = seats }
     pub told : told_of flusher ≡ []
     pub calm : IsCalm start (standing board flusher)

@@ -20,7 +20,7 @@ use Rattle.hub.specs.contracts.locked.Closer as closer
 use Rattle.hub.specs.contracts.locked.Writer as writer
 pub use Rattle.hub.proofs.Histories.{fold-more}
 
-pub board_send : IsSend board.the_row
+pub board_send : IsSend progress.the_row
 board_send = search (state_send, entry_send, sendable, crosses) depth 30 fits 20000
 
 pub moved_send : IsSend moved.the_row

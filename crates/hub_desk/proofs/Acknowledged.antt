@@ -62,10 +62,7 @@ pub refused_by_board : RefusedByBoard
 refused_by_board start old new command refusal refused =
     let board : Progress Entry = record { start = start; order = new.found; state = fold start (takens new.found); taken = 0; settled = 0 } in
     let run : IsOfRun start board = record { begun = refl; history = record { legal = refused.finds.legal; state = refl } } in
-    elim refused.refused [
-      | inl memory ↦ inl (board, run, memory.0, memory.1)
-      | inr by_rule ↦ inr (board, run, by_rule)
-    ]
+    (board, run, refused.refused)
 
 -- what stands first in what batches have stands in what these and further ones make
 stands_behind : (start : State) (old new : List (List Taken)) (command : Command) (reply : Reply) (ticket : Ticket) → IsPrefix old new

@@ -50,12 +50,12 @@ same_cap start state commands is = ap cap_of is ∙ ap (λ l. min (l.width + 4) 
 
 module _ {D : Type 0} {disk : Ghosts D} where
   pub submit_goes : {A E : Type 0} (T : Type 0) (start : State) (here : Standing D disk) (old board : Outer) (command : Command) (result : Result A E) → IsCalm start here
-      → OnOk result (board.progress ≡ submitted (entry_of command) here.board command) → OnErr result ((board ≡ old) × T) → old.board ≡ here.board → board.told ≡ here.known
+      → OnOk result (board.progress ≡ submitted (entry_of command) here.board command) → OnErr result ((board ≡ old) × T) → old.progress ≡ here.board → board.told ≡ here.known
       → RunGoes start here (record here { board = board.progress; known = board.told })
   submit_goes T start here old board command (Ok a) calm ok err same knows = (run_submitted start here board.progress board.told command calm ok knows).1
   submit_goes T start here old board command (Err e) calm ok err same knows =
       subst (λ (k : List (List Taken)). RunGoes start here (record here { board = board.progress; known = k })) (sym knows)
-      (subst (λ (b : Progress Entry). RunGoes start here (record here { board = b })) (sym (ap (λ (b : Outer). b.board) err.0 ∙ same)) (run_none start here calm))
+      (subst (λ (b : Progress Entry). RunGoes start here (record here { board = b })) (sym (ap (λ (b : Outer). b.progress) err.0 ∙ same)) (run_none start here calm))
 
   -- the store alone changes, by equations
   pub run_store_by : (start : State) (here : Standing D disk) (told committed waiting : List (List Taken)) (store : Store D disk) → IsCalm start here → state_of store ≡ state_of here.store
@@ -103,7 +103,7 @@ grows_not board tickets after out is same = record { settled = omega (arith, ap 
 module _ {D : Type 0} {disk : Ghosts D} where
   -- no more of either
   still : (here after : Between D disk) → after.board ≡ here.board → after.tickets ≡ here.tickets → Grows here.board.progress here.tickets after.board.progress after.tickets
-  still here after is same = grows_not here.board.progress here.tickets after.board.progress after.tickets (ap (λ (b : Outer). b.board) is) same
+  still here after is same = grows_not here.board.progress here.tickets after.board.progress after.tickets (ap (λ (b : Outer). b.progress) is) same
 
   stays : (here after : Between D disk) → after ≡ here → Grows here.board.progress here.tickets after.board.progress after.tickets
   stays here after is = still here after (ap (λ (b : Between D disk). b.board) is) (ap (λ (b : Between D disk). b.tickets) is)
@@ -149,7 +149,7 @@ module _ {D L : Type 0} {disk : Ghosts D} where
   grows_by : (cap : ℕ) (here : Between D disk) (call : Call) (reply : Answer D L) (after : Between D disk) → Gives cap here call reply after
       → Grows here.board.progress here.tickets after.board.progress after.tickets
   grows_by cap here (Submit command) (Submitted at) after gives = record {
-    settled = omega (arith, ap (λ (b : Outer). b.board.settled) gives.0, settled_by (entry_of command) here.board.progress (answer here.board.progress.state command));
+    settled = omega (arith, ap (λ (b : Outer). b.progress.settled) gives.0, settled_by (entry_of command) here.board.progress (answer here.board.progress.state command));
     more = (gives.2.0 ∷ [], gives.2.2);
   }
   grows_by cap here (Submit command) (Refused refusal) after gives = stays here after gives.0
@@ -158,7 +158,7 @@ module _ {D L : Type 0} {disk : Ghosts D} where
   grows_by cap here (Submit command) Put after gives = absurd gives
   grows_by cap here (Submit command) Retired after gives = absurd gives
   grows_by cap here Turn (Turned n) after gives = record {
-    settled = omega (arith, ap (λ (b : Outer). b.board.settled) gives.1);
+    settled = omega (arith, ap (λ (b : Outer). b.progress.settled) gives.1);
     more = ([], gives.2 ∙ sym (append-nil here.tickets));
   }
   grows_by cap here Turn (Submitted at) after gives = absurd gives
@@ -319,16 +319,16 @@ module _ {D : Type 0} {disk : Ghosts D} where
 
   -- nothing is settled by it
   turn_settled : (cap : ℕ) (board board-after : Outer) (store store-after : Store D disk) → IsUnsettled cap board store board-after store-after
-      → board-after.board.settled ≡ board.progress.settled
-  turn_settled cap board board-after store store-after (inl same) = ap (λ (b : Outer). b.board.settled) same.0
-  turn_settled cap board board-after store store-after (inr (count, longest, some, took)) = ap (λ (b : Outer). b.board.settled) took
+      → board-after.progress.settled ≡ board.progress.settled
+  turn_settled cap board board-after store store-after (inl same) = ap (λ (b : Outer). b.progress.settled) same.0
+  turn_settled cap board board-after store store-after (inr (count, longest, some, took)) = ap (λ (b : Outer). b.progress.settled) took
 
   pub unanswered_settled : (cap : ℕ) (here after : Between D disk) (call : Call) → IsUnanswered cap here call after → after.board.progress.settled ≡ here.board.progress.settled
   unanswered_settled cap here after (Submit command) left = ap (λ (b : Between D disk). b.board.progress.settled) left
   unanswered_settled cap here after Turn left = turn_settled cap here.board after.board here.store after.store left.1
   unanswered_settled cap here after (Ack at) left = absurd left
-  unanswered_settled cap here after (Milestone document revision) left = ap (λ (b : Outer). b.board.settled) left.0
-  unanswered_settled cap here after Retire left = ap (λ (b : Outer). b.board.settled) left.0
+  unanswered_settled cap here after (Milestone document revision) left = ap (λ (b : Outer). b.progress.settled) left.0
+  unanswered_settled cap here after Retire left = ap (λ (b : Outer). b.progress.settled) left.0
 
 -- the call behind those that are answered
 pub call_behind : {X : Type 0} (calls : List Call) (at : ℕ) (answers : List X) (call d : Call) → at < length calls → call ≡ get_or calls at d → length answers ≡ at
@@ -341,19 +341,19 @@ with_some told [] some = absurd (omega (arith, some))
 with_some told (first ∷ others) some = refl
 
 -- a turn of a run that was taken off and settled
-pub turned_by : (old taken after : Outer) (count : ℕ) (run : List Taken) (token : List (List Taken)) → taken ≡ record old { board = taken_more old.board count }
-    → after ≡ record taken { board = settled_more taken.board count; told = token } → run ≡ takens (next_run old.board count) → 0 < length run → token ≡ old.told ++ run ∷ [] → after ≡ turned old count
+pub turned_by : (old taken after : Outer) (count : ℕ) (run : List Taken) (token : List (List Taken)) → taken ≡ record old { progress = taken_more old.progress count }
+    → after ≡ record taken { progress = settled_more taken.progress count; told = token } → run ≡ takens (next_run old.progress count) → 0 < length run → token ≡ old.told ++ run ∷ [] → after ≡ turned old count
 turned_by old taken after count run token took settled is some tells =
-    settled ∙ ap (λ (b : Outer). record b { board = settled_more b.board count; told = token }) took
-    ∙ ap (λ (t : List (List Taken)). record old { board = settled_more (taken_more old.board count) count; told = t })
+    settled ∙ ap (λ (b : Outer). record b { progress = settled_more b.progress count; told = token }) took
+    ∙ ap (λ (t : List (List Taken)). record old { progress = settled_more (taken_more old.progress count) count; told = t })
     (tells ∙ sym (with_some old.told run some) ∙ ap (with_run old.told) is)
 
 -- a turn of no command at all
-pub turned_not : (old after : Outer) (count : ℕ) → after ≡ record old { board = taken_more old.board count } → count ≡ 0 → after ≡ turned old count
+pub turned_not : (old after : Outer) (count : ℕ) → after ≡ record old { progress = taken_more old.progress count } → count ≡ 0 → after ≡ turned old count
 turned_not old after count took none =
-    let settled : old.board.settled ≡ old.board.settled + 0 = omega arith in
-    took ∙ ap (λ (n : ℕ). record old { board = taken_more old.board n }) none
-    ∙ ap (λ (n : ℕ). record old { board = record old.board { taken = old.board.taken + 0; settled = n } }) settled
+    let settled : old.progress.settled ≡ old.progress.settled + 0 = omega arith in
+    took ∙ ap (λ (n : ℕ). record old { progress = taken_more old.progress n }) none
+    ∙ ap (λ (n : ℕ). record old { progress = record old.progress { taken = old.progress.taken + 0; settled = n } }) settled
     ∙ sym (ap (turned old) none)
 
 -- a refusal that is handed on

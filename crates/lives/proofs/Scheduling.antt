@@ -63,18 +63,18 @@ module _ {D L : Type 0} where
 -- an acknowledgement, by the ticket that it names and what it gave
 ack_world : (D L : Type 0) (here : Behind) (tickets : List Ticket) (at : ℕ) (found : Option Ticket) (told : Option (List (List Taken))) → slice_get tickets at ≡ found → AckGives here found told
     → (earlier acks : List Ticket) (sent : List Command) (composed : List (ℕ × ℕ))
-    → run (at_rest here.board (earlier ++ tickets) acks sent composed) (Acknowledges (length earlier + at) ∷ [])
-    ≡ at_rest here.board (earlier ++ tickets) (acks ++ acked_by {D = D} {L = L} tickets (Ack at) (Acked told)) sent composed
+    → run (at_rest here.progress (earlier ++ tickets) acks sent composed) (Acknowledges (length earlier + at) ∷ [])
+    ≡ at_rest here.progress (earlier ++ tickets) (acks ++ acked_by {D = D} {L = L} tickets (Ack at) (Acked told)) sent composed
 ack_world D L here tickets at None None is gives earlier acks sent composed =
-    ack_missing here.board (earlier ++ tickets) acks sent composed (length earlier + at) (behind earlier tickets at ∙ is)
-    ∙ ap (λ (l : List Ticket). at_rest here.board (earlier ++ tickets) l sent composed) (sym (append-nil acks))
+    ack_missing here.progress (earlier ++ tickets) acks sent composed (length earlier + at) (behind earlier tickets at ∙ is)
+    ∙ ap (λ (l : List Ticket). at_rest here.progress (earlier ++ tickets) l sent composed) (sym (append-nil acks))
 ack_world D L here tickets at None (Some told) is gives earlier acks sent composed = absurd (let no : ⊥ = cc in no)
 ack_world D L here tickets at (Some ticket) None is gives earlier acks sent composed =
-    ack_waits here.board (earlier ++ tickets) acks sent composed (length earlier + at) ticket (behind earlier tickets at ∙ is) gives
-    ∙ ap (λ (l : List Ticket). at_rest here.board (earlier ++ tickets) l sent composed) (sym (append-nil acks))
+    ack_waits here.progress (earlier ++ tickets) acks sent composed (length earlier + at) ticket (behind earlier tickets at ∙ is) gives
+    ∙ ap (λ (l : List Ticket). at_rest here.progress (earlier ++ tickets) l sent composed) (sym (append-nil acks))
 ack_world D L here tickets at (Some ticket) (Some told) is gives earlier acks sent composed =
-    ack_rests here.board (earlier ++ tickets) acks sent composed (length earlier + at) ticket (behind earlier tickets at ∙ is) gives.0
-    ∙ ap (λ (o : Option Ticket). at_rest here.board (earlier ++ tickets) (acks ++ option_to_list o) sent composed) (sym is)
+    ack_rests here.progress (earlier ++ tickets) acks sent composed (length earlier + at) ticket (behind earlier tickets at ∙ is) gives.0
+    ∙ ap (λ (o : Option Ticket). at_rest here.progress (earlier ++ tickets) (acks ++ option_to_list o) sent composed) (sym is)
 
 ack_found : (D L : Type 0) (here : Behind) (tickets out : List Ticket) (at : ℕ) (found : Option Ticket) (told : Option (List (List Taken))) → slice_get tickets at ≡ found → AckGives here found told → out ≡ tickets
     → IsFound {D = D} {L = L} out (Ack at) (Acked told)
@@ -149,8 +149,8 @@ module _ {D L : Type 0} where
     );
   }
 
-  ack_case : (here : Behind) (after : Progress Entry) (tickets out : List Ticket) (at : ℕ) (told : Option (List (List Taken))) → IsAllSettled here.board → after ≡ here.board → out ≡ tickets
-      → AckGives here (slice_get tickets at) told → Rests here.board after tickets out (Ack at) (Acked told)
+  ack_case : (here : Behind) (after : Progress Entry) (tickets out : List Ticket) (at : ℕ) (told : Option (List (List Taken))) → IsAllSettled here.progress → after ≡ here.progress → out ≡ tickets
+      → AckGives here (slice_get tickets at) told → Rests here.progress after tickets out (Ack at) (Acked told)
   ack_case here after tickets out at told rest b t gives = record {
     start = ap (λ (x : Progress Entry). x.start) b;
     settled = subst IsAllSettled (sym b) rest;
@@ -160,7 +160,7 @@ module _ {D L : Type 0} where
     goes = λ earlier a s c. (
       c,
       ack_world D L here tickets at (slice_get tickets at) told refl gives earlier a s c
-          ∙ same_rest here.board after (earlier ++ tickets) (earlier ++ out) (a ++ acked_by {D = D} {L = L} tickets (Ack at) (Acked told)) (a ++ acked_by {D = D} {L = L} tickets (Ack at) (Acked told)) s (s ++ []) c
+          ∙ same_rest here.progress after (earlier ++ tickets) (earlier ++ out) (a ++ acked_by {D = D} {L = L} tickets (Ack at) (Acked told)) (a ++ acked_by {D = D} {L = L} tickets (Ack at) (Acked told)) s (s ++ []) c
           (sym b) (ap (λ (l : List Ticket). earlier ++ l) (sym t)) refl (sym (append-nil s)),
     );
   }
@@ -240,25 +240,25 @@ module _ {D L : Type 0} {disk : Ghosts D} where
   call_rests : (cap : ℕ) (here : Between D disk) (call : Call) (reply : Answer D L) (after : Between D disk) → IsNumbered call → IsAllSettled here.board.progress → Gives cap here call reply after
       → Rests here.board.progress after.board.progress here.tickets after.tickets call reply
   call_rests cap here (Submit command) (Submitted at) after numbered rest gives =
-      submit_case here.board.progress after.board.progress here.tickets after.tickets command (Submitted at) numbered rest (ap (λ (b : Behind). b.board) gives.0)
+      submit_case here.board.progress after.board.progress here.tickets after.tickets command (Submitted at) numbered rest (ap (λ (b : Behind). b.progress) gives.0)
       (gives.2.2 ∙ ap (λ (o : Option Ticket). here.tickets ++ option_to_list o) gives.2.1)
   call_rests cap here (Submit command) (Refused refusal) after numbered rest gives =
       submit_case here.board.progress after.board.progress here.tickets after.tickets command (Refused refusal) numbered rest
       (ap (λ (b : Between D disk). b.board.progress) gives.0 ∙ ap (submitted_by (entry_of command) here.board.progress) (sym gives.1))
       (ap (λ (b : Between D disk). b.tickets) gives.0 ∙ (sym (append-nil here.tickets) ∙ ap (λ (o : Outcome). here.tickets ++ option_to_list (ticket_by here.board.progress command o)) (sym gives.1)))
   call_rests cap here Turn (Turned count) after numbered rest gives =
-      turn_case cap here.board.progress after.board.progress here.tickets after.tickets count rest gives.0 (ap (λ (b : Behind). b.board) gives.1) gives.2
+      turn_case cap here.board.progress after.board.progress here.tickets after.tickets count rest gives.0 (ap (λ (b : Behind). b.progress) gives.1) gives.2
   call_rests cap here (Ack at) (Acked told) after numbered rest gives =
       ack_case here.board after.board.progress here.tickets after.tickets at told rest (ap (λ (b : Between D disk). b.board.progress) gives.0) (ap (λ (b : Between D disk). b.tickets) gives.0) gives.1
   call_rests cap here (Milestone document revision) Put after numbered rest gives =
-      put_case here.board.progress after.board.progress here.tickets after.tickets document revision rest (ap (λ (b : Behind). b.board) gives.0) gives.1
+      put_case here.board.progress after.board.progress here.tickets after.tickets document revision rest (ap (λ (b : Behind). b.progress) gives.0) gives.1
   call_rests cap here (Milestone document revision) (Refused refusal) after numbered rest gives =
-      still here.board.progress after.board.progress here.tickets after.tickets (Milestone document revision) (Refused refusal) rest (ap (λ (b : Behind). b.board) gives.0) gives.1
+      still here.board.progress after.board.progress here.tickets after.tickets (Milestone document revision) (Refused refusal) rest (ap (λ (b : Behind). b.progress) gives.0) gives.1
       (λ t. refl) (λ t. tt) refl (λ n. refl)
   call_rests cap here Retire Retired after numbered rest gives =
-      still here.board.progress after.board.progress here.tickets after.tickets Retire Retired rest (ap (λ (b : Behind). b.board) gives.0) gives.1 (λ t. refl) (λ t. tt) refl (λ n. refl)
+      still here.board.progress after.board.progress here.tickets after.tickets Retire Retired rest (ap (λ (b : Behind). b.progress) gives.0) gives.1 (λ t. refl) (λ t. tt) refl (λ n. refl)
   call_rests cap here Retire (Refused refusal) after numbered rest gives =
-      still here.board.progress after.board.progress here.tickets after.tickets Retire (Refused refusal) rest (ap (λ (b : Behind). b.board) gives.0) gives.1 (λ t. refl) (λ t. tt) refl (λ n. refl)
+      still here.board.progress after.board.progress here.tickets after.tickets Retire (Refused refusal) rest (ap (λ (b : Behind). b.progress) gives.0) gives.1 (λ t. refl) (λ t. tt) refl (λ n. refl)
   call_rests cap here call reply after numbered rest gives = absurd gives
 
   answered_length : (cap : ℕ) (begin : Between D disk) (calls : List Call) (answers : List (Answer D L)) (here : Between D disk) → Answered cap begin calls answers here → length calls ≡ length answers

@@ -45,7 +45,7 @@ with_run told (first ∷ others) = told ++ (first ∷ others) ∷ []
 -- Turn: so many of the next commands are taken off and settled, and the board is told that they were published as one batch.
 abbrev pub turned : Board → ℕ → Board
 turned board count =
-    record board { board = settled_more (taken_more board.progress count) count; told = with_run board.told (takens (next_run board.progress count)) }
+    record board { progress = settled_more (taken_more board.progress count) count; told = with_run board.told (takens (next_run board.progress count)) }
 
 module _ {D : Type 0} {disk : Ghosts D} where
   -- the commands of a run are committed as one batch; of none the store is left unchanged
@@ -58,7 +58,7 @@ module _ {D : Type 0} {disk : Ghosts D} where
   abbrev pub IsUnsettled : ℕ → Board → Store D disk → Board → Store D disk → Type 0
   IsUnsettled cap board store board-after store-after =
       ((board-after ≡ board) × (store-after ≡ store))
-      ⊎ ((count : ℕ) × IsLongest cap (untaken board.progress) count × (1 ≤ count) × (board-after ≡ record board { board = taken_more board.progress count }))
+      ⊎ ((count : ℕ) × IsLongest cap (untaken board.progress) count × (1 ≤ count) × (board-after ≡ record board { progress = taken_more board.progress count }))
 
   -- What a call leaves that was begun and isn't answered: no ticket is given, and nothing more is settled. A submission leaves all
   -- unchanged, and an acknowledgement is always answered. A milestone leaves the board and the tickets, and where the store works still,
@@ -83,7 +83,7 @@ module _ {D L : Type 0} {disk : Ghosts D} where
   -- at most `cap` bytes.
   abbrev pub Gives : ℕ → Between D disk → Call → Answer D L → Between D disk → Type 0
   Gives cap here (Submit command) (Submitted at) after =
-      (after.board ≡ record here.board { board = submitted (entry_of command) here.board.progress command }) × (at ≡ length here.tickets)
+      (after.board ≡ record here.board { progress = submitted (entry_of command) here.board.progress command }) × (at ≡ length here.tickets)
       × ((ticket : Ticket) × (Some ticket ≡ ticket_of here.board.progress command) × (after.tickets ≡ here.tickets ++ ticket ∷ []))
       × (after.store ≡ here.store)
   Gives cap here (Submit command) (Refused refusal) after = (after ≡ here) × (answer here.board.progress.state command ≡ Refuses refusal)

@@ -84,7 +84,7 @@ returns-in_err-settle_on-in-Some-clause-goes g c =
     let written = (rw c.in-Some.is at c.in_ok-write.ensures.published).some in
     let same = same_batch _ c.in-Some.both.0.batch run written.batch held in
     let tells = written.token_is ∙ written.published ∙ ap (λ (l : List (List Taken)). told_of c.hold.new.self ++ l) held ∙ ap (λ (l : List (List Taken)). l ++ run ∷ []) c.hold.ensures.told in
-    absurd (false≢true (c.in_err-settle_on-in-Some.ensures.stranger
+    absurd (false≢true (c.in_err-settle_on-in-Some.ensures.settles
     (may_settle g.L.Life.start (standing c.args.board.now c.args.flusher.now) c.take.new.self.progress run c.in-Some.both.0.batch c.in-Some.both.1 c.requires.calm c.in_ok-run.ensures.taken.next
     (ap (λ (b : Board). b.progress) c.in_ok-run.ensures.taken.moves) some same tells)))
 
@@ -142,7 +142,7 @@ returns-in_ok-settle_on-in-Some-clause-settled g c =
     ∙ ap (λ (l : List (List Taken)). l ++ run ∷ []) (c.hold.ensures.told ∙ sym c.requires.calm.known) in
     let count : length run ≡ c.len-count.result = omega arith in
     turned_by c.args.board.now c.take.new.self c.settle_on.new.board (length run) run c.in-Some.both.1 c.in_ok-run.ensures.taken.moves
-    (c.in_ok-settle_on-in-Some.ensures.moves ∙ ap (λ (r : List Taken). record c.take.new.self { board = settled_more c.take.new.self.progress (length r); told = c.in-Some.both.1 }) same)
+    (c.in_ok-settle_on-in-Some.ensures.moves ∙ ap (λ (r : List Taken). record c.take.new.self { progress = settled_more c.take.new.self.progress (length r); told = c.in-Some.both.1 }) same)
     c.in_ok-run.ensures.taken.next some tells ∙ ap (turned c.args.board.now) count
 
 pub returns-in_ok-settle_on-in-Some-clause-state : goal.returns-in_ok-settle_on-in-Some-clause-state
@@ -173,7 +173,7 @@ returns-in_err-write-clause-refused g c =
     let some : 1 ≤ length run = omega arith in
     handed_on (λ r. ((r ≡ NoMemory) ⊎ (r ≡ Fault)) ⊎ IsTurnRefused cap c.args.board.now store r c.write.new.self) c.from_residual-in_err-write.result p.0 c.in_err-write.field-0.0 p.1 p.2
     (turn_refused cap c.args.board.now store c.hold.new.self c.write.new.self run c.in_err-write.field-0.0 c.hold.ensures.waiting c.hold.ensures.store c.in_ok-run.ensures.taken.next longest some
-    e.refused e.why)
+    e.refused e.writes.why)
 
 pub returns-in_err-settle_on-in-Some-clause-refused : goal.returns-in_err-settle_on-in-Some-clause-refused
 returns-in_err-settle_on-in-Some-clause-refused g c =
@@ -183,7 +183,7 @@ returns-in_err-settle_on-in-Some-clause-refused g c =
     let written = (rw c.in-Some.is at c.in_ok-write.ensures.published).some in
     let same = same_batch _ c.in-Some.both.0.batch run written.batch held in
     let tells = written.token_is ∙ written.published ∙ ap (λ (l : List (List Taken)). told_of c.hold.new.self ++ l) held ∙ ap (λ (l : List (List Taken)). l ++ run ∷ []) c.hold.ensures.told in
-    absurd (false≢true (c.in_err-settle_on-in-Some.ensures.stranger
+    absurd (false≢true (c.in_err-settle_on-in-Some.ensures.settles
     (may_settle g.L.Life.start (standing c.args.board.now c.args.flusher.now) c.take.new.self.progress run c.in-Some.both.0.batch c.in-Some.both.1 c.requires.calm c.in_ok-run.ensures.taken.next
     (ap (λ (b : Board). b.progress) c.in_ok-run.ensures.taken.moves) some same tells)))
 
@@ -220,7 +220,7 @@ returns-in_err-settle_on-in-Some-clause-unpublished g c =
     let written = (rw c.in-Some.is at c.in_ok-write.ensures.published).some in
     let same = same_batch _ c.in-Some.both.0.batch run written.batch held in
     let tells = written.token_is ∙ written.published ∙ ap (λ (l : List (List Taken)). told_of c.hold.new.self ++ l) held ∙ ap (λ (l : List (List Taken)). l ++ run ∷ []) c.hold.ensures.told in
-    absurd (false≢true (c.in_err-settle_on-in-Some.ensures.stranger
+    absurd (false≢true (c.in_err-settle_on-in-Some.ensures.settles
     (may_settle g.L.Life.start (standing c.args.board.now c.args.flusher.now) c.take.new.self.progress run c.in-Some.both.0.batch c.in-Some.both.1 c.requires.calm c.in_ok-run.ensures.taken.next
     (ap (λ (b : Board). b.progress) c.in_ok-run.ensures.taken.moves) some same tells)))
 
