@@ -8,6 +8,10 @@ use Rattle.flusher.specs.Batches.{IsBeginning}
 pub use Rattle.revision.proofs.CallerLemmas.{fold-append}
 pub use Rattle.recovery.proofs.CallerLemmas.{commands-append}
 
+-- a prefix makes no more commands
+pub no_more : (first more : List (List Taken)) → length (commands_of first) ≤ length (commands_of (first ++ more))
+no_more first more = omega (arith, ap length (commands-append first more), length-append (commands_of first) (commands_of more))
+
 pub fewer : (least less : ℕ) (start : State) (batches : List (List Taken)) (content : List ℕ) → less ≤ least → IsBeginning least start batches content → IsBeginning less start batches content
 fewer least less start batches content le is = record { first = is.first; more = is.more; whole = is.whole; enough = omega (arith, is.enough); found = is.found }
 

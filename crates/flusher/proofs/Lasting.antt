@@ -1,5 +1,5 @@
 -- What a flusher's type keeps of its moments, from call to call.
-use Rattle.std.proofs.Common.{◌≡◌, ◌≤◌, ℕ, false, Option, Some, None, List, [], ◌∷◌, ◌++◌, length, refl, sym, ◌∙◌, ap, subst, arith, append_assoc, append-nil, length-append}
+use Rattle.std.proofs.Common.{◌≡◌, ◌≤◌, ℕ, false, Option, Some, None, List, [], ◌∷◌, ◌++◌, length, refl, sym, ◌∙◌, ap, subst, arith, append_assoc, append-nil}
 use Rattle.std.specs.Prelude.{option_to_list}
 use Rattle.std.specs.Option.{option_map}
 use Rattle.std.proofs.Math.Logic.{∥∥₁_map}
@@ -16,14 +16,10 @@ use Rattle.view.specs.Published.{Published}
 use Rattle.hub.specs.Runs.{Run}
 use Rattle.flusher.specs.Batches.{IsBeginning}
 use Rattle.flusher.specs.Lasting.{given_in, IsLasting, EachLasts, Lasts, Surely}
-use Rattle.flusher.proofs.Beginnings.{commands-append, fewer, longer, these, within_write}
+use Rattle.flusher.proofs.Beginnings.{fewer, longer, no_more, these, within_write}
 
 same_le : (n : ℕ) → n ≤ n
 same_le n = omega arith
-
--- a prefix makes no more commands
-no_more : (first more : List (List Taken)) → length (commands_of first) ≤ length (commands_of (first ++ more))
-no_more first more = omega (arith, ap length (commands-append first more), length-append (commands_of first) (commands_of more))
 
 module _ {D : Type 0} {disk : Ghosts D} (start : State) (opened : Store D disk) where
   -- more batches come

@@ -4,4 +4,5 @@ pub mod Retirement
 pub mod Writes
 pub mod Fitting
 pub mod Lasting
+pub mod Keeping
 pub mod CallerLemmas

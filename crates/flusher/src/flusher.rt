@@ -246,8 +246,7 @@ impl<D: Disk, L: Life> Flusher<D, L> {
         requires { IsFullForGood refusal then.now.value self.now }
         ensures { result ≡ refusal }
     {
-        let _ = then;
-        Cause::full(self.publisher.log(), refusal)
+        Cause::full(self.publisher.log(), then, refusal)
     }
 
     /// How many bytes a batch may have: what fits a slot in which nothing stands yet.

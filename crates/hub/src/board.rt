@@ -21,7 +21,7 @@ use crate::run::{Run, copied, is_beginning, longest};
 use crate::seat::{PLACES, Seat, Tally, Ticket, count};
 use disk::Disk;
 use document::Document;
-use published::{Counts, Life, Order, Ordered, Told};
+use published::{Ledgers, Life, Order, Ordered, Told};
 use recovery::{Receipt, Store};
 use refusal::Refusal;
 use revision::{Batch, Command, Reply, State};
@@ -41,7 +41,7 @@ const MAX_KEPT_UNITS: u64 = 1 << 22;
 /// beside the first of them, since behind one that has none no further one is kept. Beside it stands `C`: the ledgers that a hub counts in
 /// what its writer takes off and settles, which the board of a hub has no more.
 #[derive(Drop)]
-pub struct Board<D, L: Life, C = Counts<L>> {
+pub struct Board<D, L: Life, C = Ledgers<L>> {
     progress: Progress,
     order: Order<L, ()>,
     counts: C,
@@ -94,7 +94,7 @@ impl<D, L: Life> Board<D, L> {
     {
         let _ = store;
         let (book, spare) = blank.open::<L>();
-        let (order, counts) = order.without_counts();
+        let (order, counts) = order.without_ledgers();
         Board {
             progress: Progress::new(alloc, state),
             order,
@@ -110,7 +110,7 @@ impl<D, L: Life> Board<D, L> {
     }
 
     // The board of a hub, and the ledgers that the hub counts in.
-    pub(crate) fn without_counts(self) -> (Board<D, L, ()>, Counts<L>)
+    pub(crate) fn without_ledgers(self) -> (Board<D, L, ()>, Ledgers<L>)
         ensures { result.0 ≡ self }
     {
         let Board {
@@ -171,7 +171,7 @@ impl<D, L: Life> Board<D, L> {
 
 impl<D, L: Life> Board<D, L, ()> {
     // The board of a hub that has ended, with the ledgers.
-    pub(crate) fn with_counts(self, counts: Counts<L>) -> Board<D, L>
+    pub(crate) fn with_ledgers(self, counts: Ledgers<L>) -> Board<D, L>
         ensures { result ≡ self }
     {
         let Board {

@@ -19,7 +19,7 @@ use crate::seat::{Seat, Ticket};
 use crate::submit_error::SubmitError;
 use crate::tokens::{Ended, Failed, Settled, Stopped};
 use crate::waiting::{Awaited, Turns, Woken, covered};
-use published::{Counts, Life, OfSettled, OfTaken, Ordered, Told};
+use published::{Ledgers, Life, OfSettled, OfTaken, Ordered, Told};
 use recovery::Receipt;
 use refusal::Refusal;
 use revision::Command;
@@ -85,7 +85,7 @@ impl<D, L: Life> Locked<D, L> {
         ensures ended { result.0.ended ≡ false }
         ensures writer { result.1 ≡ record { taken = board.progress.taken; settled = board.progress.settled } }
     {
-        let (board, counts) = board.without_counts();
+        let (board, counts) = board.without_ledgers();
         let ((mut takes, mut settles), (mut taken, mut settled)) = counts.parted();
         takes.add(&mut taken, board.taken() as u64);
         settles.add(&mut settled, board.settled() as u64);
@@ -121,7 +121,7 @@ impl<D, L: Life> Locked<D, L> {
         settles.audit(&mut settled);
         takes.sub(&mut taken, board.taken() as u64);
         settles.sub(&mut settled, board.settled() as u64);
-        board.with_counts(Counts::joined((takes, settles), (taken, settled)))
+        board.with_ledgers(Ledgers::joined((takes, settles), (taken, settled)))
     }
 
     // the board, to be read

@@ -1,7 +1,7 @@
 //! What a place is told.
-ghost use Rattle.std.specs.Prelude.{◌≡◌, ◌⊎◌, ◌↔◌, ◌≤◌, Some, None, Ok, length, OnErr, IsSome};
-ghost use mathlib.Core.List.{IsPrefix};
+ghost use Rattle.std.specs.Prelude.{◌≡◌, ◌↔◌, ◌≤◌, Some, None, Ok, length, OnErr, IsSome};
 ghost use Rattle.recovery.specs.Found.{commands_of};
+ghost use Rattle.published.specs.Batches.{IsTheLonger};
 ghost use Rattle.hub.specs.Moves.{StandsAt};
 
 use crate::seat::Ticket;
@@ -29,9 +29,7 @@ impl<D, L: Life> Place<D, L> {
 
     // tells it of what is published; what it was told is never taken back by something older
     pub(crate) fn tell(&mut self, told: &Told<D, L>)
-        ensures one { (self.new.told ≡ self.old.told) ⊎ (self.new.told ≡ told.now) }
-        ensures older { IsPrefix self.old.told self.new.told }
-        ensures newer { IsPrefix told.now self.new.told }
+        ensures longer { IsTheLonger self.old.told told.now self.new.told }
         ensures stopped { self.new.stopped ≡ self.old.stopped }
     {
         self.told.learn(told);

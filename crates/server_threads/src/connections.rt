@@ -286,7 +286,7 @@ fn first_failure(
 }
 
 // Takes connections until the listener ends, and gives the desks back once each session has ended. Refused where none got a thread, or where
-// not all are accounted for who came, which doesn't happen.
+// not all are accounted for who came: no clause says that all are; by the code they are.
 fn serve_all<
     'a,
     L: Life + Sync + Send,

@@ -1,11 +1,12 @@
 -- Pieces of a connection, as they are read.
-use Rattle.std.proofs.Common.{◌≡◌, ◌∙◌, ◌++◌, ◌≤◌, ◌<◌, ◌+◌, ℕ, List, [], ◌∷◌, Option, None, Result, Ok, Err, OnOk, OnErr, sym, ap, subst, arith, append_assoc, append-nil}
+use Rattle.std.proofs.Common.{◌≡◌, ◌∙◌, ◌++◌, ◌≤◌, ◌+◌, ◌*◌, ℕ, List, [], ◌∷◌, Option, None, Result, Ok, Err, OnOk, OnErr, sym, ap, subst, arith, append_assoc, append-nil}
 use Rattle.std.specs.Prelude.{IfOk}
 use Rattle.session.specs.Session.{Session}
 use Rattle.session.specs.Exchange.{Exchange}
 use Rattle.serving.specs.Turns.{beginning, InputPiece, GivesAll, EndsBehind, AnswersTaken, StopsAfter}
 use Rattle.serving.proofs.CallerLemmas.{answers_nothing, taken_so, stops_so}
 use Rattle.sockets.specs.declared.parting.Parting.{Parting}
+use Rattle.sockets.specs.declared.patience.Patience.{Patience}
 use Rattle.sockets.specs.declared.raw.HostReader.{HostReader}
 use Rattle.sockets.specs.declared.reads.ReadPieces.{ReadPieces}
 use Rattle.sockets.specs.Socket.{pieces_of, waits_of}
@@ -85,7 +86,9 @@ answered_nothing does d reader o =
     (beginning, record { pieces = []; taken = sym (append-nil (pieces_of (reads_of reader))); answers = answers_nothing does beginning d o })
 
 -- nothing is to be noted before the first read
-pub patient_yet : (pieces : ReadPieces) (reader : HostReader) → pieces.patience.waited ≡ 0 → pieces.count ≡ None
-    → (0 < pieces.patience.limit → 10 ≤ pieces.patience.limit) → IsPatient pieces reader
-patient_yet pieces reader none unread limit =
-    (subst (λ (c : Option ℕ). pieces.patience.waited + not_noted c ≤ waits_of (reads_of reader)) (sym unread) (omega (arith, none)), limit)
+pub patient_yet : (pieces : ReadPieces) (reader : HostReader) (seconds : ℕ) → pieces.patience ≡ record { limit = seconds * 10; waited = 0 } → pieces.count ≡ None
+    → IsPatient pieces reader
+patient_yet pieces reader seconds new unread = (
+  subst (λ (c : Option ℕ). pieces.patience.waited + not_noted c ≤ waits_of (reads_of reader)) (sym unread) (omega (arith, ap (λ (p : Patience). p.waited) new)),
+  λ some. omega (arith, some, ap (λ (p : Patience). p.limit) new),
+)

@@ -12,6 +12,7 @@ use crate::accepting::accept_all;
 use crate::attendance::{Attendance, Attended};
 use crate::begun::{Begun, end_all};
 use crate::door::Door;
+use crate::guests::Guests;
 use crate::hall::Hall;
 use crate::lobby::Lobby;
 use crate::raw::{Listen, Visits};
@@ -76,8 +77,8 @@ fn serve_counted<
     ensures attended { IfOk result (λ after. IsAttended (N.arrivals listener) (N.arrivals after.listener) after.attendance) }
     ensures refused { IfErr result (λ failed. failed.value ≡ (desks, listener)) }
 {
-    let mut door = Door::<G>::new(blank);
-    match Room::new(alloc, desks.len(), idle, &mut door) {
+    let (door, nobody) = Door::<G>::new(blank);
+    match Room::new(alloc, desks.len(), idle, nobody) {
         Ok(room) => {
             let Room {
                 hall,
@@ -119,15 +120,15 @@ impl<K: Desk + Drop, G: Ledger> Room<K, G> {
         alloc: Global,
         desks: usize,
         idle: u32,
-        door: &mut Door<G>,
+        nobody: Guests<G>,
     ) -> Result<Room<K, G>, AllocError>
+        requires { nobody.visits.list ≡ [] }
         ensures room { IfOk result (λ room. HasRoom desks room.begun × HasRoom desks room.attendants) }
         ensures seats { IfOk result (λ room. HasRoom desks room.seats.desks × HasRoom desks room.seats.visits) }
-        ensures same { (taken_in door.new ≡ taken_in door.old) × (accounted_for door.new ≡ accounted_for door.old) }
     {
         Ok(Room {
             hall: Hall::new(idle),
-            lobby: Lobby::new(alloc, desks, door.nobody())?,
+            lobby: Lobby::new(alloc, desks, nobody)?,
             begun: Vec::with_capacity(alloc, desks)?,
             attendants: Vec::with_capacity(alloc, desks)?,
             seats: Seats {

@@ -17,29 +17,23 @@ pub struct Door<G: Ledger> {
 impl<G: Ledger> Door<G> {
     ghost use Rattle.sockets.specs.Door.{accounted_for, taken_in};
 
-    /// Nobody came yet.
-    pub fn new(blank: Blank) -> Door<G>
+    /// A door by which nobody came yet, and guests of the same ledger: nobody yet.
+    pub fn new(blank: Blank) -> (Door<G>, Guests<G>)
         requires name { blank.name ≡ G.name }
         requires parts { blank.parts ≡ G.parts }
         requires all { blank.parts ≡ 18446744073709551615 }
-        ensures taken { taken_in result ≡ 0 }
-        ensures accounted { accounted_for result ≡ 0 }
+        ensures taken { taken_in result.0 ≡ 0 }
+        ensures accounted { accounted_for result.0 ≡ 0 }
+        ensures none { result.1.visits.list ≡ [] }
     {
-        let (book, share) = blank.open::<G>();
-        Door {
+        let (book, mut share) = blank.open::<G>();
+        let nobody = Guests::new(share.empty());
+        let door = Door {
             book,
             share,
             left: u64::MAX,
-        }
-    }
-
-    /// Nobody, of the same ledger.
-    pub fn nobody(&mut self) -> Guests<G>
-        ensures none { result.visits.list ≡ [] }
-        ensures taken { taken_in self.new ≡ taken_in self.old }
-        ensures accounted { accounted_for self.new ≡ accounted_for self.old }
-    {
-        Guests::new(self.share.empty())
+        };
+        (door, nobody)
     }
 
     /// Whether there is a part for one more, and one that is left then.

@@ -17,6 +17,7 @@ impl<G: Ledger> Part<G> {
     /// One part, that counts one.
     pub fn new(share: Share<G>) -> Part<G>
         requires { (share.parts ≡ 1) × (share.amount ≡ 1) }
+        ensures { result.share ≡ share }
     {
         Part { share }
     }

@@ -16,7 +16,9 @@ pub struct Hall {
 
 impl Hall {
     /// A hall whose peers may be idle for so many seconds, 0 for ever.
-    pub fn new(idle: u32) -> Hall {
+    pub fn new(idle: u32) -> Hall
+        ensures { result.idle ≡ idle }
+    {
         Hall {
             ended: OnceLock::new(),
             idle,
@@ -25,7 +27,9 @@ impl Hall {
     }
 
     /// For how many seconds a peer may be idle; 0 is for ever.
-    pub fn idle(&self) -> u32 {
+    pub fn idle(&self) -> u32
+        ensures { result ≡ self.now.idle }
+    {
         self.idle
     }
 

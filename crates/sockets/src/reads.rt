@@ -1,5 +1,5 @@
 //! The input of a connection, in pieces of what each read brings.
-ghost use Rattle.std.specs.Prelude.{◌≡◌, ◌≤◌, ◌<◌, ◌+◌, ◌++◌, ◌∷◌, ℕ, [], None, true, IfErr, OnOk, OnErr};
+ghost use Rattle.std.specs.Prelude.{◌≡◌, ◌≤◌, ◌+◌, ◌*◌, ◌++◌, ◌∷◌, ℕ, [], None, true, IfErr, OnOk, OnErr};
 ghost use Rattle.std.specs.Option.{ForSome};
 ghost use Rattle.serving.specs.Turns.{InputPiece};
 ghost use Rattle.sockets.specs.Socket.{pieces_of, waits_of};
@@ -35,7 +35,7 @@ impl<'h> ReadPieces<'h> {
     pub fn new(hall: &'h Hall) -> ReadPieces<'h>
         ensures hall { hall_of result ≡ hall.now.ended.id }
         ensures none { result.count ≡ None }
-        ensures patient { (result.patience.waited ≡ 0) × (0 < result.patience.limit → 10 ≤ result.patience.limit) }
+        ensures patience { result.patience ≡ record { limit = hall.now.idle * 10; waited = 0 } }
     {
         ReadPieces {
             hall,

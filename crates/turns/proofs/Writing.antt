@@ -22,7 +22,7 @@ use Rattle.flusher.specs.Batches.{IsBeginning}
 use Rattle.flusher.specs.Holding.{HasNoRoom, store_of, told_of, committed_of, waiting_of, opened_of, given_to}
 use Rattle.flusher.specs.Upkeep.{IsKeptUp, KeepsUp}
 use Rattle.flusher.specs.Writing.{HasPublished, IsUnpublished, IsWriteRefused, IsFullForGood}
-use Rattle.flusher.proofs.CallerLemmas.{commands-append, fewer, longer, within_write, no_error}
+use Rattle.flusher.proofs.CallerLemmas.{commands-append, fewer, longer, no_more, within_write, no_error}
 use Rattle.turns.specs.Writing.{WasAt, IsUpkeep, IsFullFor, IsOneMore, IsTurnFailed, told_count, Writes}
 use Rattle.turns.specs.Turning.{HasTurned}
 use Rattle.turns.specs.declared.turned.Turned.{Turned}
@@ -33,15 +33,11 @@ pub use Rattle.flusher.proofs.CallerLemmas.{memory_not_fault, same_refusal}
 abbrev Kept : State → State → List (List Taken) → List (List Taken) → Type 0
 Kept start state told committed = state ≡ fold start (commands_of (told ++ committed))
 
--- what is committed makes no fewer commands
-no_fewer : (told committed : List (List Taken)) → length (commands_of told) ≤ length (commands_of (told ++ committed))
-no_fewer told committed = omega (arith, ap length (commands-append told committed), length-append (commands_of told) (commands_of committed))
-
 -- a content that represents what is published and committed, or that with the batch that is held
 held_found : (start state : State) (told committed waiting : List (List Taken)) (content : List ℕ) → Kept start state told committed
     → IsWithOrWithout state (commands_of waiting) content → IsBeginning (length (commands_of told)) start (told ++ (committed ++ waiting)) content
 held_found start state told committed waiting content kept found =
-    within_write (length (commands_of told)) start state (told ++ (committed ++ waiting)) (told ++ committed) waiting content (sym (append_assoc told committed waiting)) (no_fewer told committed) kept found
+    within_write (length (commands_of told)) start state (told ++ (committed ++ waiting)) (told ++ committed) waiting content (sym (append_assoc told committed waiting)) (no_more told committed) kept found
 
 -- and these have all commands that are published and committed
 held_all : (start state : State) (told committed waiting : List (List Taken)) (content : List ℕ) → Kept start state told committed

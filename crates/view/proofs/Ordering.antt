@@ -1,5 +1,5 @@
 -- What is published and what is to be, in the log.
-use Rattle.std.proofs.Common.{◌≡◌, List, [], ◌∷◌, ◌++◌, refl, sym, subst, ◌∙◌, ap, append_assoc, append-nil}
+use Rattle.std.proofs.Common.{◌≡◌, ◌⊎◌, inl, inr, List, [], ◌∷◌, ◌++◌, refl, sym, subst, ◌∙◌, ap, append_assoc, append-nil}
 use mathlib.Core.List.{IsPrefix}
 use Rattle.disk.specs.declared.device.Disk.{Ghosts}
 use Rattle.revision.specs.Command.{Taken}
@@ -19,6 +19,13 @@ module _ {D L : Type 0} where
       (more ++ receipt.batch ∷ [], sym (append_assoc token more (receipt.batch ∷ [])) ∙ ap (λ (l : List (List Taken)). l ++ receipt.batch ∷ []) (is ∙ logged.0))
   within_log log told token (Logged receipt next) logged begins = subst (λ (l : List (List Taken)). IsPrefix token l) (logged.0 ∙ logged.1) begins
   within_log log told token (Queued receipt next) logged begins = subst (λ (l : List (List Taken)). IsPrefix token l) (logged.0 ∙ logged.1) begins
+
+  -- the log has what is published, or the batch that is to be as well
+  pub log_is : (log told : List (List Taken)) (stage : Stage D L) → IsLogged log told stage → (log ≡ told) ⊎ (log ≡ told ++ held_in stage)
+  log_is log told Idle logged = inl logged
+  log_is log told (Held receipt ordered made) logged = inl logged.0
+  log_is log told (Logged receipt next) logged = inr (logged.0 ∙ logged.1)
+  log_is log told (Queued receipt next) logged = inr (logged.0 ∙ logged.1)
 
   -- the moments of the log are a prefix of those of what is published and of the batch that is to be
   pub within_moments : (disk : Ghosts D) (moments some : List Moment) (stage : Stage D L) → IsPrefix some moments → IsPrefix some (moments_in disk moments stage)

@@ -17,7 +17,7 @@ pub returns-clause-ends : goal.returns-clause-ends
 returns-clause-ends g c =
     ended_so g.K.Desk.does c.new-pieces.result c.serve_pieces.new.pieces c.args.reader.now c.serve_pieces.new.input c.args.desk.now c.serve_pieces.new.desk
     (g.O.Output.contents c.args.output.now) (g.O.Output.contents c.serve_pieces.new.output) c.in-Ok.session c.in-Ok.ensures.ok c.args.hall.now.ended.id c.new-pieces.ensures.hall
-    (patient_yet c.new-pieces.result c.args.reader.now c.new-pieces.ensures.patient.0 c.new-pieces.ensures.none c.new-pieces.ensures.patient.1)
+    (patient_yet c.new-pieces.result c.args.reader.now c.args.hall.now.idle c.new-pieces.ensures.patience c.new-pieces.ensures.none)
     c.serve_pieces.result c.serve_pieces.new.session c.serve_pieces.ensures.answered
 
 pub returns-clause-stopped : goal.returns-clause-stopped

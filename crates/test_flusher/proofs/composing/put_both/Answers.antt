@@ -1,4 +1,4 @@
-use Rattle.test_flusher.proofs.Keeping.{keeps_all, keeps_on}
+use Rattle.flusher.proofs.CallerLemmas.{keeps_all, keeps_on}
 use Rattle.test_flusher.proofs.composing.put_both.Goals as goal
 
 pub returns-then-number-ne2 : goal.returns-then-number-ne2

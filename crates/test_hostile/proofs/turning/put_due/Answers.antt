@@ -1,4 +1,4 @@
-use Rattle.test_hostile.proofs.Keeping.{keeps_all, keeps_on}
+use Rattle.flusher.proofs.CallerLemmas.{keeps_all, keeps_on}
 use Rattle.test_hostile.proofs.turning.put_due.Goals as goal
 
 pub returns-in_default : goal.returns-in_default
