@@ -5,8 +5,8 @@ use Rattle.lives.specs.Driving.{AckGives}
 use Rattle.lives.proofs.Submitting.{acks}
 use Rattle.lives.proofs.driving.ack_one.Goals as goal
 
-pub returns-in-Ok-in-Some : goal.returns-in-Ok-in-Some
-returns-in-Ok-in-Some g c =
+pub returns-in-Ok : goal.returns-in-Ok
+returns-in-Ok g c =
     let is : slice_get c.args.tickets.now c.args.at ≡ Some c.in-Some.ticket.now = search rules in
-    subst (λ (t : Option Ticket). AckGives c.args.board.now t c.in-Ok-in-Some.told) (sym is)
-    (acks g.L.Life.start c.args.board.now c.in-Some.ticket.now c.in-Ok-in-Some.told c.requires.works c.in-Ok-in-Some.ensures.answer c.in-Ok-in-Some.ensures.stands)
+    subst (λ (t : Option Ticket). AckGives c.args.board.now t c.in-Ok.told) (sym is)
+    (acks g.L.Life.start c.args.board.now c.in-Some.ticket.now c.in-Ok.told c.requires.works c.in-Ok.ensures.answer c.in-Ok.ensures.stands)
