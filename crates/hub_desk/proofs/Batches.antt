@@ -5,7 +5,12 @@ use Rattle.revision.specs.Command.{Taken}
 use Rattle.revision.specs.State.{State, grows, grown, all_grow, fold}
 use Rattle.recovery.specs.Found.{commands_of}
 use Rattle.recovery.proofs.CallerLemmas.{commands-append}
+use Rattle.published.proofs.CallerLemmas.{prefix_self}
 use Rattle.session.specs.Shelf.{IsLater}
+
+-- what hasn't changed begins with what it was
+pub same_begins : (old new : List (List Taken)) → new ≡ old → IsPrefix old new
+same_begins old new is = subst (λ (l : List (List Taken)). IsPrefix old l) (sym is) (prefix_self old)
 
 -- the commands of what begins others begin theirs
 pub commands_begin : (old new : List (List Taken)) → IsPrefix old new → IsPrefix (commands_of old) (commands_of new)

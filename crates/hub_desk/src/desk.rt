@@ -338,6 +338,7 @@ impl<D, L: Life, R: Wait> Desk for HubDesk<'_, D, L, R> {
         }
     }
 
+    #[tactic(auto, using(crate::proofs::Batches::same_begins))]
     fn view<A, F: Drop + FnOnce(&State) -> A>(&mut self, read: F) -> Result<A, Refusal> {
         let answer = self.viewer.read(read)?;
         self.shown = self.viewer.told();

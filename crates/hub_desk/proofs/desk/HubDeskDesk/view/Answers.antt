@@ -16,7 +16,7 @@ returns-clause-shown g c =
     let answer = read.answer in
     let state = answer.0 in (
       Some state,
-      (answer.1, subst (λ (l : List (List Taken)). IsPrefix l c.read.new.self) (ap (λ (d : Desk). d.told) c.self.view_is) read.kept, c.told.ensures, ap (λ (d : Desk). d.counted) c.self.view_is, ap (λ (d : Desk). d.found) c.self.view_is),
+      (answer.1, subst (λ (l : List (List Taken)). IsPrefix l c.read.new.self) (ap (λ (d : Desk). d.told) c.self.view_is) read.seen.kept, c.told.ensures, ap (λ (d : Desk). d.counted) c.self.view_is, ap (λ (d : Desk). d.found) c.self.view_is),
       answer.2,
       λ x is. let same : state ≡ x = cc in
           sym same ∙ answer.1 ∙ ap (λ (l : List (List Taken)). fold g.L.Life.start (commands_of l)) (sym c.told.ensures),
@@ -29,4 +29,4 @@ returns-clause-later g c =
     let start = g.L.Life.start in
     subst (λ (l : List (List Taken)). IsLater (fold start (commands_of l)) (fold start (commands_of c.told.result))) (ap (λ (d : Desk). d.shown) c.self.view_is)
     (subst (λ (l : List (List Taken)). IsLater (fold start (commands_of c.self.inside.shown)) (fold start (commands_of l))) (sym c.told.ensures)
-    (later_batches start c.self.inside.shown c.read.new.self (prefix_trans c.self.inside.shown c.self.inside.viewer c.read.new.self c.self.invariant read.kept) read.grows))
+    (later_batches start c.self.inside.shown c.read.new.self (prefix_trans c.self.inside.shown c.self.inside.viewer c.read.new.self c.self.invariant read.seen.kept) read.seen.grows))
