@@ -15,8 +15,8 @@ use Rattle.atomic_table.proofs.shared.Shared.TheSendSync as table
 use Rattle.atomic_table.proofs.send_lease.SendLease.TheSendSync as lease
 use Rattle.disk.specs.declared.device.Disk as disk
 use Rattle.published.specs.declared.life.Life as life
-use Rattle.published.specs.contracts.batch.Batch as batch
-use Rattle.published.specs.contracts.batch.Moment as moment
+use Rattle.published.specs.contracts.batch.BatchItem as batch
+use Rattle.published.specs.contracts.batch.MomentItem as moment
 use Rattle.published.specs.contracts.log.Log as log
 use Rattle.milestone.specs.contracts.cells.Cells as cells
 use Rattle.milestone.specs.contracts.job.Job as job
