@@ -54,8 +54,8 @@ pub record IsSettledOn (old : Board) (batch : List Taken) (told : List (List Tak
   pub unchanged : OnErr answer (new ≡ old)
 
 -- The batch that comes next was settled, with all that was published up to it, and the writer counts it.
-pub record IsSettledNext (old : Writer) (batch : List Taken) (told given : List (List Taken)) (new : Writer) : Type 0 where
-  pub settled : given ≡ told
+pub record IsSettledNext (old : Writer) (batch : List Taken) (told token : List (List Taken)) (new : Writer) : Type 0 where
+  pub settled : token ≡ told
   pub counts : new ≡ counts_settled old (length batch)
 
 module _ {E : Type 0} where
