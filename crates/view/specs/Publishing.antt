@@ -1,5 +1,5 @@
 -- What a call that publishes answers, and what a reader has read and learned.
-use Rattle.std.specs.Prelude.{◌≡◌, ◌×◌, true, List, [], ◌∷◌, ◌++◌, Option, Result, IfOk, IfSome, IfNone, OnErr}
+use Rattle.std.specs.Prelude.{◌≡◌, true, List, [], ◌∷◌, ◌++◌, Option, Result, IfOk, IfSome, IfNone, OnErr}
 use mathlib.Core.List.{IsPrefix}
 use Rattle.revision.specs.Command.{Taken}
 use Rattle.revision.specs.State.{State, all_grow}
