@@ -6,10 +6,11 @@ use Rattle.hub.specs.Legal.{Board}
 use Rattle.hub.specs.Moves.{IsSubmittedTo}
 use Rattle.hub.specs.Waiting.{Locked}
 use Rattle.hub.proofs.Moving.{given_there, refused_at, as_answered, stopped_by}
+use Rattle.hub.proofs.locked.Locked.submit.Given as given
 use Rattle.hub.proofs.locked.Locked.submit.Goals as goal
 
 -- the board stays as its seat waits
-board_is : (g : goal.Over) (c : goal.After-awaiting g) → c.awaiting.new.self.board ≡ c.submit.new.self
+board_is : (g : given.Over) (c : goal.After-awaiting g) → c.awaiting.new.self.board ≡ c.submit.new.self
 board_is g c = ap (λ (k : Locked). k.board) c.awaiting.ensures.kept
 
 pub returns-in-Ok-clause-board : goal.returns-in-Ok-clause-board
