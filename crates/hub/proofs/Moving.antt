@@ -13,9 +13,10 @@ use Rattle.published.specs.Order.{IsLegal}
 use Rattle.hub.specs.declared.submit_error.SubmitError.{SubmitError}
 use Rattle.hub.specs.declared.submit_error.SubmitError.TheVariants.{Stopped, ByBoard}
 use Rattle.hub.specs.Found.{IsGivenAt, IsRefusedAfter}
-use Rattle.hub.specs.Given.{IsStopped, WasBy, WasGiven, as_board, refusal_of}
+use Rattle.hub.specs.Given.{GaveTicket, IsStopped, WasBy, WasGiven, as_board, refusal_of}
 use Rattle.hub.specs.Legal.{Board, IsOfRun}
 use Rattle.hub.specs.Moves.{ComesOff, IsSubmittedTo, IsTakenOff}
+use Rattle.hub.specs.Placed.{IsPlaced}
 use Rattle.hub.specs.Runs.{Run, Writer, counts_taken}
 use Rattle.hub.proofs.Fitting.{longest_fits}
 use Rattle.hub.proofs.Settling.{counts_stay}
@@ -31,9 +32,9 @@ counts_kept start old command (Err refusal) new is =
     (ap (λ (b : Board). b.progress.taken) is.unchanged, ap (λ (b : Board). b.progress.settled) is.unchanged)
 
 -- a ticket is of the order behind its command
-pub given_there : (L : Type 0) (start : State) (old : Board) (command : Command) (ticket : Ticket) (new : Board) → IsOfRun start old.progress
-    → IsSubmittedTo start old command (Ok ticket) new → IsGivenAt {L = L} start new.progress.order command (Ok ticket)
-given_there L start old command ticket new run is = ((old.progress, run, (is.answered is.works).ticket), is.placed)
+pub given_there : (start : State) (old : Board) (command : Command) (ticket : Ticket) (new : Board) → IsOfRun start old.progress
+    → IsSubmittedTo start old command (Ok ticket) new → GaveTicket start command ticket × IsPlaced start new.progress.order ticket
+given_there start old command ticket new run is = ((old.progress, run, (is.answered is.works).ticket), is.placed)
 
 -- a refusal is by the order that was found
 refused_there : (start : State) (old : Board) (command : Command) (refusal : Refusal) (new : Board) → IsOfRun start old.progress → old.failed ≡ false

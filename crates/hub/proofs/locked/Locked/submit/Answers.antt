@@ -1,9 +1,10 @@
 use Rattle.std.proofs.Common.{◌≡◌, sym, ap, subst, ◌∙◌}
 use Rattle.std.specs.Prelude.{Ok}
 use Rattle.world.specs.Progress.{Ticket}
-use Rattle.hub.specs.Found.{IsGivenAt}
+use Rattle.hub.specs.Given.{GaveTicket}
 use Rattle.hub.specs.Legal.{Board}
 use Rattle.hub.specs.Moves.{IsSubmittedTo}
+use Rattle.hub.specs.Placed.{IsPlaced}
 use Rattle.hub.specs.Waiting.{Locked}
 use Rattle.hub.proofs.Moving.{given_there, refused_at, as_answered, stopped_by}
 use Rattle.hub.proofs.locked.Locked.submit.Given as given
@@ -22,9 +23,9 @@ returns-in-Ok-clause-board g c ended =
 -- the order is that of the ticket
 pub returns-in-Ok-clause-there : goal.returns-in-Ok-clause-there
 returns-in-Ok-clause-there g c =
-    subst (λ (t : Ticket). IsGivenAt g.L.Life.start c.awaiting.new.self.board.progress.order c.args.command.now (Ok t)) (sym c.awaiting.ensures.same)
-    (subst (λ (b : Board). IsGivenAt g.L.Life.start b.progress.order c.args.command.now (Ok c.in-Ok.ticket)) (sym (board_is g c))
-    (given_there _ g.L.Life.start c.self.inside.board c.args.command.now c.in-Ok.ticket c.submit.new.self c.facts.ensures.run c.in-Ok.ensures.submitted))
+    subst (λ (t : Ticket). GaveTicket g.L.Life.start c.args.command.now t × IsPlaced g.L.Life.start c.awaiting.new.self.board.progress.order t) (sym c.awaiting.ensures.same)
+    (subst (λ (b : Board). GaveTicket g.L.Life.start c.args.command.now c.in-Ok.ticket × IsPlaced g.L.Life.start b.progress.order c.in-Ok.ticket) (sym (board_is g c))
+    (given_there g.L.Life.start c.self.inside.board c.args.command.now c.in-Ok.ticket c.submit.new.self c.facts.ensures.run c.in-Ok.ensures.submitted))
 
 -- it was refused
 pub returns-in-Err-clause-there : goal.returns-in-Err-clause-there
