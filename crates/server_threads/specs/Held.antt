@@ -36,7 +36,7 @@ module _ {D : Type 0} {disk : Ghosts D} where
 
 module _ {D L : Type 0} {disk : Ghosts D} where
   -- A server serves nobody yet: its flusher was just started over the store that it holds, no seat has counted anything, and none is tallied.
-  pub record IsReady (held : Store D disk) (flusher : Flusher D L disk) (seats : List ℕ) (tally : Tally) : Type 0 where
+  pub record IsNewServer (held : Store D disk) (flusher : Flusher D L disk) (seats : List ℕ) (tally : Tally) : Type 0 where
     pub store : held ≡ store_of flusher
     pub started : IsStarted flusher
     pub new : All (λ (seat : ℕ). seat ≡ 0) seats

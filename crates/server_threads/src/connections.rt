@@ -5,7 +5,7 @@ ghost use Rattle.recovery.specs.Open.{state_of, has_failed};
 ghost use Rattle.flusher.specs.Holding.{store_of};
 ghost use Rattle.server_threads.specs.Answers.{first_desk};
 ghost use Rattle.server_threads.specs.Connections.{EachHasServed};
-ghost use Rattle.server_threads.specs.Held.{HasHeld, IsNamed, IsReady};
+ghost use Rattle.server_threads.specs.Held.{HasHeld, IsNamed, IsNewServer};
 ghost use Rattle.server_threads.specs.Served.{WasServed};
 
 use crate::beside::hold_beside;
@@ -160,7 +160,7 @@ fn hold_at<
     listener: N,
     idle: u32,
 ) -> Result<(Ending<D, L>, Heard<N>), (Flusher<D, L>, N)>
-    requires ready { IsReady server.held.value server.flusher server.seats.items server.tally }
+    requires ready { IsNewServer server.held.value server.flusher server.seats.items server.tally }
     ensures held { IfOk result (λ both. HasHeld (EachHasServed L.start (visits_of both.1.attendance)) L.start server.flusher both.0.ordered
         both.0.published both.0.tally.counted both.0.written (store_of both.0.flusher)) }
     ensures attended { IfOk result (λ both. IsAttended (N.arrivals listener) (N.arrivals both.1.listener) both.1.attendance) }

@@ -2,7 +2,7 @@
 ghost use Rattle.std.specs.Prelude.{◌≡◌, ◌+◌, ◌↔◌, Ok, IfOk, IfSome, IfErr, OnOk, IsErrOf, length};
 ghost use Rattle.flusher.specs.Holding.{store_of};
 ghost use Rattle.turns.specs.Counting.{IsAt};
-ghost use Rattle.server_threads.specs.Held.{AreFirst, IsCounted, IsKept, IsNamed, IsReady, IsTallied};
+ghost use Rattle.server_threads.specs.Held.{AreFirst, IsCounted, IsKept, IsNamed, IsNewServer, IsTallied};
 ghost use Rattle.server_threads.specs.Served.{IsStarted};
 
 use crate::beside::Both;
@@ -87,7 +87,7 @@ pub(crate) fn begin<L: Life, R: Wait, D: Disk + Drop>(
 ) -> Result<(Hub<D, L>, Server<D, L>), Store<D>>
     requires named { IsNamed L.book L.name L.parts L.start named.opened named.blank.name named.blank.parts store }
     requires count { L.parts ≡ count + 1 }
-    ensures ready { IfOk result (λ begun. IsReady begun.1.held.value begun.1.flusher begun.1.seats.items begun.1.tally) }
+    ensures ready { IfOk result (λ begun. IsNewServer begun.1.held.value begun.1.flusher begun.1.seats.items begun.1.tally) }
     ensures store { IfOk result (λ begun. store_of begun.1.flusher ≡ store) }
     ensures all { IfOk result (λ begun. length begun.1.seats.items ≡ count) }
     ensures refused { IfErr result (λ back. back ≡ store) }
@@ -132,7 +132,7 @@ pub(crate) fn make_ready<'a, L: Life, R: Wait, D: Disk + Drop, W: Watch<D>>(
     shared: &Shared<'a, D, L, R, W>,
     server: Server<D, L>,
 ) -> Result<(Ready<HubDesk<'a, D, L, R>, D, L>, Tally<L>), Flusher<D, L>>
-    requires ready { IsReady server.held.value server.flusher server.seats.items server.tally }
+    requires ready { IsNewServer server.held.value server.flusher server.seats.items server.tally }
     ensures flusher { IfOk result (λ both. both.0.flusher ≡ server.flusher) }
     ensures held { IfOk result (λ both. both.0.held.value ≡ store_of both.0.flusher) }
     ensures started { IfOk result (λ both. IsStarted both.0.flusher) }

@@ -4,7 +4,7 @@ ghost use Rattle.recovery.specs.Open.{state_of, has_failed};
 ghost use Rattle.serving.specs.Serving.{beginning};
 ghost use Rattle.flusher.specs.Holding.{store_of};
 ghost use Rattle.server_threads.specs.Answers.{first_desk};
-ghost use Rattle.server_threads.specs.Held.{HasHeld, IsNamed, IsReady};
+ghost use Rattle.server_threads.specs.Held.{HasHeld, IsNamed, IsNewServer};
 ghost use Rattle.server_threads.specs.Served.{WasServed};
 ghost use Rattle.server_threads.specs.Streams.{ByOne, EndsAtHub, first_of};
 
@@ -140,7 +140,7 @@ fn hold_at<
     (Ending<D, L>, (OverStreams<I, O>, Result<(), ServingError>)),
     (Flusher<D, L>, OverStreams<I, O>),
 >
-    requires ready { IsReady server.held.value server.flusher server.seats.items server.tally }
+    requires ready { IsNewServer server.held.value server.flusher server.seats.items server.tally }
     requires one { length server.seats.items ≡ 1 }
     ensures held { IfOk result (λ all. HasHeld (ByOne (EndsAtHub all.1.1 L.start
         (I.remaining streams.input) (I.remaining all.1.0.input) (O.contents streams.output) (O.contents all.1.0.output)
