@@ -1,9 +1,14 @@
 -- Desks that came back from those who connected.
 use Rattle.std.proofs.Common.{◌≡◌, ◌∙◌, ◌+◌, ℕ, true, false, List, [], ◌∷◌, length, refl, sym, ap, subst, arith, Ok, true≢false}
-use Rattle.std.specs.Prelude.{All, Result, Err, OnOk, is_ok}
+use Rattle.std.specs.Prelude.{◌↔◌, All, Result, Err, OnOk, IsErrOf, is_ok}
+use Rattle.std.proofs.lemmas.Bool.{false≢true}
 use Rattle.std.proofs.lemmas.List.Elements.{All-head, All-tail}
+use Rattle.disk.specs.declared.device.Disk.{Ghosts}
 use Rattle.refusal.specs.declared.Refusal.{Refusal}
+use Rattle.refusal.specs.declared.Refusal.TheVariants.{NoMemory, Fault}
 use Rattle.revision.specs.State.{State}
+use Rattle.recovery.specs.declared.store.Store.{Store}
+use Rattle.recovery.specs.Open.{has_failed}
 use Rattle.hub_desk.specs.AtHub.{Desk, PassesAtHub}
 use Rattle.sockets.specs.declared.attendance.Attendance.{Attendance}
 use Rattle.sockets.specs.declared.raw.Visit.{Visit}
@@ -13,6 +18,8 @@ use Rattle.sockets.specs.Host.{are_unasked}
 use Rattle.sockets.specs.Socket.{Event}
 use Rattle.server_threads.specs.Answers.{first_desk}
 use Rattle.server_threads.specs.Connections.{EachServes, EachHasServed}
+use Rattle.server_threads.specs.Served.{WasServed}
+use Rattle.server_threads.proofs.Served.{none_served}
 
 -- desks that were asked for nothing before have served from their beginning on
 pub each_served : (start : State) (hall : ℕ) (desks : List Desk) (visits : List (List Visit)) (after : List Desk)
@@ -68,5 +75,20 @@ pub complete_by : {E : Type 0} (A B : Type 0) (answer : Result (Unit {0}) Refusa
 complete_by A B (Ok answer) served is complete = subst (λ r. OnOk r B) is.1 complete
 complete_by A B (Err refusal) served is complete = tt
 
-pub nobody_served : (start : State) (visits : List (List Visit)) → visits ≡ [] → EachHasServed start visits []
-nobody_served start visits none = subst (λ l. EachHasServed start l []) (sym none) (0, tt)
+module _ {D : Type 0} {disk : Ghosts D} where
+  -- nobody was served, out of memory
+  pub nobody_served : (start : State) (visits : List (List Visit)) (served : Result (Unit {0}) Refusal) (old new : Store D disk) → new ≡ old → visits ≡ []
+      → served ≡ Err NoMemory → WasServed (EachHasServed start visits) (is_ok served) old new
+  nobody_served start visits served old new same none ill =
+      let each : List Desk → Type 0 = EachHasServed start visits in
+      subst (λ (r : Result (Unit {0}) Refusal). WasServed each (is_ok r) old new) (sym ill)
+      (subst (λ (s : Store D disk). WasServed each false old s) (sym same)
+      (none_served each old (subst (λ (l : List (List Visit)). EachHasServed start l []) (sym none) (0, tt))))
+
+  -- and the store works as before
+  pub fails_not : (served : Result (Unit {0}) Refusal) (old new : Store D disk) → new ≡ old → served ≡ Err NoMemory
+      → has_failed old ≡ false → (has_failed new ≡ true ↔ IsErrOf served Fault)
+  fails_not served old new same ill works = (
+    λ failed. absurd (false≢true (sym works ∙ (ap has_failed (sym same) ∙ failed))),
+    λ is. absurd (let no = sym ill ∙ is in cc no),
+  )

@@ -2,9 +2,11 @@
 use Rattle.std.proofs.Common.{◌≡◌, ◌⊎◌, ◌↔◌, inl, inr, ℕ, true, false, List, [], ◌∷◌, refl, sym, ap, subst, arith, Ok}
 use Rattle.std.specs.Prelude.{Bool, Option, Result, set, length, Err, OnOk, OnErr, IfErr, IsErrOf, is_ok}
 use Rattle.std.specs.Io.KnownBytes.{IsAtEnd}
+use Rattle.disk.specs.declared.device.Disk.{Ghosts}
 use Rattle.refusal.specs.declared.Refusal.{Refusal}
 use Rattle.refusal.specs.declared.Refusal.TheVariants.{NoMemory, Fault}
 use Rattle.revision.specs.State.{State}
+use Rattle.recovery.specs.declared.store.Store.{Store}
 use Rattle.session.specs.Session.{Session}
 use Rattle.serving.specs.declared.failure.ServingError.{ServingError}
 use Rattle.serving.specs.declared.failure.ServingError.TheVariants.{Stream, Refused}
@@ -12,7 +14,9 @@ use Rattle.serving.specs.Serving.{Serves, StopsServing, beginning}
 use Rattle.hub_desk.specs.AtHub.{Desk, PassesAtHub}
 use Rattle.server_threads.specs.Answers.{first_desk}
 use Rattle.server_threads.specs.Streams.{ByOne, EndsAtHub, first_of}
+use Rattle.server_threads.specs.Served.{WasServed}
 use Rattle.server_threads.proofs.Answered.{answered_whole, stops_there}
+use Rattle.server_threads.proofs.Served.{one_unserved}
 
 -- a session that was served from its beginning on, at a desk at its own
 pub ends_at_hub : (start : State) (old new : Session) (desk desk' : Desk) (input input' output output' : Option (List ℕ)) (in_failed out_failed : Bool) (result : Result (Unit {0}) ServingError)
@@ -51,10 +55,13 @@ with_memory (Err failure) written only is = cc (only, is)
 pub by_one : (P Q : Desk → Type 0) → ((desk : Desk) → P desk → Q desk) → (desks : List Desk) → ByOne P desks → ByOne Q desks
 by_one P Q more desks one = record { last = one.last; one = one.one; session = more one.last one.session }
 
--- nothing was asked, out of memory
-pub nothing_asked : (start : State) (input output : Option (List ℕ)) (in_failed out_failed : Bool) (refusal : Refusal) → refusal ≡ NoMemory
-    → ByOne (EndsAtHub (Err (Refused refusal)) start input input output output in_failed out_failed) (first_desk ∷ [])
-nothing_asked start input output in_failed out_failed refusal memory = record { last = first_desk; one = refl; session = inr (memory, refl) }
+module _ {D : Type 0} {disk : Ghosts D} where
+  -- nothing was asked, out of memory
+  pub none_asked : (start : State) (input output : Option (List ℕ)) (in_failed out_failed : Bool) (store : Store D disk)
+      → WasServed (ByOne (EndsAtHub (Err (Refused NoMemory)) start input input output output in_failed out_failed)) false store store
+  none_asked start input output in_failed out_failed store =
+      one_unserved (ByOne (EndsAtHub (Err (Refused NoMemory)) start input input output output in_failed out_failed)) store
+      (record { last = first_desk; one = refl; session = inr (refl, refl) })
 
 -- a store that worked works where serving ended well
 works_ended : (old new : Bool) (written : Unit {0}) → (old ≡ false → (new ≡ true ↔ IsErrOf {T = Unit {0}} (Ok written) Fault)) → old ≡ false → new ≡ false

@@ -27,7 +27,7 @@ use Rattle.hub.specs.Legal.{IsOfRun}
 use Rattle.world.specs.Progress.{Progress}
 use Rattle.hub_desk.specs.AtHub.{Desk}
 use Rattle.server_threads.specs.Answers.{first_desk}
-use Rattle.server_threads.specs.Held.{HasHeld, IsCounted}
+use Rattle.server_threads.specs.Held.{HasHeld, IsCounted, IsKept, IsTallied}
 use Rattle.server_threads.specs.Served.{AreLasting, IsWritten, IsWhole, KeepsAnswers, WasServed, HasLived, IsStarted}
 use Rattle.server_threads.specs.Written.{HasWritten, HasRun, StartedOverWrites}
 use Rattle.server_threads.proofs.Answered.{found_whole, keeps_answers}
@@ -318,6 +318,21 @@ module _ {D L : Type 0} {disk : Ghosts D} where
           whole_by order old new is_written none.0 none.1 same
 
 module _ {D L : Type 0} {disk : Ghosts D} where
+  -- what sessions that were held left, beside a flusher that is the one that was just started
+  pub has_held : (Sessions : List Desk → Type 0) (start : State) (old begun last : Flusher D L disk) (desks : List Desk) (ordered : List Entry) (published counted : ℕ)
+      (answer written : Result (Unit {0}) Refusal) (new : Store D disk) → begun ≡ old → IsKept start begun → HasWritten start begun last answer → written ≡ answer
+      → IsTallied start desks last ordered published counted new → Sessions desks → HasHeld Sessions start old ordered published counted written new
+  has_held Sessions start old begun last desks ordered published counted answer written new same kept wrote told tallied sessions = record {
+    last = last;
+    desks = desks;
+    before = subst (λ (f : Flusher D L disk). IsKept start f) same kept;
+    wrote =
+        subst (λ (f : Flusher D L disk). HasWritten start f last written) same
+        (subst (λ (w : Result (Unit {0}) Refusal). HasWritten start begun last w) (sym told) wrote);
+    tallied = tallied;
+    sessions = sessions;
+  }
+
   -- the life of a flusher that was just started, of the sessions that were held beside it, and of the board that ended
   pub lived_from : (Sessions : List Desk → Type 0) (start : State) (old : Flusher D L disk) (ordered : List Entry) (published counted : ℕ)
       (written answer : Result (Unit {0}) Refusal) (new store : Store D disk) → store ≡ new → IsStarted old

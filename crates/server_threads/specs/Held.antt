@@ -1,4 +1,4 @@
--- What is left of sessions that have ended, and of the thread that wrote beside them.
+-- What a life begins with, and what is left of sessions that have ended, and of the thread that wrote beside them.
 use Rattle.std.specs.Prelude.{◌≡◌, ◌≤◌, ◌↔◌, ℕ, List, ◌++◌, length, All, sum_by, Result, Ok, OnOk, IsErrOf}
 use mathlib.Core.List.{IsPrefix}
 use Rattle.disk.specs.declared.device.Disk.{Ghosts}
@@ -13,11 +13,35 @@ use Rattle.world.specs.World.{Entry, takens}
 use Rattle.flusher.specs.declared.flusher.Flusher.{Flusher}
 use Rattle.flusher.specs.Holding.{LastsSince, store_of, told_of, committed_of, waiting_of, opened_of}
 use Rattle.flusher.specs.Lasting.{Surely}
-use Rattle.hub.specs.Legal.{IsOfRun}
+use Rattle.published.specs.Books.{Books}
+use Rattle.hub.specs.Legal.{IsOfRun, Tally}
 use Rattle.hub_desk.specs.AtHub.{Desk}
+use Rattle.server_threads.specs.Answers.{first_desk}
+use Rattle.server_threads.specs.Served.{IsStarted}
 use Rattle.server_threads.specs.Written.{HasWritten}
 
+-- so many desks at most, and one at least, each at its beginning
+pub record AreFirst (count : ℕ) (desks : List Desk) : Type 0 where
+  pub first : All (λ (desk : Desk). desk ≡ first_desk) desks
+  pub some : 1 ≤ length desks
+  pub few : length desks ≤ count
+
+module _ {D : Type 0} {disk : Ghosts D} where
+  -- A life is named by the logs and the blank ledger of one that hasn't begun, and by the state that its store holds.
+  pub record IsNamed (book : Books) (name parts : ℕ) (start : State) (opened : Books) (blank_name blank_parts : ℕ) (store : Store D disk) : Type 0 where
+    pub logs : opened ≡ book
+    pub ledger : blank_name ≡ name
+    pub seats : blank_parts ≡ parts
+    pub state : state_of store ≡ start
+
 module _ {D L : Type 0} {disk : Ghosts D} where
+  -- A server serves nobody yet: its flusher was just started over the store that it holds, no seat has counted anything, and none is tallied.
+  pub record IsNewServer (held : Store D disk) (flusher : Flusher D L disk) (seats : List ℕ) (tally : Tally) : Type 0 where
+    pub store : held ≡ store_of flusher
+    pub started : IsStarted flusher
+    pub new : All (λ (seat : ℕ). seat ≡ 0) seats
+    pub none : tally ≡ record { seats = 0; counted = 0 }
+
   -- what its type keeps of a flusher: its store holds what is published and committed
   pub record IsKept (start : State) (flusher : Flusher D L disk) : Type 0 where
     pub state : state_of (store_of flusher) ≡ fold start (commands_of (told_of flusher ++ committed_of flusher))

@@ -1,22 +1,19 @@
 //! Writing in a thread of its own, beside the sessions in this thread.
 ghost use Rattle.std.specs.Prelude.{◌≡◌, IfOk, IfErr};
 ghost use Rattle.flusher.specs.Holding.{store_of};
-ghost use Rattle.turns.specs.Counting.{IsAt};
 ghost use Rattle.server_threads.specs.Served.{IsStarted};
 ghost use Rattle.server_threads.specs.Written.{HasRun, HasWritten};
 
-use crate::life::Rights;
+use crate::life::{Ready, Rights};
 use crate::watch::Watch;
 use crate::writing::{Shared, Writing};
 use crate::written::{Written, WrittenBy};
 use disk::Disk;
 use flusher::Flusher;
-use hub::{Closer, Writer};
+use hub::Closer;
 use published::Life;
-use recovery::Store;
 use refusal::Refusal;
 use std::marker::PhantomData;
-use std::snapshot::Snapshot;
 use std::sync::Wait;
 use std::sync::atomic::{AtomicBool, Ordering};
 use std::thread::{self, Scope, Threads};
@@ -70,22 +67,24 @@ pub(crate) fn hold_beside<
     W: Watch<D>,
 >(
     shared: &Shared<'_, D, L, R, W>,
-    held: Snapshot<Store<D>>,
-    flusher: Flusher<D, L>,
-    writer: Writer<L>,
-    closer: Closer<L>,
+    ready: Ready<K, D, L>,
     sessions: S,
-    desks: Vec<K>,
     hold: F,
 ) -> Result<Both<A, K, D, L>, (Flusher<D, L>, S)>
-    requires held { held.value ≡ store_of flusher }
-    requires started { IsStarted flusher }
-    requires at { IsAt writer flusher }
-    requires callable { F.pre hold sessions desks }
-    ensures written { IfOk result (λ both. HasWritten L.start flusher both.flusher both.written) }
-    ensures held { IfOk result (λ both. F.post hold sessions desks both.held) }
-    ensures refused { IfErr result (λ back. (back.0 ≡ flusher) × (back.1 ≡ sessions)) }
+    requires held { ready.held.value ≡ store_of ready.flusher }
+    requires started { IsStarted ready.flusher }
+    requires callable { F.pre hold sessions ready.desks }
+    ensures written { IfOk result (λ both. HasWritten L.start ready.flusher both.flusher both.written) }
+    ensures held { IfOk result (λ both. F.post hold sessions ready.desks both.held) }
+    ensures refused { IfErr result (λ back. (back.0 ≡ ready.flusher) × (back.1 ≡ sessions)) }
 {
+    let Ready {
+        held,
+        flusher,
+        writer,
+        closer,
+        desks,
+    } = ready;
     let written_by = WrittenBy {
         store: held,
         of: PhantomData,

@@ -1,31 +1,28 @@
 //! A store over connections.
-ghost use Rattle.std.specs.Prelude.{◌≡◌, ◌+◌, ◌↔◌, true, false, Ok, Err, All, IfOk, IfErr, OnOk, IsErrOf, is_ok, length};
+ghost use Rattle.std.specs.Prelude.{◌≡◌, ◌↔◌, true, false, Ok, Err, All, IfOk, IfErr, OnOk, IsErrOf, is_ok, length};
 ghost use Rattle.sockets.specs.Attendance.{visits_of, IsAttended, IsOfNobody};
 ghost use Rattle.recovery.specs.Open.{state_of, has_failed};
 ghost use Rattle.flusher.specs.Holding.{store_of};
 ghost use Rattle.server_threads.specs.Answers.{first_desk};
 ghost use Rattle.server_threads.specs.Connections.{EachHasServed};
-ghost use Rattle.server_threads.specs.Held.{HasHeld};
-ghost use Rattle.server_threads.specs.Served.{IsStarted, WasServed};
+ghost use Rattle.server_threads.specs.Held.{HasHeld, IsNamed, IsNewServer};
+ghost use Rattle.server_threads.specs.Served.{WasServed};
 
-use crate::beside::{Both, hold_beside};
-use crate::desks::desks_at;
-use crate::life::{Ending, Server, begin, end, tally_all};
+use crate::beside::hold_beside;
+use crate::life::{Ending, Named, Server, begin, end, make_ready, tally_all};
 use crate::seated::Seated;
 use crate::watch::Watch;
 use crate::writing::Shared;
 use disk::Disk;
 use flusher::Flusher;
-use hub::Hub;
 use hub_desk::HubDesk;
-use published::{Life, Opened};
+use published::Life;
 use recovery::Store;
 use refusal::Refusal;
 use sockets::{Attendance, Attended, Listen, serve_desks};
 use std::alloc::{AllocError, Global};
 use std::marker::Brand;
 use std::sync::Wait;
-use std::sync::ledger::Blank;
 use std::thread::Threads;
 use std::time::Clock;
 
@@ -68,30 +65,22 @@ pub fn serve_on<R: Threads + Wait + Clock + Sync, N: Listen, D: Disk + Send + Dr
     // It fails only with the device.
     ensures fails { has_failed store ≡ false → (has_failed result.store ≡ true ↔ IsErrOf result.served Refusal.Fault) }
 {
-    let Some(opened) = Opened::new() else {
-        return unserved(alloc, store, listener, Refusal::NoMemory);
+    let Some(named) = Named::new(SEATS) else {
+        return unserved(alloc, store, listener);
     };
-    let blank = Blank::new(u64::from(SEATS) + 1);
-    serve_run::<Brand, R, N, D, W>(
-        rt, alloc, store, opened, blank, listener, every, idle, watch,
-    )
+    serve_run::<Brand, R, N, D, W>(rt, alloc, store, named, listener, every, idle, watch)
 }
 
-// Nobody was served, for this reason.
-fn unserved<N, D: Disk>(
-    alloc: Global,
-    store: Store<D>,
-    listener: N,
-    refusal: Refusal,
-) -> Connected<N, D>
-    ensures back { (result.store ≡ store) × (result.listener ≡ listener) × (result.served ≡ Err refusal) }
+// Nobody was served, out of memory.
+fn unserved<N, D: Disk>(alloc: Global, store: Store<D>, listener: N) -> Connected<N, D>
+    ensures back { (result.store ≡ store) × (result.listener ≡ listener) × (result.served ≡ Err Refusal.NoMemory) }
     ensures nobody { IsOfNobody result.attendance }
 {
     Connected {
         store,
         listener,
         attendance: Attendance::of_nobody(alloc),
-        served: Err(refusal),
+        served: Err(Refusal::NoMemory),
     }
 }
 
@@ -106,57 +95,31 @@ fn serve_run<
     rt: &R,
     alloc: Global,
     store: Store<D>,
-    opened: Opened,
-    blank: Blank,
+    named: Named,
     listener: N,
     every: u32,
     idle: u32,
     watch: &W,
 ) -> Connected<N, D>
-    requires book { opened ≡ L.book }
-    requires name { blank.name ≡ L.name }
-    requires parts { blank.parts ≡ L.parts }
-    requires seats { blank.parts ≡ 65 }
-    requires start { state_of store ≡ L.start }
+    requires named { IsNamed L.book L.name L.parts L.start named.opened named.blank.name named.blank.parts store }
+    requires seats { L.parts ≡ 65 }
     ensures served { WasServed (EachHasServed (state_of store) (visits_of result.attendance)) (is_ok result.served) store result.store }
     ensures attended { IsAttended (N.arrivals listener) (N.arrivals result.listener) result.attendance }
     ensures complete { OnOk result.served (result.attendance.is_complete ≡ true) }
     ensures fails { has_failed store ≡ false → (has_failed result.store ≡ true ↔ IsErrOf result.served Refusal.Fault) }
 {
-    match begin::<L, R, D>(rt, alloc, store, opened, blank, SEATS) {
-        Ok((hub, server)) => serve_from(rt, alloc, hub, server, listener, every, idle, watch),
-        Err((store, refusal)) => unserved(alloc, store, listener, refusal),
-    }
-}
-
-// Serves from a server's beginning to its end.
-fn serve_from<
-    L: Life + Sync + Send,
-    R: Threads + Wait + Clock + Sync,
-    N: Listen,
-    D: Disk + Send + Drop,
-    W: Watch<D>,
->(
-    rt: &R,
-    alloc: Global,
-    hub: Hub<D, L>,
-    server: Server<D, L>,
-    listener: N,
-    every: u32,
-    idle: u32,
-    watch: &W,
-) -> Connected<N, D>
-    requires store { server.held.value ≡ store_of server.flusher }
-    requires started { IsStarted server.flusher }
-    requires new { All (λ seat. seat ≡ 0) server.seats.items }
-    requires parts { length server.seats.items + 1 ≡ L.parts }
-    requires none { server.tally ≡ record { seats = 0; counted = 0 } }
-    ensures served { WasServed (EachHasServed L.start (visits_of result.attendance)) (is_ok result.served) (store_of server.flusher) result.store }
-    ensures attended { IsAttended (N.arrivals listener) (N.arrivals result.listener) result.attendance }
-    ensures complete { OnOk result.served (result.attendance.is_complete ≡ true) }
-    ensures fails { has_failed (store_of server.flusher) ≡ false → (has_failed result.store ≡ true ↔ IsErrOf result.served Refusal.Fault) }
-{
-    match hold_at(rt, alloc, &hub, server, listener, every, idle, watch) {
+    let (hub, server) = match begin::<L, R, D>(rt, alloc, store, named, SEATS) {
+        Ok(begun) => begun,
+        Err(store) => return unserved(alloc, store, listener),
+    };
+    let shared = Shared {
+        rt,
+        alloc,
+        hub: &hub,
+        every,
+        watch,
+    };
+    match hold_at(&shared, server, listener, idle) {
         Ok((past, heard)) => {
             let (store, written) = end(rt, hub, past);
             let Heard {
@@ -171,9 +134,7 @@ fn serve_from<
                 served: first_failure(written, answer),
             }
         }
-        Err((flusher, listener)) => {
-            unserved(alloc, flusher.end(rt), listener, Refusal::NoMemory)
-        }
+        Err((flusher, listener)) => unserved(alloc, flusher.end(rt), listener),
     }
 }
 
@@ -194,19 +155,12 @@ fn hold_at<
     D: Disk + Send + Drop,
     W: Watch<D>,
 >(
-    rt: &R,
-    alloc: Global,
-    hub: &Hub<D, L>,
+    shared: &Shared<'_, D, L, R, W>,
     server: Server<D, L>,
     listener: N,
-    every: u32,
     idle: u32,
-    watch: &W,
 ) -> Result<(Ending<D, L>, Heard<N>), (Flusher<D, L>, N)>
-    requires store { server.held.value ≡ store_of server.flusher }
-    requires started { IsStarted server.flusher }
-    requires new { All (λ seat. seat ≡ 0) server.seats.items }
-    requires none { server.tally ≡ record { seats = 0; counted = 0 } }
+    requires ready { IsNewServer server.held.value server.flusher server.seats.items server.tally }
     ensures held { IfOk result (λ both. HasHeld (EachHasServed L.start (visits_of both.1.attendance)) L.start server.flusher both.0.ordered
         both.0.published both.0.tally.counted both.0.written (store_of both.0.flusher)) }
     ensures attended { IfOk result (λ both. IsAttended (N.arrivals listener) (N.arrivals both.1.listener) both.1.attendance) }
@@ -214,42 +168,17 @@ fn hold_at<
     ensures seats { IfOk result (λ both. both.0.tally.seats ≡ length server.seats.items) }
     ensures refused { IfErr result (λ back. (back.0 ≡ server.flusher) × (back.1 ≡ listener)) }
 {
-    let Server {
-        held,
-        flusher,
-        writer,
-        closer,
-        seats,
-        tally,
-    } = server;
-    let mut tally = tally;
-    let Ok(desks) = desks_at(
-        rt,
-        alloc,
-        &flusher,
-        hub,
-        watch.counters(),
-        seats,
-        &mut tally,
-    ) else {
-        return Err((flusher, listener));
+    let (ready, tally) = match make_ready(shared, server) {
+        Ok(both) => both,
+        Err(flusher) => return Err((flusher, listener)),
     };
-    let shared = Shared {
-        rt,
-        alloc,
-        hub,
-        every,
-        watch,
-    };
-    flusher.kept();
+    let rt = shared.rt;
+    let alloc = shared.alloc;
+    let watch = shared.watch;
     match hold_beside(
-        &shared,
-        held,
-        flusher,
-        writer,
-        closer,
+        shared,
+        ready,
         listener,
-        desks,
         |listener, desks| -> (Heard<N>, Vec<HubDesk<'_, D, L, R>>)
             requires { All (λ desk. desk ≡ first_desk) desks.items }
             ensures served { EachHasServed L.start (visits_of result.0.attendance) result.1.items }
@@ -258,17 +187,7 @@ fn hold_at<
             ensures as_many { length result.1.items ≡ length desks.entry.items }
         { serve_all(rt, alloc, desks, listener, idle, watch) },
     ) {
-        Ok(
-            Both {
-                flusher,
-                written,
-                rights,
-                held,
-            },
-        ) => {
-            let (heard, desks) = held;
-            Ok((tally_all(flusher, written, rights, desks, tally), heard))
-        }
+        Ok(both) => Ok(tally_all(both, tally)),
         Err(back) => Err(back),
     }
 }

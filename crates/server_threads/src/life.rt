@@ -1,12 +1,14 @@
 //! The life of a server: how it begins, and how it ends.
-ghost use Rattle.std.specs.Prelude.{◌≡◌, ◌+◌, ◌↔◌, Ok, All, IfOk, IfErr, OnOk, IsErrOf, length};
-ghost use Rattle.recovery.specs.Open.{state_of};
+ghost use Rattle.std.specs.Prelude.{◌≡◌, ◌+◌, ◌↔◌, Ok, IfOk, IfSome, IfErr, OnOk, IsErrOf, length};
 ghost use Rattle.flusher.specs.Holding.{store_of};
 ghost use Rattle.turns.specs.Counting.{IsAt};
-ghost use Rattle.server_threads.specs.Held.{IsTallied, IsCounted};
+ghost use Rattle.server_threads.specs.Held.{AreFirst, IsCounted, IsKept, IsNamed, IsNewServer, IsTallied};
 ghost use Rattle.server_threads.specs.Served.{IsStarted};
 
-use crate::desks::{seats_of, tally_desks};
+use crate::beside::Both;
+use crate::desks::{desks_at, seats_of, tally_desks};
+use crate::watch::Watch;
+use crate::writing::Shared;
 use disk::Disk;
 use flusher::{Flusher, StartError, start};
 use hub::{Closer, Hub, Seat, Tally, Writer};
@@ -19,6 +21,23 @@ use std::snapshot::Snapshot;
 use std::sync::Wait;
 use std::sync::ledger::Blank;
 
+/// What names a life: its empty logs, and the blank ledger of its seats.
+pub(crate) struct Named {
+    pub(crate) opened: Opened,
+    pub(crate) blank: Blank,
+}
+
+impl Named {
+    /// The name of a life with so many seats to give. `None` where there is no room for its logs.
+    pub(crate) fn new(count: u32) -> Option<Named>
+        ensures { IfSome result (λ named. named.blank.parts ≡ count + 1) }
+    {
+        let opened = Opened::new()?;
+        let blank = Blank::new(u64::from(count) + 1);
+        Some(Named { opened, blank })
+    }
+}
+
 /// What a server has beside its hub before it serves anybody: its store, the rights to write what the hub orders and to end it, and all seats
 /// that there are to give, with their tally.
 pub(crate) struct Server<D: Disk, L: Life> {
@@ -29,6 +48,25 @@ pub(crate) struct Server<D: Disk, L: Life> {
     pub(crate) seats: Vec<Seat<L>>,
     pub(crate) tally: Tally<L>,
     ghost at: { IsAt writer flusher },
+}
+
+impl<D: Disk, L: Life> Server<D, L> {
+    ghost use Rattle.std.specs.Prelude.{◌≡◌};
+
+    /// The flusher, where nobody is served.
+    pub(crate) fn into_flusher(self) -> Flusher<D, L>
+        ensures { result ≡ self.flusher }
+    {
+        let Server {
+            held: _,
+            flusher,
+            writer: _writer,
+            closer: _closer,
+            seats: _seats,
+            tally: _tally,
+        } = self;
+        flusher
+    }
 }
 
 /// The rights to a hub, by which it gives its board back.
@@ -44,32 +82,27 @@ pub(crate) fn begin<L: Life, R: Wait, D: Disk + Drop>(
     rt: &R,
     alloc: Global,
     store: Store<D>,
-    opened: Opened,
-    blank: Blank,
+    named: Named,
     count: u32,
-) -> Result<(Hub<D, L>, Server<D, L>), (Store<D>, Refusal)>
-    requires book { opened ≡ L.book }
-    requires name { blank.name ≡ L.name }
-    requires parts { blank.parts ≡ L.parts }
-    requires count { blank.parts ≡ count + 1 }
-    requires start { state_of store ≡ L.start }
-    ensures store { IfOk result (λ begun. (begun.1.held.value ≡ store) × (store_of begun.1.flusher ≡ store)) }
-    ensures started { IfOk result (λ begun. IsStarted begun.1.flusher) }
-    ensures new { IfOk result (λ begun. All (λ seat. seat ≡ 0) begun.1.seats.items) }
+) -> Result<(Hub<D, L>, Server<D, L>), Store<D>>
+    requires named { IsNamed L.book L.name L.parts L.start named.opened named.blank.name named.blank.parts store }
+    requires count { L.parts ≡ count + 1 }
+    ensures ready { IfOk result (λ begun. IsNewServer begun.1.held.value begun.1.flusher begun.1.seats.items begun.1.tally) }
+    ensures store { IfOk result (λ begun. store_of begun.1.flusher ≡ store) }
     ensures all { IfOk result (λ begun. length begun.1.seats.items ≡ count) }
-    ensures none { IfOk result (λ begun. begun.1.tally ≡ record { seats = 0; counted = 0 }) }
-    ensures refused { IfErr result (λ back. (back.0 ≡ store) × (back.1 ≡ Refusal.NoMemory)) }
+    ensures refused { IfErr result (λ back. back ≡ store) }
 {
+    let Named { opened, blank } = named;
     let held = Snapshot::of(&store);
     let (flusher, board) = match start::<D, L>(alloc, store, opened, blank, count) {
         Ok(started) => started,
-        Err(StartError { store, refusal }) => return Err((store, refusal)),
+        Err(StartError { store, refusal: _ }) => return Err(store),
     };
     let mut board = board;
     let tally = board.tally();
     let seats = match seats_of(alloc, &mut board, count) {
         Ok(seats) => seats,
-        Err(no_memory) => return Err((flusher.end(rt), no_memory.into())),
+        Err(_) => return Err(flusher.end(rt)),
     };
     let (hub, writer, closer) = Hub::new(board);
     let server = Server {
@@ -83,6 +116,64 @@ pub(crate) fn begin<L: Life, R: Wait, D: Disk + Drop>(
     Ok((hub, server))
 }
 
+/// A server that sessions can be held at: its desks are there.
+pub(crate) struct Ready<K, D: Disk, L: Life> {
+    pub(crate) held: Snapshot<Store<D>>,
+    pub(crate) flusher: Flusher<D, L>,
+    pub(crate) writer: Writer<L>,
+    pub(crate) closer: Closer<L>,
+    pub(crate) desks: Vec<K>,
+    ghost at: { IsAt writer flusher },
+}
+
+/// Makes a server's desks, and tallies the seats that have none. Refused where there is no memory, or no viewer at all; the flusher is unchanged
+/// then.
+pub(crate) fn make_ready<'a, L: Life, R: Wait, D: Disk + Drop, W: Watch<D>>(
+    shared: &Shared<'a, D, L, R, W>,
+    server: Server<D, L>,
+) -> Result<(Ready<HubDesk<'a, D, L, R>, D, L>, Tally<L>), Flusher<D, L>>
+    requires ready { IsNewServer server.held.value server.flusher server.seats.items server.tally }
+    ensures flusher { IfOk result (λ both. both.0.flusher ≡ server.flusher) }
+    ensures held { IfOk result (λ both. both.0.held.value ≡ store_of both.0.flusher) }
+    ensures started { IfOk result (λ both. IsStarted both.0.flusher) }
+    ensures kept { IfOk result (λ both. IsKept L.start both.0.flusher) }
+    ensures desks { IfOk result (λ both. AreFirst (length server.seats.items) both.0.desks.items) }
+    ensures all { IfOk result (λ both. length both.0.desks.items + both.1.seats ≡ length server.seats.items) }
+    ensures none { IfOk result (λ both. both.1.counted ≡ 0) }
+    ensures refused { IfErr result (λ back. back ≡ server.flusher) }
+{
+    let Server {
+        held,
+        flusher,
+        writer,
+        closer,
+        seats,
+        tally,
+    } = server;
+    let mut tally = tally;
+    let counters = shared.watch.counters();
+    let Ok(desks) = desks_at(
+        shared.rt,
+        shared.alloc,
+        &flusher,
+        shared.hub,
+        counters,
+        seats,
+        &mut tally,
+    ) else {
+        return Err(flusher);
+    };
+    flusher.kept();
+    let ready = Ready {
+        held,
+        flusher,
+        writer,
+        closer,
+        desks,
+    };
+    Ok((ready, tally))
+}
+
 /// What is left where all sessions have ended: the flusher and how its writing ended, the rights to the hub, a token of the order, how many
 /// commands are published, and the tally of the seats.
 pub(crate) struct Ending<D: Disk, L: Life> {
@@ -94,19 +185,25 @@ pub(crate) struct Ending<D: Disk, L: Life> {
     pub(crate) tally: Tally<L>,
 }
 
-/// Tallies the seats of desks that are used no longer. It takes no memory.
-pub(crate) fn tally_all<L: Life, R: Wait, D: Disk>(
-    flusher: Flusher<D, L>,
-    written: Result<(), Refusal>,
-    rights: Rights<L>,
-    desks: Vec<HubDesk<'_, D, L, R>>,
+/// Tallies the seats of desks that are used no longer, and gives what the sessions answered. It takes no memory.
+pub(crate) fn tally_all<A, L: Life, R: Wait, D: Disk>(
+    both: Both<A, HubDesk<'_, D, L, R>, D, L>,
     tally: Tally<L>,
-) -> Ending<D, L>
+) -> (Ending<D, L>, A)
     requires none { tally.counted ≡ 0 }
-    ensures tallied { IsTallied L.start desks.entry.items flusher result.ordered result.published result.tally.counted (store_of result.flusher) }
-    ensures written { result.written ≡ written }
-    ensures seats { result.tally.seats ≡ tally.seats + length desks.entry.items }
+    ensures tallied { IsTallied L.start both.entry.held.1.items both.entry.flusher result.0.ordered result.0.published result.0.tally.counted
+        (store_of result.0.flusher) }
+    ensures written { result.0.written ≡ both.entry.written }
+    ensures seats { result.0.tally.seats ≡ tally.seats + length both.entry.held.1.items }
+    ensures answer { result.1 ≡ both.entry.held.0 }
 {
+    let Both {
+        flusher,
+        written,
+        rights,
+        held,
+    } = both;
+    let (answer, desks) = held;
     let mut flusher = flusher;
     let mut tally = tally;
     flusher.kept();
@@ -115,14 +212,15 @@ pub(crate) fn tally_all<L: Life, R: Wait, D: Disk>(
     let mut ordered = flusher.ordered();
     let published = flusher.told().len();
     tally_desks(&mut flusher, desks, &mut tally, &mut ordered);
-    Ending {
+    let past = Ending {
         flusher,
         written,
         rights,
         ordered,
         published,
         tally,
-    }
+    };
+    (past, answer)
 }
 
 /// Ends a server all of whose seats are tallied, and gives the store back and how the writing ended: well only where all of the order is

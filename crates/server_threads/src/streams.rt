@@ -4,20 +4,18 @@ ghost use Rattle.recovery.specs.Open.{state_of, has_failed};
 ghost use Rattle.serving.specs.Serving.{beginning};
 ghost use Rattle.flusher.specs.Holding.{store_of};
 ghost use Rattle.server_threads.specs.Answers.{first_desk};
-ghost use Rattle.server_threads.specs.Held.{HasHeld};
-ghost use Rattle.server_threads.specs.Served.{IsStarted, WasServed};
+ghost use Rattle.server_threads.specs.Held.{HasHeld, IsNamed, IsNewServer};
+ghost use Rattle.server_threads.specs.Served.{WasServed};
 ghost use Rattle.server_threads.specs.Streams.{ByOne, EndsAtHub, first_of};
 
-use crate::beside::{Both, hold_beside};
-use crate::desks::desks_at;
-use crate::life::{Ending, Server, begin, end, tally_all};
+use crate::beside::hold_beside;
+use crate::life::{Ending, Named, Server, begin, end, make_ready, tally_all};
 use crate::watch::Watch;
 use crate::writing::Shared;
 use disk::Disk;
 use flusher::Flusher;
-use hub::Hub;
 use hub_desk::HubDesk;
-use published::{Life, Opened};
+use published::Life;
 use recovery::Store;
 use refusal::Refusal;
 use serving::{Input, ServingError, serve_session};
@@ -25,7 +23,6 @@ use session::{Output, Session, Shelf};
 use std::alloc::Global;
 use std::marker::Brand;
 use std::sync::Wait;
-use std::sync::ledger::Blank;
 use std::thread::Threads;
 
 /// How many sessions run at once.
@@ -72,16 +69,11 @@ pub fn serve_streams<
     // A store that fails is told of.
     ensures works { OnOk result.served (has_failed store ≡ false → has_failed result.store ≡ false) }
 {
-    let Some(opened) = Opened::new() else {
-        return Streamed {
-            store,
-            input,
-            output,
-            served: Err(ServingError::Refused(Refusal::NoMemory)),
-        };
+    let streams = OverStreams { input, output };
+    let Some(named) = Named::new(SEATS) else {
+        return streams.back(store, Err(ServingError::Refused(Refusal::NoMemory)));
     };
-    let blank = Blank::new(u64::from(SEATS) + 1);
-    serve_run::<Brand, R, I, O, D, W>(rt, alloc, store, opened, blank, input, output, every, watch)
+    serve_run::<Brand, R, I, O, D, W>(rt, alloc, store, named, streams, every, watch)
 }
 
 // Serves the run that its ledger, its logs and its store's state name.
@@ -96,71 +88,38 @@ fn serve_run<
     rt: &R,
     alloc: Global,
     store: Store<D>,
-    opened: Opened,
-    blank: Blank,
-    input: I,
-    output: O,
-    every: u32,
-    watch: &W,
-) -> Streamed<I, O, D>
-    requires book { opened ≡ L.book }
-    requires name { blank.name ≡ L.name }
-    requires parts { blank.parts ≡ L.parts }
-    requires seats { blank.parts ≡ 2 }
-    requires start { state_of store ≡ L.start }
-    ensures served { WasServed (ByOne (EndsAtHub result.served (state_of store)
-        (I.remaining input) (I.remaining result.input) (O.contents output) (O.contents result.output)
-        (I.has_failed result.input) (O.has_failed result.output))) (is_ok result.served) store result.store }
-    ensures no_memory { IsErrOf result.served (ServingError.Refused Refusal.NoMemory) → (result.store ≡ store)
-        × (result.input ≡ input) × (result.output ≡ output) }
-    ensures works { OnOk result.served (has_failed store ≡ false → has_failed result.store ≡ false) }
-{
-    let streams = OverStreams { input, output };
-    match begin::<L, R, D>(rt, alloc, store, opened, blank, SEATS) {
-        Ok((hub, server)) => serve_from(rt, alloc, hub, server, streams, every, watch),
-        Err((store, refusal)) => streams.back(store, Err(ServingError::Refused(refusal))),
-    }
-}
-
-// Serves from a server's beginning to its end.
-fn serve_from<
-    L: Life + Sync + Send,
-    R: Threads + Wait + Sync,
-    I: Input + Drop,
-    O: Output + Drop,
-    D: Disk + Send + Drop,
-    W: Watch<D>,
->(
-    rt: &R,
-    alloc: Global,
-    hub: Hub<D, L>,
-    server: Server<D, L>,
+    named: Named,
     streams: OverStreams<I, O>,
     every: u32,
     watch: &W,
 ) -> Streamed<I, O, D>
-    requires store { server.held.value ≡ store_of server.flusher }
-    requires started { IsStarted server.flusher }
-    requires new { All (λ seat. seat ≡ 0) server.seats.items }
-    requires one { length server.seats.items ≡ 1 }
-    requires parts { L.parts ≡ 2 }
-    requires none { server.tally ≡ record { seats = 0; counted = 0 } }
-    ensures served { WasServed (ByOne (EndsAtHub result.served L.start
+    requires named { IsNamed L.book L.name L.parts L.start named.opened named.blank.name named.blank.parts store }
+    requires seats { L.parts ≡ 2 }
+    ensures served { WasServed (ByOne (EndsAtHub result.served (state_of store)
         (I.remaining streams.input) (I.remaining result.input) (O.contents streams.output) (O.contents result.output)
-        (I.has_failed result.input) (O.has_failed result.output))) (is_ok result.served) (store_of server.flusher) result.store }
-    ensures no_memory { IsErrOf result.served (ServingError.Refused Refusal.NoMemory) → (result.store ≡ store_of server.flusher)
+        (I.has_failed result.input) (O.has_failed result.output))) (is_ok result.served) store result.store }
+    ensures no_memory { IsErrOf result.served (ServingError.Refused Refusal.NoMemory) → (result.store ≡ store)
         × (result.input ≡ streams.input) × (result.output ≡ streams.output) }
-    ensures works { OnOk result.served (has_failed (store_of server.flusher) ≡ false → has_failed result.store ≡ false) }
+    ensures works { OnOk result.served (has_failed store ≡ false → has_failed result.store ≡ false) }
 {
-    match hold_at(rt, alloc, &hub, server, streams, every, watch) {
-        Ok((past, streams, answer)) => {
+    let refused = Err(ServingError::Refused(Refusal::NoMemory));
+    let (hub, server) = match begin::<L, R, D>(rt, alloc, store, named, SEATS) {
+        Ok(begun) => begun,
+        Err(store) => return streams.back(store, refused),
+    };
+    let shared = Shared {
+        rt,
+        alloc,
+        hub: &hub,
+        every,
+        watch,
+    };
+    match hold_at(&shared, server, streams) {
+        Ok((past, (streams, answer))) => {
             let (store, written) = end(rt, hub, past);
             streams.back(store, first_failure(answer, written))
         }
-        Err((flusher, streams)) => {
-            let refused = Err(ServingError::Refused(Refusal::NoMemory));
-            streams.back(flusher.end(rt), refused)
-        }
+        Err((flusher, streams)) => streams.back(flusher.end(rt), refused),
     }
 }
 
@@ -174,72 +133,39 @@ fn hold_at<
     D: Disk + Send + Drop,
     W: Watch<D>,
 >(
-    rt: &R,
-    alloc: Global,
-    hub: &Hub<D, L>,
+    shared: &Shared<'_, D, L, R, W>,
     server: Server<D, L>,
     streams: OverStreams<I, O>,
-    every: u32,
-    watch: &W,
 ) -> Result<
-    (Ending<D, L>, OverStreams<I, O>, Result<(), ServingError>),
+    (Ending<D, L>, (OverStreams<I, O>, Result<(), ServingError>)),
     (Flusher<D, L>, OverStreams<I, O>),
 >
-    requires store { server.held.value ≡ store_of server.flusher }
-    requires started { IsStarted server.flusher }
-    requires new { All (λ seat. seat ≡ 0) server.seats.items }
+    requires ready { IsNewServer server.held.value server.flusher server.seats.items server.tally }
     requires one { length server.seats.items ≡ 1 }
-    requires none { server.tally ≡ record { seats = 0; counted = 0 } }
-    ensures held { IfOk result (λ all. HasHeld (ByOne (EndsAtHub all.2 L.start
-        (I.remaining streams.input) (I.remaining all.1.input) (O.contents streams.output) (O.contents all.1.output)
-        (I.has_failed all.1.input) (O.has_failed all.1.output))) L.start server.flusher all.0.ordered all.0.published all.0.tally.counted
+    ensures held { IfOk result (λ all. HasHeld (ByOne (EndsAtHub all.1.1 L.start
+        (I.remaining streams.input) (I.remaining all.1.0.input) (O.contents streams.output) (O.contents all.1.0.output)
+        (I.has_failed all.1.0.input) (O.has_failed all.1.0.output))) L.start server.flusher all.0.ordered all.0.published all.0.tally.counted
         all.0.written (store_of all.0.flusher)) }
     ensures seats { IfOk result (λ all. all.0.tally.seats ≡ 1) }
-    ensures only { IfOk result (λ all. IfErr all.2 (λ e. e ≡ ServingError.Stream)) }
+    ensures only { IfOk result (λ all. IfErr all.1.1 (λ e. e ≡ ServingError.Stream)) }
     ensures refused { IfErr result (λ back. (back.0 ≡ server.flusher) × (back.1 ≡ streams)) }
 {
-    let Server {
-        held,
-        flusher,
-        writer,
-        closer,
-        seats,
-        tally,
-    } = server;
+    let rt = shared.rt;
+    let alloc = shared.alloc;
     let Ok(session) = Session::new(alloc) else {
-        return Err((flusher, streams));
+        return Err((server.into_flusher(), streams));
     };
     let Ok(shelf) = Shelf::new(alloc) else {
-        return Err((flusher, streams));
+        return Err((server.into_flusher(), streams));
     };
-    let mut tally = tally;
-    let Ok(desks) = desks_at(
-        rt,
-        alloc,
-        &flusher,
-        hub,
-        watch.counters(),
-        seats,
-        &mut tally,
-    ) else {
-        return Err((flusher, streams));
+    let (ready, tally) = match make_ready(shared, server) {
+        Ok(both) => both,
+        Err(flusher) => return Err((flusher, streams)),
     };
-    let shared = Shared {
-        rt,
-        alloc,
-        hub,
-        every,
-        watch,
-    };
-    flusher.kept();
     match hold_beside(
-        &shared,
-        held,
-        flusher,
-        writer,
-        closer,
+        shared,
+        ready,
         streams,
-        desks,
         |streams, desks| -> (
             (OverStreams<I, O>, Result<(), ServingError>),
             Vec<HubDesk<'_, D, L, R>>,
@@ -252,21 +178,7 @@ fn hold_at<
             ensures only { IfErr result.0.1 (λ e. e ≡ ServingError.Stream) }
         { serve_one(rt, alloc, session, shelf, streams, desks) },
     ) {
-        Ok(
-            Both {
-                flusher,
-                written,
-                rights,
-                held,
-            },
-        ) => {
-            let ((streams, answer), desks) = held;
-            Ok((
-                tally_all(flusher, written, rights, desks, tally),
-                streams,
-                answer,
-            ))
-        }
+        Ok(both) => Ok(tally_all(both, tally)),
         Err(back) => Err(back),
     }
 }

@@ -13,10 +13,10 @@ returns-clause-tallied g c = record {
   lasts = c.lasts.ensures;
   few_committed = c.few.ensures.committed;
   few_waiting = c.few.ensures.waiting;
-  begins = begins_longer (commands_of (told_of c.args.flusher ++ (committed_of c.args.flusher ++ waiting_of c.args.flusher))) c.ordered-ordered.result c.tally_desks.new.ordered
+  begins = begins_longer (commands_of (told_of c.args.both.flusher ++ (committed_of c.args.both.flusher ++ waiting_of c.args.both.flusher))) c.ordered-ordered.result c.tally_desks.new.ordered
       c.ordered-ordered.ensures.begins c.tally_desks.ensures.before;
   found = c.tally_desks.ensures.found;
   so_many = c.len-published.ensures ∙ ap (λ t. length (commands_of t)) c.told.ensures;
   told = c.tally_desks.ensures.told;
-  counts = from_nothing c.args.tally.counted c.tally_desks.new.tally.counted (sum_by (λ desk. desk.counted) c.args.desks.items) c.requires.none c.tally_desks.ensures.counted;
+  counts = from_nothing c.args.tally.counted c.tally_desks.new.tally.counted (sum_by (λ desk. desk.counted) c.args.both.held.1.items) c.requires.none c.tally_desks.ensures.counted;
 }
