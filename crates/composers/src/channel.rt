@@ -1,5 +1,5 @@
 //! The channels between the thread that writes and the composers.
-ghost use Rattle.std.specs.Prelude.{◌≡◌, IfOk, IfErr};
+ghost use Rattle.std.specs.Prelude.{◌≡◌, IfErr};
 ghost use Rattle.crossbeam_channel.specs.Claims.{IsSeatAt};
 ghost use Rattle.crossbeam_channel.specs.Ends.{sends_on, receives_on, ruled_capacity};
 
@@ -52,9 +52,7 @@ impl<T: Drop> Outlet<T> {
     }
 
     // Sends a message once there is a place for it; it comes back where the other ends are gone.
-    fn send<R: Wait>(&mut self, rt: &R, message: T) -> Result<(), T>
-        ensures back { IfErr result (λ back. back ≡ message) }
-    {
+    fn send<R: Wait>(&mut self, rt: &R, message: T) -> Result<(), T> {
         match self.end.send_as::<Free, R>(rt, &mut self.pass, message) {
             Ok(()) => Ok(()),
             Err(e) => Err(e.into_inner()),
@@ -115,19 +113,13 @@ impl Worker {
     }
 
     /// Hands on what came of a job. It comes back where the thread that writes has gone.
-    pub(crate) fn hand_on<R: Wait>(&mut self, rt: &R, done: Done) -> Result<(), Done>
-        ensures back { IfErr result (λ back. back ≡ done) }
-    {
+    pub(crate) fn hand_on<R: Wait>(&mut self, rt: &R, done: Done) -> Result<(), Done> {
         self.done.send(rt, done)
     }
 }
 
 // A channel with one end where messages are sent, and two where they come.
-fn spread<T: Drop>(alloc: Global) -> Result<(Outlet<T>, Inlet<T>, Inlet<T>), AllocError>
-    ensures one { IfOk result (λ ends. receives_on ends.1.end ≡ sends_on ends.0.end) }
-    ensures other { IfOk result (λ ends. receives_on ends.2.end ≡ sends_on ends.0.end) }
-    ensures places { IfOk result (λ ends. ruled_capacity (sends_on ends.0.end) ≡ 64) }
-{
+fn spread<T: Drop>(alloc: Global) -> Result<(Outlet<T>, Inlet<T>, Inlet<T>), AllocError> {
     let (sender, receiver, first) = bounded_with::<T, (), Free, Global>(alloc, PLACES)?;
     let mut pass = first;
     let one = sender.another::<Further>(&mut pass);
@@ -147,11 +139,7 @@ fn spread<T: Drop>(alloc: Global) -> Result<(Outlet<T>, Inlet<T>, Inlet<T>), All
 }
 
 // A channel with two ends where messages are sent, and one where they come.
-fn gathered<T: Drop>(alloc: Global) -> Result<(Outlet<T>, Outlet<T>, Inlet<T>), AllocError>
-    ensures one { IfOk result (λ ends. sends_on ends.0.end ≡ receives_on ends.2.end) }
-    ensures other { IfOk result (λ ends. sends_on ends.1.end ≡ receives_on ends.2.end) }
-    ensures places { IfOk result (λ ends. ruled_capacity (receives_on ends.2.end) ≡ 64) }
-{
+fn gathered<T: Drop>(alloc: Global) -> Result<(Outlet<T>, Outlet<T>, Inlet<T>), AllocError> {
     let (sender, receiver, first) = bounded_with::<T, (), Free, Global>(alloc, PLACES)?;
     let mut pass = first;
     let one = sender.another::<Further>(&mut pass);
@@ -171,15 +159,7 @@ fn gathered<T: Drop>(alloc: Global) -> Result<(Outlet<T>, Outlet<T>, Inlet<T>), 
 }
 
 /// The two channels, by the ends of the thread that writes and those of two composers. Refused as out of memory alone.
-pub fn channels(alloc: Global) -> Result<(Composers, Worker, Worker), AllocError>
-    // Both composers take from the channel that jobs are handed out by, and hand on into the one that answers are taken back from.
-    ensures jobs { IfOk result (λ ends. (receives_on ends.1.jobs.end ≡ sends_on ends.0.jobs.end)
-        × (receives_on ends.2.jobs.end ≡ sends_on ends.0.jobs.end)) }
-    ensures done { IfOk result (λ ends. (sends_on ends.1.done.end ≡ receives_on ends.0.done.end)
-        × (sends_on ends.2.done.end ≡ receives_on ends.0.done.end)) }
-    ensures places { IfOk result (λ ends. (ruled_capacity (sends_on ends.0.jobs.end) ≡ 64)
-        × (ruled_capacity (receives_on ends.0.done.end) ≡ 64)) }
-{
+pub fn channels(alloc: Global) -> Result<(Composers, Worker, Worker), AllocError> {
     let (out, first_jobs, second_jobs) = spread::<Job>(alloc)?;
     let (first_done, second_done, back) = gathered::<Done>(alloc)?;
     Ok((

@@ -3,7 +3,7 @@ use Rattle.std.specs.Prelude.{◌≡◌, ◌≤◌, ℕ, false, List, [], ◌++�
 use Rattle.disk.specs.declared.device.Disk.{Ghosts}
 use Rattle.revision.specs.Command.{Taken}
 use Rattle.revision.specs.State.{State, fold}
-use Rattle.world.specs.Board.{Board, begun_board}
+use Rattle.world.specs.Progress.{Progress, begun_progress}
 use Rattle.world.specs.World.{Entry, takens}
 use Rattle.recovery.specs.declared.store.Store.{Store}
 use Rattle.recovery.specs.Found.{commands_of}
@@ -16,7 +16,7 @@ use Rattle.flusher.specs.Holding.{store_of, told_of, committed_of, waiting_of, o
 -- What the board has, and the batches that it was told of; the batches that were published; the batch that is committed and not
 -- published yet, and the one that isn't committed yet, each a list of one batch or of none; and the store.
 pub record Standing (D : Type 0) (disk : Ghosts D) : Type 0 where
-  pub board : Board Entry
+  pub board : Progress Entry
   pub known : List (List Taken)
   pub told : List (List Taken)
   pub committed : List (List Taken)
@@ -41,7 +41,7 @@ module _ {D : Type 0} {disk : Ghosts D} where
 module _ {D L : Type 0} {disk : Ghosts D} where
   abbrev pub standing : HubBoard → Flusher D L disk → Standing D disk
   standing board flusher = record {
-    board = board.board;
+    board = board.progress;
     known = board.told;
     told = told_of flusher;
     committed = committed_of flusher;
@@ -54,6 +54,6 @@ module _ {D L : Type 0} {disk : Ghosts D} where
   pub record HaveBegun (start : State) (store : Store D disk) (seats : ℕ) (flusher : Flusher D L disk) (board : HubBoard) : Type 0 where
     pub over : store_of flusher ≡ store
     pub opened : opened_of flusher ≡ store_of flusher
-    pub fresh : board ≡ record { board = begun_board start; failed = false; told = []; left = seats }
+    pub fresh : board ≡ record { progress = begun_progress start; failed = false; told = []; left = seats }
     pub told : told_of flusher ≡ []
     pub calm : IsCalm start (standing board flusher)

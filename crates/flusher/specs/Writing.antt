@@ -1,5 +1,5 @@
 -- What a write of the batch that is held comes to, and its commit: what each leaves, and what refuses it.
-use Rattle.std.specs.Prelude.{◌≡◌, ◌≢◌, ◌⊎◌, ◌↔◌, true, false, Option, List, [], ◌∷◌, Result, IfSome, IfNone, IsErrOf}
+use Rattle.std.specs.Prelude.{◌≡◌, ◌≢◌, ◌⊎◌, ◌↔◌, true, false, Option, List, [], ◌∷◌, Result, IfSome, IfNone, IfErr, IsErrOf}
 use Rattle.disk.specs.declared.device.Disk.{Ghosts}
 use Rattle.refusal.specs.Refusal.{IsOneOf}
 use Rattle.refusal.specs.declared.Refusal.{Refusal}
@@ -7,9 +7,10 @@ use Rattle.refusal.specs.declared.Refusal.TheVariants.{JournalFull, StillNeeded,
 use Rattle.revision.specs.Command.{Taken}
 use Rattle.revision.specs.State.{fold}
 use Rattle.recovery.specs.Found.{commands_of}
-use Rattle.recovery.specs.Freed.{HasFew}
+use Rattle.recovery.specs.Freed.{HasFew, SyncsAtMost}
+use Rattle.recovery.specs.Goes.{Goes}
 use Rattle.recovery.specs.Moment.{Receipt}
-use Rattle.recovery.specs.Open.{IsOpen, IsUnchanged, IsFreedNow, state_of, has_failed, has_room}
+use Rattle.recovery.specs.Open.{IsWithOrWithout, IsOpen, IsUnchanged, IsFreedNow, state_of, has_failed, has_room}
 use Rattle.recovery.specs.declared.store.Store.{Store}
 use Rattle.flusher.specs.declared.flusher.Flusher.{Flusher}
 use Rattle.flusher.specs.Flushers.{IsWritten, IsUsedUp, IsHeldCommitted, IsGivenUp}
@@ -98,3 +99,13 @@ module _ {D L : Type 0} {disk : Ghosts D} where
     pub fails : has_failed (store_of old) ≡ false → (has_failed (store_of new) ≡ true ↔ IsErrOf result Fault)
     pub failed_before : has_failed (store_of old) ≡ true → (batch : List Taken) → waiting_of old ≡ batch ∷ []
         → IsErrOf result Fault × IsUnchanged (store_of old) (store_of new)
+
+  -- What a write of the batch that is held has of its commit, which may free a segment. A crash at any moment leaves the state before it, or
+  -- the one with the batch. It makes no more syncs than a commit that makes room: they grow with the bytes of documents, and not with their
+  -- number. And it tells when it is refused.
+  pub record WritesHeld {A : Type 0} (result : Result A Refusal) (old new : Flusher D L disk) : Type 0 where
+    pub goes : Goes (IsWithOrWithout (state_of (store_of old)) (commands_of (waiting_of old))) (store_of old) (store_of new)
+    pub syncs : SyncsAtMost 6 (store_of old) (store_of new)
+    pub why : IfErr result (λ e. IsWriteRefused e old new)
+    pub few : has_failed (store_of old) ≡ false → HasNoRoom old → HasFew (store_of old) → IsErrOf result StillNeeded
+    pub faults : TellsFaults result old new

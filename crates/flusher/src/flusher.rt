@@ -43,10 +43,9 @@ pub struct Flusher<D: Disk, L: Life> {
 impl<D: Disk, L: Life> Flusher<D, L> {
     ghost use Rattle.recovery.specs.Open.{IsWithOrWithout, has_failed};
     ghost use Rattle.flusher.specs.Flushers.{cap_of};
-    ghost use Rattle.recovery.specs.Freed.{HasFew, SyncsAtMost};
     ghost use Rattle.recovery.specs.Goes.{Goes};
     ghost use Rattle.flusher.specs.Holding.{KeepsBatches, HasNoRoom, LastsSince, store_of, told_of, committed_of, waiting_of, moments_of, opened_of};
-    ghost use Rattle.flusher.specs.Writing.{HoldsNow, HasCommitted, HasPublished, LeavesHeld, IsUnpublished, IsWriteRefused, IsFullForGood, IsHeldBack, TellsFaults};
+    ghost use Rattle.flusher.specs.Writing.{HoldsNow, HasCommitted, HasPublished, LeavesHeld, IsUnpublished, IsFullForGood, IsHeldBack, TellsFaults, WritesHeld};
 
     // A flusher that has published nothing yet.
     #[tactic(auto, using(crate::proofs::Lasting::surely_begun))]
@@ -194,21 +193,11 @@ impl<D: Disk, L: Life> Flusher<D, L> {
         alloc: Global,
         gate: &mut G,
     ) -> Result<Option<Written<D, L>>, Refusal>
-        // A crash at any moment leaves the state before it, or the one with the batch.
-        ensures goes { Goes (IsWithOrWithout (state_of (store_of self.old)) (commands_of (waiting_of self.old)))
-            (store_of self.old) (store_of self.new) }
-        // It takes no more syncs than a commit that makes room: they grow with the bytes of documents, and not with their number.
-        ensures syncs { SyncsAtMost 6 (store_of self.old) (store_of self.new) }
-
+        // What a crash leaves, how many syncs it makes, and when each refusal comes.
+        ensures writes { WritesHeld result self.old self.new }
         // What each answer leaves.
         ensures published { IfOk result (λ given. HasPublished given self.old self.new) }
         ensures refused { IfErr result (λ e. IsUnpublished e self.old self.new) }
-
-        // When each refusal comes.
-        ensures why { IfErr result (λ e. IsWriteRefused e self.old self.new) }
-        ensures few { has_failed (store_of self.old) ≡ false → HasNoRoom self.old → HasFew (store_of self.old)
-            → IsErrOf result Refusal.StillNeeded }
-        ensures faults { TellsFaults result self.old self.new }
     {
         gate.pass(Moment::BeforeCommit);
         if let Err(refusal) = self.commit_freeing(alloc) {
@@ -257,8 +246,7 @@ impl<D: Disk, L: Life> Flusher<D, L> {
         requires { IsFullForGood refusal then.now.value self.now }
         ensures { result ≡ refusal }
     {
-        let _ = then;
-        Cause::full(self.publisher.log(), refusal)
+        Cause::full(self.publisher.log(), then, refusal)
     }
 
     /// How many bytes a batch may have: what fits a slot in which nothing stands yet.
@@ -319,20 +307,9 @@ impl<D: Disk, L: Life> Flusher<D, L> {
     // next part of the order; the batch is held still then. So in an open store neither `JournalFull` nor `StillNeeded` comes before the
     // numbers of its segments are used up. The readers are shown nothing new.
     fn commit_freeing(&mut self, alloc: Global) -> Result<(), Refusal>
-        // A crash at any moment leaves the state before it, or the one with the batch.
-        ensures goes { Goes (IsWithOrWithout (state_of (store_of self.old)) (commands_of (waiting_of self.old)))
-            (store_of self.old) (store_of self.new) }
-        ensures syncs { SyncsAtMost 6 (store_of self.old) (store_of self.new) }
-
-        // What each answer leaves.
+        ensures writes { WritesHeld result self.old self.new }
         ensures committed { OnOk result (HasCommitted self.old self.new) }
         ensures refused { IfErr result (λ e. LeavesHeld e self.old self.new) }
-
-        // When each refusal comes.
-        ensures why { IfErr result (λ e. IsWriteRefused e self.old self.new) }
-        ensures few { has_failed (store_of self.old) ≡ false → HasNoRoom self.old → HasFew (store_of self.old)
-            → IsErrOf result Refusal.StillNeeded }
-        ensures faults { TellsFaults result self.old self.new }
     {
         match self.waiting.take() {
             None => Ok(()),

@@ -41,7 +41,7 @@ pub fn start<D: Disk, L: Life>(
     let begun = Begun::<L>::of(store.state());
     match store.state().copy(alloc) {
         Err(no_memory) => {
-            let (_log, _told, _order) = opened.named::<D, L>(store.state());
+            let (_log, _told, _order) = opened.named::<D, L>();
             Err(StartError {
                 store,
                 refusal: no_memory.into(),

@@ -1,8 +1,7 @@
 //! A batch that was written and isn't settled yet.
-ghost use Rattle.std.specs.Prelude.{◌≡◌, length, IsOk, OnOk, OnErr, IfErr};
-ghost use Rattle.world.specs.Board.{settled_more};
-ghost use Rattle.recovery.specs.Found.{commands_of};
-ghost use Rattle.hub.specs.Runs.{ComesNext, MaySettle, counts_settled};
+ghost use Rattle.std.specs.Prelude.{◌≡◌};
+ghost use Rattle.hub.specs.Runs.{ComesNext};
+ghost use Rattle.hub.specs.Moves.{IsSettledOn, IsSettledNext};
 
 use hub::{Board, Hub, Settled, Writer};
 use published::{Life, Told};
@@ -40,8 +39,7 @@ impl<D, L: Life> Written<D, L> {
     ) -> (Receipt<D>, Settled<D, L>)
         requires next { ComesNext writer.old self.0.batch self.1 }
         ensures receipt { result.0 ≡ self.0 }
-        ensures settled { result.1 ≡ self.1 }
-        ensures counts { writer.new ≡ counts_settled writer.old (length self.0.batch) }
+        ensures settled { IsSettledNext writer.old self.0.batch self.1 result.1 writer.new }
     {
         let Written { receipt, told } = self;
         let settled = hub.settle(rt, writer, &receipt, told);
@@ -51,11 +49,7 @@ impl<D, L: Life> Written<D, L> {
     /// Settles it on a board of the same thread, as `Board::settle` does. Refused with `Stranger` alone, where it isn't what the board has to
     /// settle next; the board is unchanged then, and the batch, which is on the disk, stays unsettled.
     pub fn settle_on(self, board: &mut Board<D, L>) -> Result<(), Refusal>
-        ensures ok { OnOk result (board.new
-            ≡ record board.old { board = settled_more board.old.board (length self.0.batch); told = self.1 }) }
-        ensures stranger { MaySettle board.old.board self.0.batch (length (commands_of self.1)) → IsOk result }
-        ensures only { IfErr result (λ e. e ≡ Refusal.Stranger) }
-        ensures unchanged { OnErr result (board.new ≡ board.old) }
+        ensures { IsSettledOn board.old self.0.batch self.1 result board.new }
     {
         let Written { receipt, told } = self;
         board.settle(&receipt, told)

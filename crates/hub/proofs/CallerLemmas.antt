@@ -9,7 +9,7 @@ use Rattle.core.proofs.ledger.Share.TheSendSync as share
 use Rattle.ownlog.proofs.CallerLemmas.{owner_send}
 use Rattle.revision.specs.contracts.past.moved.MovedEdit as moved
 use Rattle.world.specs.contracts.entry.Entry as entry
-use Rattle.world.specs.contracts.board.Board as board
+use Rattle.world.specs.contracts.progress.Progress as progress
 use Rattle.published.specs.declared.life.Life as life
 use Rattle.published.proofs.Crossing.{delta_send, document_send, entry_send, ordered_send, state_send, told_send}
 use Rattle.hub.specs.contracts.ahead.Ahead as ahead
@@ -20,7 +20,7 @@ use Rattle.hub.specs.contracts.locked.Closer as closer
 use Rattle.hub.specs.contracts.locked.Writer as writer
 pub use Rattle.hub.proofs.Histories.{fold-more}
 
-pub board_send : IsSend board.the_row
+pub board_send : IsSend progress.the_row
 board_send = search (state_send, entry_send, sendable, crosses) depth 30 fits 20000
 
 pub moved_send : IsSend moved.the_row

@@ -4,11 +4,11 @@ use Rattle.std.specs.Prelude.{Result, Ok, Err, IfOk}
 use Rattle.std.proofs.lemmas.List.{take-map, nil_from_length}
 use Rattle.revision.specs.Command.{Taken}
 use Rattle.journal.specs.BatchSpelling.{batch_width}
-use Rattle.world.specs.Board.{Board, next_run}
+use Rattle.world.specs.Progress.{Progress, next_run}
 use Rattle.world.specs.World.{Entry, takens}
 use Rattle.hub.specs.Runs.{IsLongest, untaken}
 
-pub longest_fits : (board : Board Entry) (cap : ℕ) (run : List Taken) → IsLongest cap (untaken board) (length run)
+pub longest_fits : (board : Progress Entry) (cap : ℕ) (run : List Taken) → IsLongest cap (untaken board) (length run)
     → run ≡ takens (next_run board (length run)) → (run ≡ []) ⊎ (batch_width run ≤ cap)
 longest_fits board cap run longest is = elim longest.fits [
   | inl none ↦ inl (nil_from_length run none)

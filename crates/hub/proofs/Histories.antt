@@ -6,7 +6,7 @@ use mathlib.Core.List.{IsPrefix}
 use Rattle.revision.specs.Command.{Taken, Command}
 use Rattle.revision.specs.State.{State, grown, fold}
 use Rattle.revision.specs.Acceptance.{Answer, Takes, Repeats, Refuses, Reply, TakenAt, AgainAt, answer}
-use Rattle.world.specs.Board.{Board, Ticket, submitted, submitted_by, ticket_by, ticket_of}
+use Rattle.world.specs.Progress.{Progress, Ticket, submitted, submitted_by, ticket_by, ticket_of}
 use Rattle.world.specs.World.{Entry, entry_of, takens}
 use Rattle.recovery.specs.Found.{commands_of}
 use Rattle.published.specs.Order.{HasNumber}
@@ -24,7 +24,7 @@ begins-more xs order entry (more, is) = (
   sym (append_assoc xs more (entry.taken ∷ [])) ∙ ap (λ l. l ++ entry.taken ∷ []) is ∙ sym (map-append (λ (e : Entry). e.taken) order (entry ∷ [])),
 )
 
-module _ (board : Board Entry) (command : Command) where
+module _ (board : Progress Entry) (command : Command) where
   answered : (due : Answer) → HasNumber command → IsHistory board → answer board.state command ≡ due → IsHistory (submitted_by (entry_of command) board due)
   answered (Takes taken) numbered history is = record {
     legal = legal_more board.start board.order (entry_of command taken) history.legal (numbered, ap (λ s. answer s command) (sym history.state) ∙ is);
@@ -71,14 +71,14 @@ module _ (board : Board Entry) (command : Command) where
   start_by (Refuses refusal) = refl
 
   -- all that a board's type says holds on
-  pub submitted_goes_on : (new : Board Entry) (told : List (List Taken)) (start : State) (total after : ℕ) (reply : Reply) (ticket : Ticket)
+  pub submitted_goes_on : (new : Progress Entry) (told : List (List Taken)) (start : State) (total after : ℕ) (reply : Reply) (ticket : Ticket)
       → new ≡ submitted (entry_of command) board command → Some ticket ≡ ticket_of board command → reply ≡ ticket.reply
       → HasNumber command → IsHistory board → IsWithin board told → board.start ≡ start → total ≡ length board.order → after ≡ counted total reply
       → IsHistory new × IsWithin new told × (new.start ≡ start) × (after ≡ length new.order)
   submitted_goes_on new told start total after reply ticket is given replied numbered history within begun sum counts_it = (
     subst IsHistory (sym is) (history_submitted numbered history),
-    subst (λ (b : Board Entry). IsWithin b told) (sym is) (within_by told (answer board.state command) within),
-    ap (λ (b : Board Entry). b.start) is ∙ start_by (answer board.state command) ∙ begun,
+    subst (λ (b : Progress Entry). IsWithin b told) (sym is) (within_by told (answer board.state command) within),
+    ap (λ (b : Progress Entry). b.start) is ∙ start_by (answer board.state command) ∙ begun,
     counts_it ∙ ap (λ n. counted n reply) sum ∙ ap (λ r. counted (length board.order) r) replied
-        ∙ sym ((counts ticket given).0) ∙ sym (ap (λ (b : Board Entry). length b.order) is),
+        ∙ sym ((counts ticket given).0) ∙ sym (ap (λ (b : Progress Entry). length b.order) is),
   )

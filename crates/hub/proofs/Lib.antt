@@ -8,3 +8,4 @@ pub mod Waking
 pub mod Widths
 pub mod MovedAhead
 pub mod Settling
+pub mod Moving

@@ -11,7 +11,7 @@ use Rattle.revision.specs.Acceptance.{Answer, Takes, Repeats, Refuses, answer}
 use Rattle.revision.specs.Made.{text_at, IsMade, AreMade}
 use Rattle.revision.specs.State.{State, fold}
 use Rattle.revision.proofs.CallerLemmas.{taken_grows, made_more, made_before, made_first, made_rest, fold-append}
-use Rattle.world.specs.Board.{Board, Ticket, next_run, submitted, submitted_by, can_take, taken_more}
+use Rattle.world.specs.Progress.{Progress, Ticket, next_run, submitted, submitted_by, can_take, taken_more}
 use Rattle.world.specs.World.{Entry, entry_of, takens}
 use Rattle.hub.specs.Placed.{WasSubmitted}
 use Rattle.hub.specs.Runs.{AreMadeThere, untaken}
@@ -71,7 +71,7 @@ module _ (start : State) (order : List Entry) (entry : Entry) (n : ℕ) (within 
       subst (λ (d : List (List Element)). AreMadeThere start (order ++ entry ∷ []) n (takens (drop n (order ++ entry ∷ []))) d) (sym more)
       (document_more old document are (as_many old many) is)
 
-module _ (start : State) (order : List Entry) (ticket : Ticket) (new : Board Entry) (was : WasSubmitted start order ticket new) where
+module _ (start : State) (order : List Entry) (ticket : Ticket) (new : Progress Entry) (was : WasSubmitted start order ticket new) where
   -- what the command that was taken leaves
   last_made : (revision : ℕ) (last : TakenLast start order ticket new revision) (entry : Entry) → entry ≡ entry_of ticket.command last.taken
       → IsMade (fold start (takens order)) last.taken (text_at new.state entry.taken.document)
@@ -100,13 +100,13 @@ module _ (start : State) (order : List Entry) (ticket : Ticket) (new : Board Ent
   keeps_again revision again kept are =
       subst (λ (o : List Entry). AreMadeThere start o new.taken (takens (drop new.taken o)) kept) (sym again.same) are
 
-taken_by : (board : Board Entry) (command : Command) (due : Answer) → (submitted_by (entry_of command) board due).taken ≡ board.taken
+taken_by : (board : Progress Entry) (command : Command) (due : Answer) → (submitted_by (entry_of command) board due).taken ≡ board.taken
 taken_by board command (Takes taken) = refl
 taken_by board command (Repeats revision) = refl
 taken_by board command (Refuses refusal) = refl
 
 -- before the order has the command that was submitted, the documents stand beside its commands as they did
-pub as_before : (start : State) (old new : Board Entry) (order : List Entry) (command : Command) (documents : List (List Element)) → order ≡ old.order
+pub as_before : (start : State) (old new : Progress Entry) (order : List Entry) (command : Command) (documents : List (List Element)) → order ≡ old.order
     → new ≡ submitted (entry_of command) old command → AreMadeThere start old.order old.taken (untaken old) documents
     → AreMadeThere start order new.taken (takens (drop new.taken order)) documents
 as_before start old new order command documents same is are =
@@ -114,9 +114,9 @@ as_before start old new order command documents same is are =
     (subst (λ n. AreMadeThere start old.order n (takens (drop n old.order)) documents) (sym taken) are)
   where
     taken : new.taken ≡ old.taken
-    taken = ap (λ (b : Board Entry). b.taken) is ∙ taken_by old command (answer old.state command)
+    taken = ap (λ (b : Progress Entry). b.taken) is ∙ taken_by old command (answer old.state command)
 
-module _ (start : State) (board : Board Entry) (documents : List (List Element)) (are : AreMadeThere start board.order board.taken (untaken board) documents) where
+module _ (start : State) (board : Progress Entry) (documents : List (List Element)) (are : AreMadeThere start board.order board.taken (untaken board) documents) where
   -- a run that is taken off has the documents of its first commands
   pub run_made : (count : ℕ) (commands : List Taken) → commands ≡ takens (next_run board count) → AreMadeThere start board.order board.taken commands (take count documents)
   run_made count commands is =
@@ -134,24 +134,24 @@ module _ (start : State) (board : Board Entry) (documents : List (List Element))
   rest_of count = sym (takens-drop count (drop board.taken board.order)) ∙ ap takens (drop-drop count board.taken board.order)
 
   -- and the board keeps the others
-  pub rest_made : (count : ℕ) (new : Board Entry) → new ≡ taken_more board count → AreMadeThere start new.order new.taken (untaken new) (drop count documents)
+  pub rest_made : (count : ℕ) (new : Progress Entry) → new ≡ taken_more board count → AreMadeThere start new.order new.taken (untaken new) (drop count documents)
   rest_made count new is =
-      subst (λ (b : Board Entry). AreMadeThere start b.order b.taken (untaken b) (drop count documents)) (sym is)
+      subst (λ (b : Progress Entry). AreMadeThere start b.order b.taken (untaken b) (drop count documents)) (sym is)
       (subst (λ (s : State). AreMade s (takens (drop (board.taken + count) board.order)) (drop count documents)) (before_rest count)
       (subst (λ (l : List Taken). AreMade (fold (fold start (takens (take board.taken board.order))) (take count (untaken board))) l (drop count documents)) (rest_of count)
       (made_rest (fold start (takens (take board.taken board.order))) (untaken board) documents count are)))
 
-none_taken : (board : Board Entry) (count : ℕ) → count ≤ length (takens (drop board.taken board.order)) → can_take board count ≡ false → count ≡ 0
+none_taken : (board : Progress Entry) (count : ℕ) → count ≤ length (takens (drop board.taken board.order)) → can_take board count ≡ false → count ≡ 0
 none_taken board count within cant =
     let long : length (takens (drop board.taken board.order)) ≡ length (drop board.taken board.order) = length-map (drop board.taken board.order) (λ (e : Entry). e.taken) in
     let dropped = length-drop board.taken board.order in grind (arith, nat_tests)
 
-taken_when : (can : Bool) (board : Board Entry) (count : ℕ) → (can ≡ false → count ≡ 0) → (if can then taken_more board count else board) ≡ taken_more board count
+taken_when : (can : Bool) (board : Progress Entry) (count : ℕ) → (can ≡ false → count ≡ 0) → (if can then taken_more board count else board) ≡ taken_more board count
 taken_when true board count none = refl
 taken_when false board count none = let same : board.taken ≡ board.taken + count = omega (arith, none refl) in ap (λ n. record board { taken = n }) same
 
 -- a board that may have nothing to take off
-pub takes : (board : Board Entry) (count : ℕ) → count ≤ length (untaken board) → (if can_take board count then taken_more board count else board) ≡ taken_more board count
+pub takes : (board : Progress Entry) (count : ℕ) → count ≤ length (untaken board) → (if can_take board count then taken_more board count else board) ≡ taken_more board count
 takes board count within = taken_when (can_take board count) board count (none_taken board count within)
 
 -- The documents of a run, where it continues what is published.

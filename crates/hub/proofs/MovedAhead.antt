@@ -6,7 +6,7 @@ use Rattle.revision.specs.Command.{Taken}
 use Rattle.revision.specs.State.{State, fold}
 use Rattle.revision.specs.Moved.{MovedEdit, IsMovedIn}
 use Rattle.revision.proofs.CallerLemmas.{moved_stays, fold-append}
-use Rattle.world.specs.Board.{Board}
+use Rattle.world.specs.Progress.{Progress}
 use Rattle.world.specs.World.{Entry, takens}
 use Rattle.hub.specs.Legal.{IsHistory}
 
@@ -23,7 +23,7 @@ moved_later start first order m (rest, is) =
     moved_further start (takens first) (takens order) m (takens rest, sym (map-append (λ (e : Entry). e.taken) first rest) ∙ ap takens is)
 
 -- so in the state of a board whose order is the run's
-pub moved_on_board : (start : State) (board : Board Entry) (order : List Entry) (m : MovedEdit) → order ≡ board.order → board.start ≡ start → IsHistory board
+pub moved_on_board : (start : State) (board : Progress Entry) (order : List Entry) (m : MovedEdit) → order ≡ board.order → board.start ≡ start → IsHistory board
     → IsMovedIn (fold start (takens order)) m → IsMovedIn board.state m
 moved_on_board start board order m same begun history moved =
     subst (λ s. IsMovedIn s m) (ap (λ (o : List Entry). fold start (takens o)) same ∙ (ap (λ s. fold s (takens board.order)) (sym begun) ∙ sym history.state)) moved

@@ -5,7 +5,7 @@ use mathlib.Core.List.{IsPrefix}
 use Rattle.revision.specs.Command.{Taken, Command}
 use Rattle.revision.specs.State.{State, grown, fold}
 use Rattle.revision.specs.Acceptance.{Answer, Takes, Repeats, Refuses, Reply, TakenAt, AgainAt, answer}
-use Rattle.world.specs.Board.{Board, Ticket, submitted, submitted_by, ticket_by, ticket_of}
+use Rattle.world.specs.Progress.{Progress, Ticket, submitted, submitted_by, ticket_by, ticket_of}
 use Rattle.world.specs.World.{Entry, entry_of, takens}
 use Rattle.published.specs.Order.{HasNumber}
 use Rattle.hub.specs.Legal.{IsHistory}
@@ -15,7 +15,7 @@ use Rattle.hub.proofs.Histories.{counts}
 use Rattle.published.proofs.CallerLemmas.{takens_long}
 
 -- A command was taken: it is put behind the order.
-pub record TakenLast (start : State) (order : List Entry) (ticket : Ticket) (new : Board Entry) (revision : ℕ) : Type 0 where
+pub record TakenLast (start : State) (order : List Entry) (ticket : Ticket) (new : Progress Entry) (revision : ℕ) : Type 0 where
   pub taken : Taken
   pub longer : new.order ≡ order ++ entry_of ticket.command taken ∷ []
   pub state : new.state ≡ grown (fold start (takens order)) taken
@@ -25,12 +25,12 @@ pub record TakenLast (start : State) (order : List Entry) (ticket : Ticket) (new
   pub within : new.taken ≤ length order
 
 -- A command was there before: the order stays.
-pub record WasBefore (start : State) (order : List Entry) (ticket : Ticket) (new : Board Entry) (revision : ℕ) : Type 0 where
+pub record WasBefore (start : State) (order : List Entry) (ticket : Ticket) (new : Progress Entry) (revision : ℕ) : Type 0 where
   pub same : new.order ≡ order
   pub answered : answer (fold start (takens order)) ticket.command ≡ Repeats revision
   pub long : ticket.length ≡ length order
 
-module _ (old : Board Entry) (ticket : Ticket) (new : Board Entry) (history : IsHistory old) (within : old.taken ≤ length old.order) where
+module _ (old : Progress Entry) (ticket : Ticket) (new : Progress Entry) (history : IsHistory old) (within : old.taken ≤ length old.order) where
   taken_by : (due : Answer) (revision : ℕ) → answer old.state ticket.command ≡ due → new ≡ submitted_by (entry_of ticket.command) old due
       → Some ticket ≡ ticket_by old ticket.command due → ticket.reply ≡ TakenAt revision → TakenLast old.start old.order ticket new revision
   taken_by (Takes taken) revision is submits given replied =
@@ -38,12 +38,12 @@ module _ (old : Board Entry) (ticket : Ticket) (new : Board Entry) (history : Is
       let reply : TakenAt taken.revision ≡ TakenAt revision = sym (ap (λ (t : Ticket). t.reply) same) ∙ replied in
       record {
         taken = taken;
-        longer = ap (λ (b : Board Entry). b.order) submits;
-        state = ap (λ (b : Board Entry). b.state) submits ∙ ap (λ s. grown s taken) history.state;
+        longer = ap (λ (b : Progress Entry). b.order) submits;
+        state = ap (λ (b : Progress Entry). b.state) submits ∙ ap (λ s. grown s taken) history.state;
         answered = ap (λ s. answer s ticket.command) (sym history.state) ∙ is;
         made = cc (reply);
         long = ap (λ (t : Ticket). t.length) same;
-        within = omega (arith, within, ap (λ (b : Board Entry). b.taken) submits);
+        within = omega (arith, within, ap (λ (b : Progress Entry). b.taken) submits);
       }
   taken_by (Repeats other) revision is submits given replied =
       let same : ticket ≡ record { command = ticket.command; reply = AgainAt other; length = length old.order } = cc in
@@ -60,13 +60,13 @@ module _ (old : Board Entry) (ticket : Ticket) (new : Board Entry) (history : Is
       let reply : AgainAt other ≡ AgainAt revision = sym (ap (λ (t : Ticket). t.reply) same) ∙ replied in
       let made : other ≡ revision = cc (reply) in
       record {
-        same = ap (λ (b : Board Entry). b.order) submits;
+        same = ap (λ (b : Progress Entry). b.order) submits;
         answered = ap (λ s. answer s ticket.command) (sym history.state) ∙ (is ∙ ap (λ n. Repeats n) made);
         long = ap (λ (t : Ticket). t.length) same;
       }
   again_by (Refuses refusal) revision is submits given replied = absurd (cc)
 
-module _ (start : State) (order : List Entry) (ticket : Ticket) (new : Board Entry) (was : WasSubmitted start order ticket new) where
+module _ (start : State) (order : List Entry) (ticket : Ticket) (new : Progress Entry) (was : WasSubmitted start order ticket new) where
   pub taken_last : (revision : ℕ) → ticket.reply ≡ TakenAt revision → TakenLast start order ticket new revision
   taken_last revision replied =
       subst (λ s. TakenLast s order ticket new revision) was.begun (subst (λ o. TakenLast was.old.start o ticket new revision) (sym was.ordered)
@@ -107,7 +107,7 @@ module _ {A : Type 0} where
       let rest = part-behind xs cs zs n (omega (arith, is)) (begin.0, cc (begin.1)) part in (rest.0, cc (heads, rest.1))
 
 -- what a board was given, as `order_taken` wants it
-pub was_submitted : (start : State) (order : List Entry) (old : Board Entry) (command : Command) (ticket : Ticket) (new : Board Entry) → order ≡ old.order
+pub was_submitted : (start : State) (order : List Entry) (old : Progress Entry) (command : Command) (ticket : Ticket) (new : Progress Entry) → order ≡ old.order
     → old.start ≡ start → IsHistory old → old.taken ≤ length old.order → new ≡ submitted (entry_of command) old command
     → Some ticket ≡ ticket_of old command → HasNumber command → WasSubmitted start order ticket new
 was_submitted start order old command ticket new ordered begun history within submits given numbered =

@@ -8,19 +8,19 @@ use Rattle.revision.specs.Command.{Taken, Command}
 use Rattle.revision.specs.Acceptance.{Answer, Takes, Repeats, Refuses, answer}
 use Rattle.recovery.specs.Found.{commands_of}
 use Rattle.recovery.proofs.CallerLemmas.{commands-append}
-use Rattle.world.specs.Board.{Board, submitted, submitted_by}
+use Rattle.world.specs.Progress.{Progress, submitted, submitted_by}
 use Rattle.world.specs.World.{Entry, entry_of, takens}
 use Rattle.hub.specs.Runs.{ComesNext, MaySettle, Writer}
 use Rattle.hub.proofs.Placing.{takens-take, takens-drop}
 
 -- a command that is submitted is neither taken off nor settled by that
-counts_by : (board : Board Entry) (command : Command) (due : Answer)
+counts_by : (board : Progress Entry) (command : Command) (due : Answer)
     → ((submitted_by (entry_of command) board due).taken ≡ board.taken) × ((submitted_by (entry_of command) board due).settled ≡ board.settled)
 counts_by board command (Takes taken) = (refl, refl)
 counts_by board command (Repeats revision) = (refl, refl)
 counts_by board command (Refuses refusal) = (refl, refl)
 
-pub counts_stay : (board : Board Entry) (command : Command)
+pub counts_stay : (board : Progress Entry) (command : Command)
     → ((submitted (entry_of command) board command).taken ≡ board.taken) × ((submitted (entry_of command) board command).settled ≡ board.settled)
 counts_stay board command = counts_by board command (answer board.state command)
 
@@ -28,7 +28,7 @@ settles : (settled taken n told : ℕ) → settled + n ≤ taken → told ≡ se
 settles settled taken n told within same some = grind (arith, nat_tests)
 
 -- the batch that comes next after what a writer has settled may be settled, since the board has settled and handed out as much
-pub may_settle : (board : Board Entry) (writer : Writer) (batch : List Taken) (told : List (List Taken)) → ComesNext writer batch told → writer.settled ≡ board.settled
+pub may_settle : (board : Progress Entry) (writer : Writer) (batch : List Taken) (told : List (List Taken)) → ComesNext writer batch told → writer.settled ≡ board.settled
     → writer.taken ≡ board.taken → IsPrefix (commands_of told) (takens board.order) → MaySettle board batch (length (commands_of told))
 may_settle board writer batch told next settled taken (more, whole) =
     let before = commands_of next.before in

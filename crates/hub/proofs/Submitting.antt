@@ -3,7 +3,7 @@ use Rattle.std.proofs.Common.{◌≡◌, ◌<◌, ◌+◌, ◌++◌, ℕ, zero, 
 use Rattle.std.specs.Borrow.{Bor}
 use Rattle.revision.specs.Command.{Taken, Command}
 use Rattle.revision.specs.State.{State}
-use Rattle.world.specs.Board.{Ticket}
+use Rattle.world.specs.Progress.{Ticket}
 use Rattle.world.specs.World.{Entry}
 use Rattle.hub.specs.declared.submit_error.SubmitError.{SubmitError}
 use Rattle.hub.specs.Found.{AreSubmittedAfter, IsSubmittedAfter}

@@ -1,14 +1,12 @@
 -- What a command that is submitted finds of the order, and what comes of it there.
-use Rattle.std.specs.Prelude.{◌≡◌, ◌⊎◌, true, List, [], ◌∷◌, Option, Some, None, Result, Ok, Err, IfOk}
+use Rattle.std.specs.Prelude.{◌≡◌, List, [], ◌∷◌, Option, Some, None, Result, Ok, Err, IfOk}
 use mathlib.Core.List.{IsPrefix}
 use Rattle.refusal.specs.declared.Refusal.{Refusal}
-use Rattle.refusal.specs.declared.Refusal.TheVariants.{NoMemory}
 use Rattle.revision.specs.Command.{Taken, Command}
 use Rattle.revision.specs.State.{State, fold}
-use Rattle.revision.specs.Planned.{may_want_memory}
-use Rattle.revision.specs.Acceptance.{Refuses, answer}
 use Rattle.recovery.specs.Found.{commands_of}
-use Rattle.world.specs.Board.{Ticket}
+use Rattle.world.specs.Progress.{Ticket}
+use Rattle.world.specs.Submitting.{IsRefusedIn}
 use Rattle.world.specs.World.{Entry, takens}
 use Rattle.published.specs.Order.{IsLegal}
 use Rattle.hub.specs.Given.{GaveTicket}
@@ -21,12 +19,9 @@ abbrev pub all_found : Option (List Entry) → List Entry
 all_found None = []
 all_found (Some order) = order
 
--- The rule of acceptance refuses a command so after this order; or it is refused as out of memory, where the rule's answer needs something
--- that is made in memory.
+-- a command is refused so after this order
 abbrev pub IsRefusedAfter : State → List Entry → Command → Refusal → Type 0
-IsRefusedAfter start order command refusal =
-    ((refusal ≡ NoMemory) × (may_want_memory command.action (answer (fold start (takens order)) command) ≡ true))
-    ⊎ (answer (fold start (takens order)) command ≡ Refuses refusal)
+IsRefusedAfter start order command refusal = IsRefusedIn (fold start (takens order)) command refusal
 
 module _ {L : Type 0} where
   -- What comes of a command behind which the order is this: a ticket of just this order, or a refusal by it. That the store had failed or

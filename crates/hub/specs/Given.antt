@@ -1,12 +1,11 @@
 -- The answer to a command that is submitted at a hub.
-use Rattle.std.specs.Prelude.{◌≡◌, ◌⊎◌, Bool, true, false, Some, Result, Ok, Err}
+use Rattle.std.specs.Prelude.{◌≡◌, Bool, true, false, Some, Result, Ok, Err}
 use Rattle.refusal.specs.declared.Refusal.{Refusal}
-use Rattle.refusal.specs.declared.Refusal.TheVariants.{NoMemory, StoreFailed}
+use Rattle.refusal.specs.declared.Refusal.TheVariants.{StoreFailed}
 use Rattle.revision.specs.Command.{Command}
 use Rattle.revision.specs.State.{State}
-use Rattle.revision.specs.Planned.{may_want_memory}
-use Rattle.revision.specs.Acceptance.{Refuses, answer}
-use Rattle.world.specs.Board.{Board as Inner, Ticket, ticket_of}
+use Rattle.world.specs.Progress.{Progress, Ticket, ticket_of}
+use Rattle.world.specs.Submitting.{IsRefusedIn}
 use Rattle.world.specs.World.{Entry}
 use Rattle.hub.specs.Legal.{IsOfRun}
 use Rattle.hub.specs.declared.submit_error.SubmitError.{SubmitError}
@@ -14,14 +13,11 @@ use Rattle.hub.specs.declared.submit_error.SubmitError.TheVariants.{Stopped, ByB
 
 -- A board gave this ticket for a command at some moment of a run that began with this state.
 abbrev pub GaveTicket : State → Command → Ticket → Type 0
-GaveTicket start command ticket = (board : Inner Entry) × IsOfRun start board × (Some ticket ≡ ticket_of board command)
+GaveTicket start command ticket = (board : Progress Entry) × IsOfRun start board × (Some ticket ≡ ticket_of board command)
 
--- A board refused a command at some moment of such a run: out of memory, where the answer then rested on what is to be made in memory, or
--- as the rule of acceptance refuses it there.
+-- A board refused a command so at some moment of such a run.
 abbrev pub WasRefused : State → Command → Refusal → Type 0
-WasRefused start command refusal =
-    ((board : Inner Entry) × IsOfRun start board × (refusal ≡ NoMemory) × (may_want_memory command.action (answer board.state command) ≡ true))
-    ⊎ ((board : Inner Entry) × IsOfRun start board × (answer board.state command ≡ Refuses refusal))
+WasRefused start command refusal = (board : Progress Entry) × IsOfRun start board × IsRefusedIn board.state command refusal
 
 module _ {L : Type 0} where
   -- The answer to a command that is submitted: a board's ticket or its refusal. That the store had failed or the hub had ended a token says.
@@ -40,6 +36,11 @@ module _ {L : Type 0} where
   IsStopped (Ok ticket) = ⊥
   IsStopped (Err (Stopped token)) = Unit {0}
   IsStopped (Err (ByBoard refusal)) = ⊥
+
+  -- what a board answered of it
+  abbrev pub as_board : Result Ticket (SubmitError L) → Result Ticket Refusal
+  as_board (Ok ticket) = Ok ticket
+  as_board (Err why) = Err (refusal_of why)
 
   -- Why a board refused a command: the token, where it had failed, and else the board's refusal.
   abbrev pub WasBy : Bool → Refusal → SubmitError L → Type 0

@@ -6,13 +6,13 @@ use Rattle.revision.specs.State.{State, fold}
 use Rattle.revision.specs.Acceptance.{Reply, TakenAt, AgainAt, Refused}
 use Rattle.recovery.specs.Found.{commands_of}
 use Rattle.published.specs.Order.{IsLegal}
-use Rattle.world.specs.Board.{Board as Inner}
+use Rattle.world.specs.Progress.{Progress}
 use Rattle.world.specs.World.{Entry, takens}
 
--- a board of a world, whether the store under it has failed, the batches that were published up to what is settled, and how many seats
--- there are left to give
+-- the order and how far it is written, whether the store under it has failed, the batches that were published up to what is settled, and how
+-- many seats there are left to give
 pub record Board : Type 0 where
-  pub board : Inner Entry
+  pub progress : Progress Entry
   pub failed : Bool
   pub told : List (List Taken)
   pub left : ℕ
@@ -23,13 +23,13 @@ pub record Tally : Type 0 where
   pub counted : ℕ
 
 -- the order is a legal history from the start, and the state is its fold
-pub record IsHistory (board : Inner Entry) : Type 0 where
+pub record IsHistory (board : Progress Entry) : Type 0 where
   pub legal : IsLegal board.start board.order
   pub state : board.state ≡ fold board.start (takens board.order)
 
 -- No more is settled than is taken off, no more is taken off than the order has, and what was published is the prefix of the order that is
 -- settled.
-pub record IsWithin (board : Inner Entry) (told : List (List Taken)) : Type 0 where
+pub record IsWithin (board : Progress Entry) (told : List (List Taken)) : Type 0 where
   pub settled : board.settled ≤ board.taken
   pub taken : board.taken ≤ length board.order
   pub published : length (commands_of told) ≡ board.settled
@@ -42,12 +42,12 @@ counted count (AgainAt revision) = count
 counted count (Refused refusal) = count
 
 -- a board at some moment of a run that began with this state: its order is a legal history
-pub record IsOfRun (start : State) (board : Inner Entry) : Type 0 where
+pub record IsOfRun (start : State) (board : Progress Entry) : Type 0 where
   pub begun : board.start ≡ start
   pub history : IsHistory board
 
 -- the order had so many commands at some moment of such a run
 pub record WasOrdered (start : State) (count : ℕ) : Type 0 where
-  pub board : Inner Entry
+  pub board : Progress Entry
   pub run : IsOfRun start board
   pub ordered : count ≡ length board.order

@@ -4,7 +4,7 @@ use mathlib.Core.List.{IsPrefix}
 use Rattle.revision.specs.Command.{Taken, Command}
 use Rattle.revision.specs.State.{State, fold}
 use Rattle.revision.specs.Acceptance.{Takes, Repeats, Reply, TakenAt, AgainAt, Refused, answer}
-use Rattle.world.specs.Board.{Board, Ticket, submitted, ticket_of}
+use Rattle.world.specs.Progress.{Progress, Ticket, submitted, ticket_of}
 use Rattle.world.specs.World.{Entry, entry_of, takens}
 use Rattle.published.specs.Order.{HasNumber, IsLegal}
 use Rattle.hub.specs.Legal.{IsHistory}
@@ -30,8 +30,8 @@ pub record StandsFirst (start : State) (ticket : Ticket) (commands : List Taken)
   pub first : IsPrefix (takens order) commands
 
 -- What a board is after it has given a ticket, by the order before it.
-pub record WasSubmitted (start : State) (order : List Entry) (ticket : Ticket) (new : Board Entry) : Type 0 where
-  pub old : Board Entry
+pub record WasSubmitted (start : State) (order : List Entry) (ticket : Ticket) (new : Progress Entry) : Type 0 where
+  pub old : Progress Entry
   pub ordered : order ≡ old.order
   pub begun : old.start ≡ start
   pub history : IsHistory old

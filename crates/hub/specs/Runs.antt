@@ -6,7 +6,7 @@ use Rattle.revision.specs.Made.{AreMade}
 use Rattle.revision.specs.State.{State, fold}
 use Rattle.journal.specs.BatchSpelling.{batch_width}
 use Rattle.recovery.specs.Found.{commands_of}
-use Rattle.world.specs.Board.{Board, can_settle}
+use Rattle.world.specs.Progress.{Progress, can_settle}
 use Rattle.world.specs.World.{Entry, takens}
 
 -- The longest run of the first commands that the journal spells in so many bytes as one batch: it is none, or fits, and one command
@@ -34,12 +34,12 @@ abbrev pub AreMadeThere : State → List Entry → ℕ → List Taken → List (
 AreMadeThere start order place commands documents = AreMade (fold start (takens (take place order))) commands documents
 
 -- the commands that are not taken off yet
-abbrev pub untaken : Board Entry → List Taken
+abbrev pub untaken : Progress Entry → List Taken
 untaken board = takens (drop board.taken board.order)
 
 -- A batch may be settled: it is the next part of the order after what is settled, all of it is taken off, and what was told to be
 -- published ends with it.
-pub record MaySettle (board : Board Entry) (batch : List Taken) (told : ℕ) : Type 0 where
+pub record MaySettle (board : Progress Entry) (batch : List Taken) (told : ℕ) : Type 0 where
   pub next : batch ≡ takens (take (length batch) (drop board.settled board.order))
   pub count : can_settle board (length batch) told ≡ true
 

@@ -1,6 +1,6 @@
 -- What lies under a hub's lock: the board, those who wait at places until so many commands are settled, and the turns of batches at which
 -- they are woken; and who is told and woken when a batch is settled.
-use Rattle.std.specs.Prelude.{◌≡◌, ◌≤◌, ◌<◌, ◌+◌, ◌^◌, ◌-◌, ◌%◌, ℕ, Bool, true, false, not, List, map, set, replicate, get_or, min, max, nat_le, if◌then◌else◌}
+use Rattle.std.specs.Prelude.{◌≡◌, ◌≤◌, ◌<◌, ◌+◌, ◌^◌, ◌-◌, ◌%◌, ℕ, Bool, true, false, not, List, map, get_or, min, max, nat_le, if◌then◌else◌}
 use Rattle.hub.specs.declared.waiting.Awaited.{Awaited}
 use Rattle.hub.specs.Legal.{Board}
 
@@ -16,6 +16,10 @@ pub record Locked : Type 0 where
   pub awaited : List Awaited
   pub turns : Turns
   pub ended : Bool
+
+-- Nothing else has changed than the order, and what is awaited.
+abbrev pub OrdersAlone : Locked → Locked → Type 0
+OrdersAlone old new = new ≡ record old { board = record old.board { progress = new.board.progress }; awaited = new.awaited }
 
 -- what is noted at a place where nobody waits
 abbrev pub nobody : Awaited

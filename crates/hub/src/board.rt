@@ -1,17 +1,18 @@
 //! The board.
-ghost use Rattle.std.specs.Prelude.{◌≡◌, ◌⊎◌, ◌↔◌, ◌≤◌, ◌<◌, ◌+◌, ◌-◌, ◌^◌, ◌++◌, ◌∷◌, true, false, List, [], Some, None, Ok, length, take, drop, IfOk, IfErr, IfSome, OnOk, OnErr, IsTrue, IsOk, IsErrOf};
+ghost use Rattle.std.specs.Prelude.{◌≡◌, ◌⊎◌, ◌↔◌, ◌≤◌, ◌<◌, ◌+◌, ◌-◌, ◌^◌, ◌++◌, ◌∷◌, true, false, List, [], Some, None, Ok, length, take, drop, IfOk, IfErr, IfSome, OnOk, OnErr, IsTrue, IsErrOf};
 ghost use mathlib.Core.List.{IsPrefix};
-ghost use Rattle.revision.specs.Acceptance.{answer, Refuses};
+ghost use Rattle.revision.specs.Acceptance.{answer};
 ghost use Rattle.revision.specs.Made.{text_at};
-ghost use Rattle.revision.specs.Planned.{may_want_memory};
 ghost use Rattle.recovery.specs.Found.{commands_of};
 ghost use Rattle.recovery.specs.Open.{state_of};
-ghost use Rattle.world.specs.Board.{begun_board, submitted, ticket_of, next_run, taken_more, settled_more, can_ack};
-ghost use Rattle.world.specs.World.{Entry as OrderEntry, entry_of, takens};
+ghost use Rattle.world.specs.Progress.{begun_progress, submitted};
+ghost use Rattle.world.specs.World.{Entry as OrderEntry, takens};
 ghost use Rattle.published.specs.Order.{IsLegal};
 ghost use Rattle.hub.specs.Legal.{IsHistory, IsOfRun, IsWithin, counted};
-ghost use Rattle.hub.specs.Placed.{IsPlaced, StandsFirst, WasSubmitted};
-ghost use Rattle.hub.specs.Runs.{AreMadeThere, IsLongest, untaken, MaySettle};
+ghost use Rattle.hub.specs.Placed.{IsPlaced, WasSubmitted};
+ghost use Rattle.hub.specs.Runs.{AreMadeThere, untaken};
+ghost use Rattle.hub.specs.Moves.{IsSubmittedTo, IsTakenOff, IsSettledOn, IsAcked, StandsAt};
+ghost use Rattle.hub.specs.Submitted.{counted_by};
 
 use crate::ahead::moved_in;
 use crate::cause::Cause;
@@ -20,7 +21,7 @@ use crate::run::{Run, copied, is_beginning, longest};
 use crate::seat::{PLACES, Seat, Tally, Ticket, count};
 use disk::Disk;
 use document::Document;
-use published::{Counts, Life, Order, Ordered, Told};
+use published::{Ledgers, Life, Order, Ordered, Told};
 use recovery::{Receipt, Store};
 use refusal::Refusal;
 use revision::{Batch, Command, Reply, State};
@@ -28,7 +29,7 @@ use std::alloc::{AllocError, Global};
 use std::marker::Model;
 use std::mem;
 use std::sync::ledger::{Blank, Book, Share};
-use world::{Board as Inner, Entry};
+use world::{Entry, Progress};
 
 /// Bound on the kept documents times the newest one's length, in UTF-16 code units.
 const MAX_KEPT_UNITS: u64 = 1 << 22;
@@ -40,8 +41,8 @@ const MAX_KEPT_UNITS: u64 = 1 << 22;
 /// beside the first of them, since behind one that has none no further one is kept. Beside it stands `C`: the ledgers that a hub counts in
 /// what its writer takes off and settles, which the board of a hub has no more.
 #[derive(Drop)]
-pub struct Board<D, L: Life, C = Counts<L>> {
-    board: Inner,
+pub struct Board<D, L: Life, C = Ledgers<L>> {
+    progress: Progress,
     order: Order<L, ()>,
     counts: C,
     failed: bool,
@@ -60,12 +61,12 @@ impl<D, L: Life, C> Model for Board<D, L, C> {
 
     ghost Value = { spec.Board };
 
-    ghost view = { λ b. record { board = b.board; failed = b.failed; told = b.told; left = b.left } };
+    ghost view = { λ b. record { progress = b.progress; failed = b.failed; told = b.told; left = b.left } };
 
-    ghost invariant = { λ b. spec.IsHistory b.board × spec.IsWithin b.board b.told × (b.board.start ≡ L.start)
-        × (b.seats.total ≡ length b.board.order) × (b.spare.parts ≡ b.left + 1) × (b.order ≡ b.board.order)
+    ghost invariant = { λ b. spec.IsHistory b.progress × spec.IsWithin b.progress b.told × (b.progress.start ≡ L.start)
+        × (b.seats.total ≡ length b.progress.order) × (b.spare.parts ≡ b.left + 1) × (b.order ≡ b.progress.order)
         × (b.spare.amount ≡ 0)
-        × AreMadeThere L.start b.board.order b.board.taken (untaken b.board) b.made.items };
+        × AreMadeThere L.start b.progress.order b.progress.taken (untaken b.progress) b.made.items };
 }
 
 impl<D, L: Life> Board<D, L> {
@@ -89,13 +90,13 @@ impl<D, L: Life> Board<D, L> {
         requires name { blank.name ≡ L.name }
         requires parts { blank.parts ≡ L.parts }
         requires seats { blank.parts ≡ seats + 1 }
-        ensures { result ≡ record { board = begun_board state; failed = false; told = []; left = seats } }
+        ensures { result ≡ record { progress = begun_progress state; failed = false; told = []; left = seats } }
     {
         let _ = store;
         let (book, spare) = blank.open::<L>();
-        let (order, counts) = order.without_counts();
+        let (order, counts) = order.without_ledgers();
         Board {
-            board: Inner::new(alloc, state),
+            progress: Progress::new(alloc, state),
             order,
             counts,
             failed: false,
@@ -109,11 +110,11 @@ impl<D, L: Life> Board<D, L> {
     }
 
     // The board of a hub, and the ledgers that the hub counts in.
-    pub(crate) fn without_counts(self) -> (Board<D, L, ()>, Counts<L>)
+    pub(crate) fn without_ledgers(self) -> (Board<D, L, ()>, Ledgers<L>)
         ensures { result.0 ≡ self }
     {
         let Board {
-            board,
+            progress,
             order,
             counts,
             failed,
@@ -125,7 +126,7 @@ impl<D, L: Life> Board<D, L> {
             made,
         } = self;
         let bare = Board {
-            board,
+            progress,
             order,
             counts: (),
             failed,
@@ -143,14 +144,14 @@ impl<D, L: Life> Board<D, L> {
     /// is as long as what the seats have counted. It gives that length, and takes no memory.
     pub fn end(self, seats: Tally<L>, ordered: &Ordered<L>) -> usize
         requires all { seats.seats + 1 ≡ L.parts }
-        ensures ordered { result ≡ length self.board.order }
-        ensures run { IsOfRun L.start self.board }
-        ensures begins { IsPrefix ordered.now self.board.order }
-        ensures counts { length self.board.order ≡ seats.counted }
+        ensures ordered { result ≡ length self.progress.order }
+        ensures run { IsOfRun L.start self.progress }
+        ensures begins { IsPrefix ordered.now self.progress.order }
+        ensures counts { length self.progress.order ≡ seats.counted }
     {
         let count = self.ordered();
         let Board {
-            board: _board,
+            progress: _progress,
             mut order,
             counts: _counts,
             failed: _,
@@ -170,11 +171,11 @@ impl<D, L: Life> Board<D, L> {
 
 impl<D, L: Life> Board<D, L, ()> {
     // The board of a hub that has ended, with the ledgers.
-    pub(crate) fn with_counts(self, counts: Counts<L>) -> Board<D, L>
+    pub(crate) fn with_ledgers(self, counts: Ledgers<L>) -> Board<D, L>
         ensures { result ≡ self }
     {
         let Board {
-            board,
+            progress,
             order,
             counts: _,
             failed,
@@ -186,7 +187,7 @@ impl<D, L: Life> Board<D, L, ()> {
             made,
         } = self;
         Board {
-            board,
+            progress,
             order,
             counts,
             failed,
@@ -203,48 +204,48 @@ impl<D, L: Life> Board<D, L, ()> {
 impl<D, L: Life, C> Board<D, L, C> {
     /// The state after the whole order, which is a legal history from the state that the store was opened with.
     pub fn state(&self) -> &State
-        ensures state { result.now ≡ self.now.board.state }
-        ensures start { self.now.board.start ≡ L.start }
-        ensures history { IsHistory self.now.board }
-        ensures within { IsWithin self.now.board self.now.told }
+        ensures state { result.now ≡ self.now.progress.state }
+        ensures start { self.now.progress.start ≡ L.start }
+        ensures history { IsHistory self.now.progress }
+        ensures within { IsWithin self.now.progress self.now.told }
     {
-        self.board.state()
+        self.progress.state()
     }
 
     /// How many commands the order has.
     pub fn ordered(&self) -> usize
-        ensures ordered { result ≡ length self.now.board.order }
-        ensures run { IsOfRun L.start self.now.board }
+        ensures ordered { result ≡ length self.now.progress.order }
+        ensures run { IsOfRun L.start self.now.progress }
     {
-        self.board.ordered()
+        self.progress.ordered()
     }
 
     /// What each board keeps, for the prover. It does nothing.
     pub(crate) fn facts(&self)
-        ensures run { IsOfRun L.start self.now.board }
-        ensures bound { length self.now.board.order < 2 ^ 64 }
+        ensures run { IsOfRun L.start self.now.progress }
+        ensures bound { length self.now.progress.order < 2 ^ 64 }
     {
-        self.board.facts();
+        self.progress.facts();
     }
 
     /// How many commands of the order are settled.
     pub fn settled(&self) -> usize
-        ensures { result ≡ self.now.board.settled }
+        ensures { result ≡ self.now.progress.settled }
     {
-        self.board.settled()
+        self.progress.settled()
     }
 
     // How many commands of the order are taken off.
     pub(crate) fn taken(&self) -> usize
-        ensures taken { result ≡ self.now.board.taken }
-        ensures bound { result ≤ length self.now.board.order }
+        ensures taken { result ≡ self.now.progress.taken }
+        ensures bound { result ≤ length self.now.progress.order }
     {
-        self.board.taken()
+        self.progress.taken()
     }
 
     // The token of the whole order.
     pub(crate) fn order(&self) -> Ordered<L>
-        ensures { result ≡ self.now.board.order }
+        ensures { result ≡ self.now.progress.order }
     {
         self.order.ordered()
     }
@@ -265,9 +266,9 @@ impl<D, L: Life, C> Board<D, L, C> {
 
     /// Whether all commands of the order are taken off.
     pub fn is_idle(&self) -> bool
-        ensures { IsTrue result ↔ (untaken self.now.board ≡ []) }
+        ensures { IsTrue result ↔ (untaken self.now.progress ≡ []) }
     {
-        self.board.untaken().is_empty()
+        self.progress.untaken().is_empty()
     }
 
     /// A seat more, with nothing counted yet. Refused with `NoSeat` exactly when none is left, and then nothing has changed. It takes no memory.
@@ -303,22 +304,8 @@ impl<D, L: Life, C> Board<D, L, C> {
         seat: &mut Seat<L>,
         command: &Command,
     ) -> Result<Ticket<L>, Refusal>
-        ensures ok { OnOk result (self.new
-            ≡ record self.old { board = submitted (entry_of command.now) self.old.board command.now }) }
-        ensures ticket { IfOk result (λ ticket. Some ticket ≡ ticket_of self.old.board command.now) }
-        ensures placed { IfOk result (λ ticket. IsPlaced L.start self.new.board.order ticket) }
-        ensures command { IfOk result (λ ticket. ticket.command ≡ command.now) }
-        ensures counts { IfOk result (λ ticket. seat.new ≡ counted seat.old ticket.reply) }
-        ensures works { OnOk result (self.old.failed ≡ false) }
-        ensures failed { self.old.failed ≡ true → IsErrOf result Refusal.StoreFailed }
-        ensures refused { self.old.failed ≡ false
-            → IfErr result (λ e. (e ≡ Refusal.NoMemory) ⊎ (answer self.old.board.state command.now ≡ Refuses e)) }
-        ensures memory { self.old.failed ≡ false → IsErrOf result Refusal.NoMemory
-            → may_want_memory command.now.action (answer self.old.board.state command.now) ≡ true }
-        ensures unchanged { OnErr result (self.new ≡ self.old) }
-        ensures uncounted { OnErr result (seat.new ≡ seat.old) }
-        ensures start { self.old.board.start ≡ L.start }
-        ensures history { IsHistory self.old.board }
+        ensures submitted { IsSubmittedTo L.start self.old command.now result self.new }
+        ensures counts { seat.new ≡ counted_by seat.old result }
     {
         if self.failed {
             return Err(Refusal::StoreFailed);
@@ -327,10 +314,10 @@ impl<D, L: Life, C> Board<D, L, C> {
         command.facts();
         let ahead = seat.ahead_for(command);
         let moved = moved_in(&ahead, &mut self.order);
-        match self.board.submit_moved(alloc, command, moved) {
+        match self.progress.submit(alloc, command, moved) {
             Ok(ticket) => {
-                keep_made(alloc, &mut self.made, &self.order, &self.board, &ticket);
-                order_taken(&mut self.order, &self.board, &ticket);
+                keep_made(alloc, &mut self.made, &self.order, &self.progress, &ticket);
+                order_taken(&mut self.order, &self.progress, &ticket);
                 count(&mut self.seats, &mut seat.share, ticket.reply());
                 Ok(Ticket {
                     ticket,
@@ -346,7 +333,7 @@ impl<D, L: Life, C> Board<D, L, C> {
     // Finds the whole order of it, which begins with what was found before, and with what was told.
     pub(crate) fn find(&mut self, told: &Told<D, L>, found: &mut Found<L>)
         ensures same { self.new ≡ self.old }
-        ensures whole { found.new ≡ self.old.board.order }
+        ensures whole { found.new ≡ self.old.progress.order }
         ensures legal { IsLegal L.start found.new }
         ensures found { IsPrefix found.old found.new }
         ensures begins { IsPrefix (commands_of told.now) (takens found.new) }
@@ -366,21 +353,16 @@ impl<D, L: Life, C> Board<D, L, C> {
     /// Takes off the longest run of the next commands whose batch has at most `cap` bytes, and gives a copy of it, with the documents that
     /// are kept beside these commands; it is empty where there is none. Refused as out of memory alone, and then nothing has changed.
     pub fn take(&mut self, alloc: Global, cap: u32) -> Result<Run<D, L>, AllocError>
-        ensures longest { IfOk result (λ run. IsLongest cap (untaken self.old.board) (length run.commands)) }
-        ensures run { IfOk result (λ run. run.commands ≡ takens (next_run self.old.board (length run.commands))) }
-        ensures cap { IfOk result (λ run. run.cap ≡ cap) }
-        ensures place { IfOk result (λ run. run.place ≡ self.old.board.taken) }
-        ensures board { IfOk result (λ run. self.new
-            ≡ record self.old { board = taken_more self.old.board (length run.commands) }) }
+        ensures taken { IfOk result (λ run. IsTakenOff self.old cap run self.new) }
         ensures unchanged { OnErr result (self.new ≡ self.old) }
     {
-        let untaken = self.board.untaken();
+        let untaken = self.progress.untaken();
         let count = longest(untaken, cap);
         let batch = Batch::of(alloc, copied(alloc, &untaken[..count])?)?;
         let rest = parted(&mut self.made, count)?;
         let made = mem::replace(&mut self.made, Vec::new(alloc));
         let run = Run::by_board(self, batch, made, cap);
-        self.board.take(count);
+        self.progress.take(count);
         self.made = rest;
         Ok(run)
     }
@@ -389,20 +371,14 @@ impl<D, L: Life, C> Board<D, L, C> {
     /// next part of the order that is taken off, or the token has not as many commands as the order has with it; nothing has changed then.
     /// What the token names begins the order in any case. It takes no memory.
     pub fn settle(&mut self, receipt: &Receipt<D>, told: Told<D, L>) -> Result<(), Refusal>
-        ensures ok { OnOk result (self.new
-            ≡ record self.old { board = settled_more self.old.board (length receipt.now.batch); told = told }) }
-        ensures may { OnOk result (MaySettle self.old.board receipt.now.batch (length (commands_of told))) }
-        ensures stranger { MaySettle self.old.board receipt.now.batch (length (commands_of told)) → IsOk result }
-        ensures begins { IsPrefix (commands_of told) (takens self.old.board.order) }
-        ensures only { IfErr result (λ e. e ≡ Refusal.Stranger) }
-        ensures unchanged { OnErr result (self.new ≡ self.old) }
+        ensures { IsSettledOn self.old receipt.now.batch told result self.new }
     {
         self.order.covers(&told);
         let batch = receipt.batch().as_slice();
-        if !is_beginning(batch, self.board.unsettled()) {
+        if !is_beginning(batch, self.progress.unsettled()) {
             return Err(Refusal::Stranger);
         }
-        if !self.board.settle(batch.len(), told.len() as usize) {
+        if !self.progress.settle(batch.len(), told.len() as usize) {
             return Err(Refusal::Stranger);
         }
         self.told = told;
@@ -412,14 +388,12 @@ impl<D, L: Life, C> Board<D, L, C> {
     /// Acknowledges a ticket: the token of what was published, exactly when the ticket's length is settled, which stays so once the store has failed. Else
     /// refused with `StoreFailed` where the store has failed, and `None` where it hasn't. It takes no memory.
     pub fn ack(&self, ticket: &Ticket<L>) -> Result<Option<Told<D, L>>, Refusal>
-        ensures settled { (can_ack self.now.board ticket.now ≡ true) ↔ (result ≡ Ok (Some self.now.told)) }
-        ensures waits { (result ≡ Ok None) ↔ ((can_ack self.now.board ticket.now ≡ false) × (self.now.failed ≡ false)) }
-        ensures holds { IfOk result (λ told. IfSome told (λ t. ticket.now.length ≤ length (commands_of t))) }
-        ensures stands { IfOk result (λ told. IfSome told (λ t. StandsFirst L.start ticket.now (commands_of t))) }
+        ensures answer { IsAcked self.now ticket.now result }
+        ensures stands { StandsAt L.start ticket.now result }
         ensures only { IfErr result (λ e. e ≡ Refusal.StoreFailed) }
         ensures failed { OnErr result (self.now.failed ≡ true) }
     {
-        if self.board.acknowledges(&ticket.ticket) {
+        if self.progress.acknowledges(&ticket.ticket) {
             ticket.stands(&self.told);
             return Ok(Some(self.told.copy()));
         }
@@ -462,13 +436,13 @@ fn least(used: &[u32; 64]) -> usize
 }
 
 // Puts the command of a ticket that the board has just given behind the run's order, if the board took it.
-fn order_taken<L: Life>(order: &mut Order<L, ()>, board: &Inner, ticket: &world::Ticket)
-    requires { WasSubmitted L.start order.old ticket.now board.now }
-    ensures order { order.new ≡ board.now.order }
+fn order_taken<L: Life>(order: &mut Order<L, ()>, progress: &Progress, ticket: &world::Ticket)
+    requires { WasSubmitted L.start order.old ticket.now progress.now }
+    ensures order { order.new ≡ progress.now.order }
     ensures placed { IsPlaced L.start order.new ticket.now }
 {
     match ticket.reply() {
-        Reply::Taken { rev: _ } => order.put(last_ordered(board)),
+        Reply::Taken { rev: _ } => order.put(last_ordered(progress)),
         Reply::Again { rev: _ } => {}
     }
 }
@@ -479,30 +453,30 @@ fn keep_made<L: Life>(
     alloc: Global,
     made: &mut Vec<Document>,
     order: &Order<L, ()>,
-    board: &Inner,
+    progress: &Progress,
     ticket: &world::Ticket,
 )
-    requires given { WasSubmitted L.start order.now ticket.now board.now }
-    requires made { AreMadeThere L.start order.now board.now.taken (takens (drop board.now.taken order.now)) made.old.items }
-    ensures { AreMadeThere L.start board.now.order board.now.taken (untaken board.now) made.new.items }
+    requires given { WasSubmitted L.start order.now ticket.now progress.now }
+    requires made { AreMadeThere L.start order.now progress.now.taken (takens (drop progress.now.taken order.now)) made.old.items }
+    ensures { AreMadeThere L.start progress.now.order progress.now.taken (untaken progress.now) made.new.items }
 {
     let _ = order;
     match ticket.reply() {
-        Reply::Taken { rev: _ } => keep_last(alloc, made, board, last_ordered(board)),
+        Reply::Taken { rev: _ } => keep_last(alloc, made, progress, last_ordered(progress)),
         Reply::Again { rev: _ } => {}
     }
 }
 
 // Keeps what stands in the document of a command, behind as many documents as there are commands before the last one, or leaves them.
-fn keep_last(alloc: Global, made: &mut Vec<Document>, board: &Inner, last: &Entry)
+fn keep_last(alloc: Global, made: &mut Vec<Document>, progress: &Progress, last: &Entry)
     ensures { (made.new.items ≡ made.old.items)
-        ⊎ ((length made.old.items + 1 ≡ length (untaken board.now))
-        × (made.new.items ≡ made.old.items ++ text_at board.now.state last.now.taken.document ∷ [])) }
+        ⊎ ((length made.old.items + 1 ≡ length (untaken progress.now))
+        × (made.new.items ≡ made.old.items ++ text_at progress.now.state last.now.taken.document ∷ [])) }
 {
-    if made.len() + 1 != board.untaken().len() {
+    if made.len() + 1 != progress.untaken().len() {
         return;
     }
-    if let Some(document) = document_of(board.state(), last.taken().document_number()) {
+    if let Some(document) = document_of(progress.state(), last.taken().document_number()) {
         if may_keep(made.len(), document) {
             push_copy(alloc, made, document);
         }
@@ -546,11 +520,11 @@ fn parted(made: &mut Vec<Document>, count: usize) -> Result<Vec<Document>, Alloc
 }
 
 // The command that was ordered last, which isn't taken off yet.
-fn last_ordered(board: &Inner) -> &Entry
-    requires { board.now.taken < length board.now.order }
-    ensures { (before : List OrderEntry) (last : OrderEntry) → board.now.order ≡ before ++ last ∷ []
-        → board.now.taken ≤ length before → result.now ≡ last }
+fn last_ordered(progress: &Progress) -> &Entry
+    requires { progress.now.taken < length progress.now.order }
+    ensures { (before : List OrderEntry) (last : OrderEntry) → progress.now.order ≡ before ++ last ∷ []
+        → progress.now.taken ≤ length before → result.now ≡ last }
 {
-    let untaken = board.untaken();
+    let untaken = progress.untaken();
     &untaken[untaken.len() - 1]
 }

@@ -2,7 +2,6 @@
 ghost use Rattle.std.specs.Prelude.{◌≡◌, ◌⊎◌, true, false, List};
 ghost use Rattle.recovery.specs.Freed.{IsSpent};
 ghost use Rattle.recovery.specs.Open.{IsOpen, has_failed, has_room};
-ghost use Rattle.recovery.specs.declared.store.Store.{Store as Kept};
 ghost use Rattle.revision.specs.Command.{Taken};
 
 use disk::Disk;
@@ -10,6 +9,7 @@ use published::{Life, Log};
 use recovery::Store;
 use refusal::Refusal;
 use std::marker::{Model, PhantomData};
+use std::snapshot::Snapshot;
 
 /// Why the store of a life takes no batch any more: its device has failed, or a batch had no room in it and the last segment that there can
 /// be was opened. Only who has the life's log of what is published makes one, which is its flusher alone. It can't be copied, and ending a
@@ -42,14 +42,15 @@ impl<L: Life> Cause<L> {
         }
     }
 
-    /// A batch had no room in the store, whose last segment was opened, by whoever has the life's log.
-    pub fn full<D: Disk>(log: &Log<D, L>, refusal: Refusal) -> Cause<L>
+    /// A batch had no room in the store of this moment, whose last segment was opened, by whoever has the life's log.
+    pub fn full<D: Disk>(log: &Log<D, L>, then: &Snapshot<Store<D>>, refusal: Refusal) -> Cause<L>
         requires full { (refusal ≡ Refusal.JournalFull) ⊎ (refusal ≡ Refusal.StillNeeded) }
-        requires room { (before : Kept D ⟦<D as Disk>⟧) × (batch : List Taken) × (has_room before batch ≡ false)
-            × (IsOpen before → IsSpent before) }
+        requires room { (batch : List Taken) × (has_room then.now.value batch ≡ false) }
+        requires last { IsOpen then.now.value → IsSpent then.now.value }
         ensures { result ≡ refusal }
     {
         let _ = log;
+        let _ = then;
         Cause {
             refusal,
             of: PhantomData,

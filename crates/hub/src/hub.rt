@@ -38,17 +38,17 @@
 //!
 //! Who waits relies on others to go on: on the flusher to settle or fail what it took off, and on the thread that has settled, failed or
 //! submitted to get to its wake or notification.
-ghost use Rattle.std.specs.Prelude.{◌≡◌, ◌⊎◌, ◌≤◌, ◌<◌, [], length, map, IfOk, IfErr, IfSome, OnErr};
+ghost use Rattle.std.specs.Prelude.{◌≡◌, ◌<◌, length, map, IfOk, IfErr, OnErr};
 ghost use Rattle.std.specs.Vec.{vec_len};
-ghost use Rattle.journal.specs.BatchSpelling.{batch_width};
 ghost use mathlib.Core.List.{IsPrefix};
 ghost use Rattle.recovery.specs.Found.{commands_of};
 ghost use Rattle.hub.specs.Found.{AreSubmittedAfter, IsSubmittedAfter};
 ghost use Rattle.hub.specs.Given.{WasGiven};
-ghost use Rattle.hub.specs.Legal.{counted, WasOrdered};
+ghost use Rattle.hub.specs.Legal.{WasOrdered};
 ghost use Rattle.hub.specs.Placed.{StandsFirst};
-ghost use Rattle.hub.specs.Runs.{ComesNext, counts_settled, counts_taken};
+ghost use Rattle.hub.specs.Runs.{ComesNext};
 ghost use Rattle.hub.specs.Submitted.{counted_all, counted_by};
+ghost use Rattle.hub.specs.Moves.{ComesOff, IsSettledNext, StandsAt};
 
 use crate::board::Board;
 use crate::cause::Cause;
@@ -92,7 +92,7 @@ pub struct Hub<D, L: Life> {
 impl<D, L: Life> Hub<D, L> {
     /// A hub of a board, the only right to write what it orders, and the only right to end it. It takes no memory.
     pub fn new(board: Board<D, L>) -> (Hub<D, L>, Writer<L>, Closer<L>)
-        ensures writer { result.1 ≡ record { taken = board.board.taken; settled = board.board.settled } }
+        ensures writer { result.1 ≡ record { taken = board.progress.taken; settled = board.progress.settled } }
     {
         let told = board.told().copy();
         let (kept, writer, closer) = Locked::new(board);
@@ -134,8 +134,7 @@ impl<D, L: Life> Hub<D, L> {
     ) -> Result<Ticket<L>, SubmitError<L>>
         ensures given { WasGiven L.start command.now result }
         ensures command { IfOk result (λ ticket. ticket.command ≡ command.now) }
-        ensures counts { IfOk result (λ ticket. seat.new ≡ counted seat.old ticket.reply) }
-        ensures uncounted { OnErr result (seat.new ≡ seat.old) }
+        ensures counts { seat.new ≡ counted_by seat.old result }
     {
         let place = seat.place();
         let mut kept = self.held(rt);
@@ -227,10 +226,7 @@ impl<D, L: Life> Hub<D, L> {
         writer: &mut Writer<L>,
         cap: u32,
     ) -> Result<Run<D, L>, AllocError>
-        ensures fits { IfOk result (λ run. (run.commands ≡ []) ⊎ (batch_width run.commands ≤ cap)) }
-        ensures cap { IfOk result (λ run. run.cap ≡ cap) }
-        ensures place { IfOk result (λ run. run.place ≡ writer.old.taken) }
-        ensures counts { IfOk result (λ run. writer.new ≡ counts_taken writer.old (length run.commands)) }
+        ensures next { IfOk result (λ run. ComesOff writer.old cap run writer.new) }
         ensures uncounted { OnErr result (writer.new ≡ writer.old) }
     {
         self.held(rt).take(alloc, writer, cap)
@@ -246,8 +242,7 @@ impl<D, L: Life> Hub<D, L> {
         told: Told<D, L>,
     ) -> Settled<D, L>
         requires next { ComesNext writer.old receipt.now.batch told }
-        ensures settled { result ≡ told }
-        ensures counts { writer.new ≡ counts_settled writer.old (length receipt.now.batch) }
+        ensures { IsSettledNext writer.old receipt.now.batch told result writer.new }
     {
         let shown = told.copy();
         let (settled, woken) = self.held(rt).settle(writer, receipt, told);
@@ -290,8 +285,7 @@ impl<D, L: Life> Hub<D, L> {
     /// What `Board::ack` gives for a ticket, at once: a token that holds the ticket's length, `None` where it isn't settled yet, or the token
     /// that the store has failed.
     pub fn ack<R: Wait>(&self, rt: &R, ticket: &Ticket<L>) -> Result<Option<Told<D, L>>, Stopped<L>>
-        ensures holds { IfOk result (λ told. IfSome told (λ t. ticket.now.length ≤ length (commands_of t))) }
-        ensures stands { IfOk result (λ told. IfSome told (λ t. StandsFirst L.start ticket.now (commands_of t))) }
+        ensures { StandsAt L.start ticket.now result }
     {
         self.held(rt).ack(ticket)
     }
@@ -299,8 +293,7 @@ impl<D, L: Life> Hub<D, L> {
     /// Waits until a ticket's length is settled, and gives a token that holds it, by which its order is a prefix of what is published. Refused
     /// with the token that the store has failed, where it failed before that.
     pub fn wait_ack<R: Wait>(&self, rt: &R, ticket: &Ticket<L>) -> Result<Told<D, L>, Stopped<L>>
-        ensures holds { IfOk result (λ told. ticket.now.length ≤ length (commands_of told)) }
-        ensures stands { IfOk result (λ told. StandsFirst L.start ticket.now (commands_of told)) }
+        ensures { IfOk result (λ told. StandsFirst L.start ticket.now (commands_of told)) }
     {
         let turn = &self.turns[ticket.turn()];
         for _ in rt.forever() {

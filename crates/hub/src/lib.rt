@@ -32,7 +32,7 @@
 //! can't end. `Hub::into_board` takes both back, so a board has one of each at a time.
 //!
 //! The `Writer` counts how many commands are taken off and how many are settled, by two ledgers of the life whose books lie under the lock
-//! (`published::Counts`). No other thread changes either, so its counts are the board's. By them each run that is taken off comes next after
+//! (`published::Ledgers`). No other thread changes either, so its counts are the board's. By them each run that is taken off comes next after
 //! those before it, and what comes next is settled: `Hub::settle` refuses nothing (`ComesNext`, specs/Runs.antt).
 //!
 //! Some answers are tokens that nothing else makes: `Settled` where a batch was settled, `Failed` where the hub was told of a failure,

@@ -1,18 +1,15 @@
 //! What lies under the hub's lock, and the two rights to change it that a session doesn't have.
-ghost use Rattle.std.specs.Prelude.{◌≡◌, ◌⊎◌, ◌↔◌, ◌<◌, ◌≤◌, ◌+◌, ◌++◌, ◌∷◌, true, false, [], Some, None, Ok, length, map, set, get_or, replicate, IfOk, IfErr, IfSome, IsOk, IsTrue, IsErrOf, OnOk, OnErr};
+ghost use Rattle.std.specs.Prelude.{◌≡◌, ◌↔◌, ◌<◌, ◌≤◌, ◌+◌, ◌++◌, ◌∷◌, true, false, [], Some, None, Ok, length, map, set, get_or, replicate, IfOk, IfErr, IsErrOf, OnOk, OnErr};
 ghost use Rattle.std.specs.Vec.{vec_len, vec_capacity};
 ghost use mathlib.Core.List.{IsPrefix};
-ghost use Rattle.recovery.specs.Found.{commands_of};
-ghost use Rattle.revision.specs.Acceptance.{answer, Refuses};
-ghost use Rattle.world.specs.Board.{can_ack, next_run, settled_more, submitted, taken_more};
-ghost use Rattle.world.specs.World.{entry_of, takens};
+ghost use Rattle.revision.specs.Acceptance.{answer};
+ghost use Rattle.world.specs.Progress.{can_ack, submitted};
 ghost use Rattle.hub.specs.Found.{AreSubmittedAfter, IsGivenAt, IsSubmittedAfter};
-ghost use Rattle.hub.specs.Given.{IsStopped, refusal_of, WasGiven};
-ghost use Rattle.hub.specs.Legal.{counted};
-ghost use Rattle.hub.specs.Placed.{StandsFirst};
-ghost use Rattle.hub.specs.Runs.{ComesNext, IsLongest, counts_settled, counts_taken, untaken};
+ghost use Rattle.hub.specs.Given.{IsStopped, as_board};
+ghost use Rattle.hub.specs.Runs.{ComesNext};
 ghost use Rattle.hub.specs.Submitted.{counted_all, counted_by};
-ghost use Rattle.hub.specs.Waiting.{AreWoken, NobodyIsForgotten, StillRightly, WaitsRightly, WakesAll, nobody, and_for};
+ghost use Rattle.hub.specs.Waiting.{AreWoken, NobodyIsForgotten, StillRightly, WaitsRightly, WakesAll, nobody, and_for, OrdersAlone};
+ghost use Rattle.hub.specs.Moves.{IsSubmittedTo, IsTakenOff, ComesOff, settled_with, IsSettledNext, IsAcked, StandsAt};
 
 use crate::board::Board;
 use crate::cause::Cause;
@@ -22,7 +19,7 @@ use crate::seat::{Seat, Ticket};
 use crate::submit_error::SubmitError;
 use crate::tokens::{Ended, Failed, Settled, Stopped};
 use crate::waiting::{Awaited, Turns, Woken, covered};
-use published::{Counts, Life, OfSettled, OfTaken, Ordered, Told};
+use published::{Ledgers, Life, OfSettled, OfTaken, Ordered, Told};
 use recovery::Receipt;
 use refusal::Refusal;
 use revision::Command;
@@ -77,7 +74,7 @@ impl<D, L: Life> Model for Locked<D, L> {
 
     ghost view = { λ k. record { board = k.board; awaited = k.awaited; turns = k.turns; ended = k.ended } };
 
-    ghost invariant = { λ k. (k.takes.total ≡ k.board.board.taken) × (k.settles.total ≡ k.board.board.settled) };
+    ghost invariant = { λ k. (k.takes.total ≡ k.board.progress.taken) × (k.settles.total ≡ k.board.progress.settled) };
 }
 
 impl<D, L: Life> Locked<D, L> {
@@ -86,9 +83,9 @@ impl<D, L: Life> Locked<D, L> {
         ensures board { result.0.board ≡ board }
         ensures nobody { result.0.awaited ≡ replicate 64 nobody }
         ensures ended { result.0.ended ≡ false }
-        ensures writer { result.1 ≡ record { taken = board.board.taken; settled = board.board.settled } }
+        ensures writer { result.1 ≡ record { taken = board.progress.taken; settled = board.progress.settled } }
     {
-        let (board, counts) = board.without_counts();
+        let (board, counts) = board.without_ledgers();
         let ((mut takes, mut settles), (mut taken, mut settled)) = counts.parted();
         takes.add(&mut taken, board.taken() as u64);
         settles.add(&mut settled, board.settled() as u64);
@@ -124,7 +121,7 @@ impl<D, L: Life> Locked<D, L> {
         settles.audit(&mut settled);
         takes.sub(&mut taken, board.taken() as u64);
         settles.sub(&mut settled, board.settled() as u64);
-        board.with_counts(Counts::joined((takes, settles), (taken, settled)))
+        board.with_ledgers(Ledgers::joined((takes, settles), (taken, settled)))
     }
 
     // the board, to be read
@@ -176,10 +173,8 @@ impl<D, L: Life> Locked<D, L> {
 
     // what `Board::ack` gives
     pub(crate) fn ack(&self, ticket: &Ticket<L>) -> Result<Option<Told<D, L>>, Stopped<L>>
-        ensures settled { (can_ack self.now.board.board ticket.now ≡ true) ↔ (result ≡ Ok (Some self.now.board.told)) }
-        ensures waits { (result ≡ Ok None) ↔ ((can_ack self.now.board.board ticket.now ≡ false) × (self.now.board.failed ≡ false)) }
-        ensures holds { IfOk result (λ told. IfSome told (λ t. ticket.now.length ≤ length (commands_of t))) }
-        ensures stands { IfOk result (λ told. IfSome told (λ t. StandsFirst L.start ticket.now (commands_of t))) }
+        ensures answer { IsAcked self.now.board ticket.now result }
+        ensures stands { StandsAt L.start ticket.now result }
     {
         match self.board.ack(ticket) {
             Ok(answer) => Ok(answer),
@@ -193,8 +188,8 @@ impl<D, L: Life> Locked<D, L> {
         submitted: &Result<Ticket<L>, SubmitError<L>>,
         before: Option<Told<D, L>>,
     ) -> Option<Told<D, L>>
-        ensures settled { IfOk submitted.now (λ ticket. can_ack self.now.board.board ticket ≡ true → result ≡ Some self.now.board.told) }
-        ensures waits { IfOk submitted.now (λ ticket. can_ack self.now.board.board ticket ≡ false → result ≡ before) }
+        ensures settled { IfOk submitted.now (λ ticket. can_ack self.now.board.progress ticket ≡ true → result ≡ Some self.now.board.told) }
+        ensures waits { IfOk submitted.now (λ ticket. can_ack self.now.board.progress ticket ≡ false → result ≡ before) }
         ensures refused { OnErr submitted.now (result ≡ before) }
     {
         if let Ok(ticket) = submitted {
@@ -206,33 +201,26 @@ impl<D, L: Life> Locked<D, L> {
     }
 
     // submits a command to the board, unless the end was called, and notes that its seat waits
-    #[tactic(auto, using(crate::proofs::Settling::counts_stay))]
+    #[tactic(auto, using(crate::proofs::Moving::counts_kept))]
     pub(crate) fn submit(
         &mut self,
         alloc: Global,
         seat: &mut Seat<L>,
         command: &Command,
     ) -> Result<Ticket<L>, SubmitError<L>>
-        ensures ok { OnOk result (self.new
-            ≡ record self.old {
-              board = record
-                  self.old.board { board = submitted (entry_of command.now) self.old.board.board command.now };
-              awaited = self.new.awaited;
-            }) }
-        ensures unchanged { OnErr result (self.new ≡ self.old) }
-        ensures given { WasGiven L.start command.now result }
-        ensures there { IsGivenAt L.start self.new.board.board.order command.now result }
-        ensures command { IfOk result (λ ticket. ticket.command ≡ command.now) }
-        ensures counts { IfOk result (λ ticket. seat.new ≡ counted seat.old ticket.reply) }
-        ensures uncounted { OnErr result (seat.new ≡ seat.old) }
-        ensures ended { self.old.ended ≡ true → IsStopped result }
+        ensures ended { self.old.ended ≡ true → IsStopped result × (self.new ≡ self.old) }
         ensures failed { self.old.board.failed ≡ true → IsStopped result }
-        ensures refused { self.old.ended ≡ false → self.old.board.failed ≡ false
-            → IfErr result (λ e. (refusal_of e ≡ Refusal.NoMemory) ⊎ (answer self.old.board.board.state command.now ≡ Refuses (refusal_of e))) }
+        ensures board { self.old.ended ≡ false → IsSubmittedTo L.start self.old.board command.now (as_board result) self.new.board }
+        ensures others { OrdersAlone self.old self.new }
+        ensures unchanged { OnErr result (self.new ≡ self.old) }
+        ensures there { IsGivenAt L.start self.new.board.progress.order command.now result }
+        ensures counts { seat.new ≡ counted_by seat.old result }
     {
         if self.ended {
             return Err(SubmitError::Stopped(Stopped::by_locked(self)));
         }
+        // its order is a legal history
+        self.board.facts();
         match self.board.submit(alloc, seat, command) {
             Ok(ticket) => Ok(self.awaiting(ticket)),
             Err(refusal) => Err(SubmitError::by_board(&self.board, refusal)),
@@ -250,13 +238,9 @@ impl<D, L: Life> Locked<D, L> {
         found: &mut Found<L>,
     ) -> Result<Ticket<L>, SubmitError<L>>
         ensures after { IsSubmittedAfter L.start told.now found.old command.now result found.new }
-        ensures whole { found.new ≡ self.new.board.board.order }
+        ensures whole { found.new ≡ self.new.board.progress.order }
         ensures counts { seat.new ≡ counted_by seat.old result }
-        ensures others { self.new
-            ≡ record self.old {
-              board = record self.old.board { board = self.new.board.board };
-              awaited = self.new.awaited;
-            } }
+        ensures others { OrdersAlone self.old self.new }
     {
         let answer = self.submit(alloc, seat, command);
         self.board.find(told, found);
@@ -279,11 +263,7 @@ impl<D, L: Life> Locked<D, L> {
         ensures after { AreSubmittedAfter L.start told.now found.old (map (λ command. command.now) commands.now) answers.new.items found.new }
         ensures as_many { vec_len answers.new ≡ length commands.now }
         ensures counts { seat.new ≡ counted_all seat.old answers.new.items }
-        ensures others { self.new
-            ≡ record self.old {
-              board = record self.old.board { board = self.new.board.board };
-              awaited = self.new.awaited;
-            } }
+        ensures others { OrdersAlone self.old self.new }
     {
         let mut settled = None;
         for i in 0..commands.len() {
@@ -315,7 +295,7 @@ impl<D, L: Life> Locked<D, L> {
 
     // the turn at which a seat waits for so many commands to be settled
     fn turn_of(&self, length: usize) -> usize
-        ensures rightly { WaitsRightly self.now.turns self.now.board.board.settled self.now.board.board.taken result length }
+        ensures rightly { WaitsRightly self.now.turns self.now.board.progress.settled self.now.board.progress.taken result length }
         ensures range { result < 8 }
     {
         self.turns.of(length, self.board.taken())
@@ -337,20 +317,11 @@ impl<D, L: Life> Locked<D, L> {
         writer: &mut Writer<L>,
         cap: u32,
     ) -> Result<Run<D, L>, AllocError>
-        ensures longest { IfOk result (λ run. IsLongest cap (untaken self.old.board.board) (length run.commands)) }
-        ensures run { IfOk result
-            (λ run. run.commands ≡ takens (next_run self.old.board.board (length run.commands))) }
-        ensures cap { IfOk result (λ run. run.cap ≡ cap) }
-        ensures place { IfOk result (λ run. run.place ≡ writer.old.taken) }
-        ensures counts { IfOk result (λ run. writer.new ≡ counts_taken writer.old (length run.commands)) }
-        ensures kept { IfOk result (λ run. self.new
-            ≡ record self.old {
-              board = record
-                  self.old.board { board = taken_more self.old.board.board (length run.commands) };
-              turns = self.new.turns;
-            }) }
-        ensures turns { OnOk result (StillRightly self.old.turns self.new.turns self.old.board.board.settled
-            self.old.board.board.taken self.new.board.board.taken (length self.old.board.board.order)) }
+        ensures board { IfOk result (λ run. IsTakenOff self.old.board cap run self.new.board) }
+        ensures next { IfOk result (λ run. ComesOff writer.old cap run writer.new) }
+        ensures others { self.new ≡ record self.old { board = self.new.board; turns = self.new.turns } }
+        ensures turns { OnOk result (StillRightly self.old.turns self.new.turns self.old.board.progress.settled
+            self.old.board.progress.taken self.new.board.progress.taken (length self.old.board.progress.order)) }
         ensures unchanged { OnErr result (self.new ≡ self.old) }
         ensures uncounted { OnErr result (writer.new ≡ writer.old) }
     {
@@ -374,15 +345,12 @@ impl<D, L: Life> Locked<D, L> {
         told: Told<D, L>,
     ) -> (Settled<D, L>, Woken)
         requires next { ComesNext writer.old receipt.now.batch told }
-        ensures board { self.new.board
-            ≡ record self.old.board { board = settled_more self.old.board.board (length receipt.now.batch); told = told } }
-        ensures turns { self.new.turns ≡ self.old.turns }
-        ensures others { self.new.ended ≡ self.old.ended }
-        ensures settled { result.0 ≡ told }
-        ensures told { AreWoken self.new.board.board.settled self.old.awaited self.new.awaited result.1.places }
-        ensures nobody { NobodyIsForgotten self.new.board.board.settled self.old.awaited self.new.awaited result.1.places }
+        ensures board { self.new.board ≡ settled_with self.old.board receipt.now.batch told }
+        ensures next { IsSettledNext writer.old receipt.now.batch told result.0 writer.new }
+        ensures others { self.new ≡ record self.old { board = self.new.board; awaited = self.new.awaited } }
+        ensures told { AreWoken self.new.board.progress.settled self.old.awaited self.new.awaited result.1.places }
+        ensures nobody { NobodyIsForgotten self.new.board.progress.settled self.old.awaited self.new.awaited result.1.places }
         ensures wakes { WakesAll self.old.turns result.1.turns }
-        ensures counts { writer.new ≡ counts_settled writer.old (length receipt.now.batch) }
     {
         self.takes.audit(&mut writer.taken);
         self.settles.audit(&mut writer.settled);

@@ -1,8 +1,8 @@
 //! What a place is told.
-ghost use Rattle.std.specs.Prelude.{◌≡◌, ◌⊎◌, ◌↔◌, ◌≤◌, Some, None, Ok, length, IfOk, IfSome, OnErr, IsSome};
-ghost use mathlib.Core.List.{IsPrefix};
+ghost use Rattle.std.specs.Prelude.{◌≡◌, ◌↔◌, ◌≤◌, Some, None, Ok, length, OnErr, IsSome};
 ghost use Rattle.recovery.specs.Found.{commands_of};
-ghost use Rattle.hub.specs.Placed.{StandsFirst};
+ghost use Rattle.published.specs.Batches.{IsTheLonger};
+ghost use Rattle.hub.specs.Moves.{StandsAt};
 
 use crate::seat::Ticket;
 use crate::tokens::Stopped;
@@ -29,9 +29,7 @@ impl<D, L: Life> Place<D, L> {
 
     // tells it of what is published; what it was told is never taken back by something older
     pub(crate) fn tell(&mut self, told: &Told<D, L>)
-        ensures one { (self.new.told ≡ self.old.told) ⊎ (self.new.told ≡ told.now) }
-        ensures older { IsPrefix self.old.told self.new.told }
-        ensures newer { IsPrefix told.now self.new.told }
+        ensures longer { IsTheLonger self.old.told told.now self.new.told }
         ensures stopped { self.new.stopped ≡ self.old.stopped }
     {
         self.told.learn(told);
@@ -50,8 +48,7 @@ impl<D, L: Life> Place<D, L> {
         ensures settled { (ticket.now.length ≤ length (commands_of self.now.told)) ↔ (result ≡ Ok (Some self.now.told)) }
         ensures waits { result ≡ Ok None → self.now.stopped ≡ None }
         ensures stopped { OnErr result (IsSome self.now.stopped) }
-        ensures holds { IfOk result (λ told. IfSome told (λ t. ticket.now.length ≤ length (commands_of t))) }
-        ensures stands { IfOk result (λ told. IfSome told (λ t. StandsFirst L.start ticket.now (commands_of t))) }
+        ensures stands { StandsAt L.start ticket.now result }
     {
         if ticket.length() as u64 <= self.told.len() {
             ticket.stands(&self.told);

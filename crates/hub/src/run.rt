@@ -2,7 +2,7 @@
 ghost use Rattle.std.specs.Prelude.{◌≡◌, ◌↔◌, ◌<◌, ◌+◌, ◌^◌, ◌++◌, length, take, IfOk, IsTrue};
 ghost use mathlib.Core.List.{IsPrefix};
 ghost use Rattle.recovery.specs.Found.{commands_of};
-ghost use Rattle.world.specs.Board.{next_run};
+ghost use Rattle.world.specs.Progress.{next_run};
 ghost use Rattle.revision.specs.Made.{AreMade};
 ghost use Rattle.revision.specs.State.{fold};
 ghost use Rattle.world.specs.World.{takens};
@@ -51,10 +51,10 @@ impl<D, L: Life> Run<D, L> {
         made: Vec<Document>,
         cap: u32,
     ) -> Run<D, L>
-        requires longest { IsLongest cap (untaken board.now.board) (length batch) }
-        requires run { batch ≡ takens (next_run board.now.board (length batch)) }
-        requires made { AreMadeThere L.start board.now.board.order board.now.board.taken batch made.items }
-        ensures { result ≡ record { commands = batch; cap = cap; place = board.now.board.taken } }
+        requires longest { IsLongest cap (untaken board.now.progress) (length batch) }
+        requires run { batch ≡ takens (next_run board.now.progress (length batch)) }
+        requires made { AreMadeThere L.start board.now.progress.order board.now.progress.taken batch made.items }
+        ensures { result ≡ record { commands = batch; cap = cap; place = board.now.progress.taken } }
     {
         // its order has a length that fits
         board.facts();

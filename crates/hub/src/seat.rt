@@ -95,7 +95,7 @@ pub struct Ticket<L: Life> {
 
 impl<L: Life> Model for Ticket<L> {
     ghost use Rattle.std.specs.Prelude.{◌<◌};
-    ghost use Rattle.world.specs.Board as spec;
+    ghost use Rattle.world.specs.Progress as spec;
     ghost use Rattle.hub.specs.Placed.{IsPlaced};
 
     ghost Value = { spec.Ticket };

@@ -1,5 +1,5 @@
 //! Why a command isn't submitted.
-ghost use Rattle.std.specs.Prelude.{◌≡◌, true, false, IsErr};
+ghost use Rattle.std.specs.Prelude.{◌≡◌};
 ghost use Rattle.hub.specs.Given.{refusal_of, WasBy};
 
 use crate::board::Board;

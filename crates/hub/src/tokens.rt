@@ -112,7 +112,7 @@ impl<L: Life> Idle<L> {
     // Of what lies under the hub's lock: the end was called, and nothing is left to take off.
     pub(crate) fn by_locked<D>(kept: &Locked<D, L>) -> Idle<L>
         requires ended { kept.now.ended ≡ true }
-        requires idle { untaken kept.now.board.board ≡ [] }
+        requires idle { untaken kept.now.board.progress ≡ [] }
     {
         let _ = kept;
         Idle { of: PhantomData }
@@ -128,7 +128,7 @@ pub struct Work<L: Life> {
 impl<L: Life> Work<L> {
     // Of a board that has one.
     pub(crate) fn by_board<D>(board: &Board<D, L, ()>) -> Work<L>
-        requires { untaken board.now.board ≢ [] }
+        requires { untaken board.now.progress ≢ [] }
     {
         let _ = board;
         Work { of: PhantomData }

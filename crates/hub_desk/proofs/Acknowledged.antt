@@ -5,7 +5,7 @@ use Rattle.revision.specs.Command.{Command, Taken}
 use Rattle.revision.specs.State.{State, all_grow, fold}
 use Rattle.recovery.specs.Found.{commands_of}
 use Rattle.published.proofs.CallerLemmas.{prefix_self, prefix_trans}
-use Rattle.world.specs.Board.{Board, Ticket}
+use Rattle.world.specs.Progress.{Progress, Ticket}
 use Rattle.world.specs.World.{Entry, takens}
 use Rattle.hub.specs.Legal.{IsOfRun}
 use Rattle.hub.specs.Placed.{StandsFirst}
@@ -60,12 +60,9 @@ found_through start (exchange ∷ others) old new (next, does, more) =
 -- the board that refused is of just this order
 pub refused_by_board : RefusedByBoard
 refused_by_board start old new command refusal refused =
-    let board : Board Entry = record { start = start; order = new.found; state = fold start (takens new.found); taken = 0; settled = 0 } in
+    let board : Progress Entry = record { start = start; order = new.found; state = fold start (takens new.found); taken = 0; settled = 0 } in
     let run : IsOfRun start board = record { begun = refl; history = record { legal = refused.finds.legal; state = refl } } in
-    elim refused.refused [
-      | inl memory ↦ inl (board, run, memory.0, memory.1)
-      | inr by_rule ↦ inr (board, run, by_rule)
-    ]
+    (board, run, refused.refused)
 
 -- what stands first in what batches have stands in what these and further ones make
 stands_behind : (start : State) (old new : List (List Taken)) (command : Command) (reply : Reply) (ticket : Ticket) → IsPrefix old new

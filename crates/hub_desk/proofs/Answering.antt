@@ -6,16 +6,14 @@ use Rattle.revision.specs.Command.{Command, Taken}
 use Rattle.revision.specs.State.{State}
 use Rattle.recovery.specs.Found.{commands_of}
 use Rattle.published.proofs.CallerLemmas.{prefix_trans}
-use Rattle.world.specs.Board.{Ticket}
+use Rattle.world.specs.Progress.{Ticket}
 use Rattle.world.specs.World.{Entry, takens}
-use Rattle.hub.specs.Legal.{counted}
 use Rattle.hub.specs.Found.{IsSubmittedAfter}
 use Rattle.hub.specs.Given.{refusal_of}
 use Rattle.hub.specs.Placed.{StandsFirst}
 use Rattle.hub.specs.declared.submit_error.SubmitError.{SubmitError}
 use Rattle.hub.specs.declared.submit_error.SubmitError.TheVariants.{Stopped, ByBoard}
 use Rattle.session.specs.declared.reply.Reply.{Reply}
-use Rattle.session.specs.Alone.{answered}
 use Rattle.session.specs.Exchange.{Answered}
 use Rattle.hub.specs.Submitted.{counted_by}
 use Rattle.hub_desk.specs.AtHub.{Desk, PassesAtHub}

@@ -6,7 +6,7 @@ use Rattle.refusal.specs.declared.Refusal.TheVariants.{NoMemory, StoreFailed}
 use Rattle.revision.specs.Command.{Command, Taken}
 use Rattle.revision.specs.State.{State, fold}
 use Rattle.recovery.specs.Found.{commands_of}
-use Rattle.world.specs.Board.{Ticket}
+use Rattle.world.specs.Progress.{Ticket}
 use Rattle.world.specs.World.{Entry, takens}
 use Rattle.published.specs.Order.{IsLegal}
 use Rattle.hub.specs.Legal.{counted}

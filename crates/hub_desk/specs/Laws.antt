@@ -9,7 +9,7 @@ use Rattle.revision.specs.State.{State, DocumentRecord, is_live, find, all_grow,
 use Rattle.revision.specs.Acceptance.{Repeats, Refuses, answer}
 use Rattle.revision.specs.Agree.{Agree}
 use Rattle.recovery.specs.Found.{commands_of}
-use Rattle.world.specs.Board.{Ticket}
+use Rattle.world.specs.Progress.{Ticket}
 use Rattle.world.specs.Law.{window_held}
 use Rattle.hub.specs.Given.{WasRefused}
 use Rattle.hub.specs.Placed.{StandsFirst}

@@ -3,7 +3,7 @@ use Rattle.std.specs.Prelude.{ℕ, true, List, [], ◌∷◌, Result, Ok, Err}
 use Rattle.refusal.specs.declared.Refusal.{Refusal}
 use Rattle.revision.specs.Command.{Command}
 use Rattle.revision.specs.State.{State}
-use Rattle.world.specs.Board.{Ticket}
+use Rattle.world.specs.Progress.{Ticket}
 use Rattle.world.specs.World.{Entry}
 use Rattle.hub.specs.Found.{AreSubmittedAfter, IsSubmittedAfter}
 use Rattle.hub.specs.Submitted.{counted_all, counted_by}

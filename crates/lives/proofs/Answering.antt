@@ -14,7 +14,7 @@ use Rattle.refusal.specs.declared.Refusal.TheVariants.{JournalFull, StillNeeded,
 use Rattle.revision.specs.Command.{Taken, Command}
 use Rattle.revision.specs.State.{State, fold}
 use Rattle.revision.specs.Acceptance.{answer}
-use Rattle.world.specs.Board.{Board, Ticket, submitted, next_run, taken_more, settled_more}
+use Rattle.world.specs.Progress.{Progress, Ticket, submitted, next_run, taken_more, settled_more}
 use Rattle.world.specs.World.{Entry, entry_of, takens}
 use Rattle.hub.specs.Legal.{Board as Outer}
 use Rattle.hub.specs.Runs.{IsLongest, untaken}
@@ -50,12 +50,12 @@ same_cap start state commands is = ap cap_of is ∙ ap (λ l. min (l.width + 4) 
 
 module _ {D : Type 0} {disk : Ghosts D} where
   pub submit_goes : {A E : Type 0} (T : Type 0) (start : State) (here : Standing D disk) (old board : Outer) (command : Command) (result : Result A E) → IsCalm start here
-      → OnOk result (board.board ≡ submitted (entry_of command) here.board command) → OnErr result ((board ≡ old) × T) → old.board ≡ here.board → board.told ≡ here.known
-      → RunGoes start here (record here { board = board.board; known = board.told })
-  submit_goes T start here old board command (Ok a) calm ok err same knows = (run_submitted start here board.board board.told command calm ok knows).1
+      → OnOk result (board.progress ≡ submitted (entry_of command) here.board command) → OnErr result ((board ≡ old) × T) → old.progress ≡ here.board → board.told ≡ here.known
+      → RunGoes start here (record here { board = board.progress; known = board.told })
+  submit_goes T start here old board command (Ok a) calm ok err same knows = (run_submitted start here board.progress board.told command calm ok knows).1
   submit_goes T start here old board command (Err e) calm ok err same knows =
-      subst (λ (k : List (List Taken)). RunGoes start here (record here { board = board.board; known = k })) (sym knows)
-      (subst (λ (b : Board Entry). RunGoes start here (record here { board = b })) (sym (ap (λ (b : Outer). b.board) err.0 ∙ same)) (run_none start here calm))
+      subst (λ (k : List (List Taken)). RunGoes start here (record here { board = board.progress; known = k })) (sym knows)
+      (subst (λ (b : Progress Entry). RunGoes start here (record here { board = b })) (sym (ap (λ (b : Outer). b.progress) err.0 ∙ same)) (run_none start here calm))
 
   -- the store alone changes, by equations
   pub run_store_by : (start : State) (here : Standing D disk) (told committed waiting : List (List Taken)) (store : Store D disk) → IsCalm start here → state_of store ≡ state_of here.store
@@ -93,27 +93,27 @@ before_more (y ∷ ys) more zero x is = is
 before_more (y ∷ ys) more (suc at) x is = before_more ys more at x is
 
 -- more is settled, and more tickets are out
-record Grows (board : Board Entry) (tickets : List Ticket) (after : Board Entry) (out : List Ticket) : Type 0 where
+record Grows (board : Progress Entry) (tickets : List Ticket) (after : Progress Entry) (out : List Ticket) : Type 0 where
   pub settled : board.settled ≤ after.settled
   pub more : (l : List Ticket) × (out ≡ tickets ++ l)
 
-grows_not : (board : Board Entry) (tickets : List Ticket) (after : Board Entry) (out : List Ticket) → after ≡ board → out ≡ tickets → Grows board tickets after out
-grows_not board tickets after out is same = record { settled = omega (arith, ap (λ (b : Board Entry). b.settled) is); more = ([], same ∙ sym (append-nil tickets)) }
+grows_not : (board : Progress Entry) (tickets : List Ticket) (after : Progress Entry) (out : List Ticket) → after ≡ board → out ≡ tickets → Grows board tickets after out
+grows_not board tickets after out is same = record { settled = omega (arith, ap (λ (b : Progress Entry). b.settled) is); more = ([], same ∙ sym (append-nil tickets)) }
 
 module _ {D : Type 0} {disk : Ghosts D} where
   -- no more of either
-  still : (here after : Between D disk) → after.board ≡ here.board → after.tickets ≡ here.tickets → Grows here.board.board here.tickets after.board.board after.tickets
-  still here after is same = grows_not here.board.board here.tickets after.board.board after.tickets (ap (λ (b : Outer). b.board) is) same
+  still : (here after : Between D disk) → after.board ≡ here.board → after.tickets ≡ here.tickets → Grows here.board.progress here.tickets after.board.progress after.tickets
+  still here after is same = grows_not here.board.progress here.tickets after.board.progress after.tickets (ap (λ (b : Outer). b.progress) is) same
 
-  stays : (here after : Between D disk) → after ≡ here → Grows here.board.board here.tickets after.board.board after.tickets
+  stays : (here after : Between D disk) → after ≡ here → Grows here.board.progress here.tickets after.board.progress after.tickets
   stays here after is = still here after (ap (λ (b : Between D disk). b.board) is) (ap (λ (b : Between D disk). b.tickets) is)
 
   ack_holds : (here after : Between D disk) (at : ℕ) (told : List (List Taken)) (found : Option Ticket) → slice_get here.tickets at ≡ found → after ≡ here
-      → AckGives here.board found (Some told) → (ticket : Ticket) × (slice_get after.tickets at ≡ Some ticket) × (ticket.length ≤ after.board.board.settled)
+      → AckGives here.board found (Some told) → (ticket : Ticket) × (slice_get after.tickets at ≡ Some ticket) × (ticket.length ≤ after.board.progress.settled)
   ack_holds here after at told None is same gives = absurd (let no : ⊥ = cc in no)
   ack_holds here after at told (Some ticket) is same gives =
-      let enough : ticket.length ≤ here.board.board.settled = grind (arith, nat_tests, gives.0) in
-      (ticket, ap (λ (b : Between D disk). slice_get b.tickets at) same ∙ is, omega (arith, enough, ap (λ (b : Between D disk). b.board.board.settled) same))
+      let enough : ticket.length ≤ here.board.progress.settled = grind (arith, nat_tests, gives.0) in
+      (ticket, ap (λ (b : Between D disk). slice_get b.tickets at) same ∙ is, omega (arith, enough, ap (λ (b : Between D disk). b.board.progress.settled) same))
 
 module _ {D L : Type 0} where
   held_later : (settled later : ℕ) (tickets out l : List Ticket) (call : Call) (reply : Answer D L) → settled ≤ later → out ≡ tickets ++ l → IsHeld settled tickets call reply → IsHeld later out call reply
@@ -147,9 +147,9 @@ module _ {D L : Type 0} where
 
 module _ {D L : Type 0} {disk : Ghosts D} where
   grows_by : (cap : ℕ) (here : Between D disk) (call : Call) (reply : Answer D L) (after : Between D disk) → Gives cap here call reply after
-      → Grows here.board.board here.tickets after.board.board after.tickets
+      → Grows here.board.progress here.tickets after.board.progress after.tickets
   grows_by cap here (Submit command) (Submitted at) after gives = record {
-    settled = omega (arith, ap (λ (b : Outer). b.board.settled) gives.0, settled_by (entry_of command) here.board.board (answer here.board.board.state command));
+    settled = omega (arith, ap (λ (b : Outer). b.progress.settled) gives.0, settled_by (entry_of command) here.board.progress (answer here.board.progress.state command));
     more = (gives.2.0 ∷ [], gives.2.2);
   }
   grows_by cap here (Submit command) (Refused refusal) after gives = stays here after gives.0
@@ -158,7 +158,7 @@ module _ {D L : Type 0} {disk : Ghosts D} where
   grows_by cap here (Submit command) Put after gives = absurd gives
   grows_by cap here (Submit command) Retired after gives = absurd gives
   grows_by cap here Turn (Turned n) after gives = record {
-    settled = omega (arith, ap (λ (b : Outer). b.board.settled) gives.1);
+    settled = omega (arith, ap (λ (b : Outer). b.progress.settled) gives.1);
     more = ([], gives.2 ∙ sym (append-nil here.tickets));
   }
   grows_by cap here Turn (Submitted at) after gives = absurd gives
@@ -186,7 +186,7 @@ module _ {D L : Type 0} {disk : Ghosts D} where
   grows_by cap here Retire Put after gives = absurd gives
 
   gives_held : (cap : ℕ) (here : Between D disk) (call : Call) (reply : Answer D L) (after : Between D disk) → Gives cap here call reply after
-      → IsHeld after.board.board.settled after.tickets call reply
+      → IsHeld after.board.progress.settled after.tickets call reply
   gives_held cap here (Ack at) (Acked (Some told)) after gives = ack_holds here after at told (slice_get here.tickets at) refl gives.0 gives.1
   gives_held cap here (Ack at) (Acked None) after gives = tt
   gives_held cap here (Ack at) (Submitted n) after gives = tt
@@ -201,12 +201,12 @@ module _ {D L : Type 0} {disk : Ghosts D} where
 
   -- each acknowledgement of an answered run is held by what is settled at its end
   pub answered_held : (cap : ℕ) (start : Between D disk) (calls : List Call) (answers : List (Answer D L)) (here : Between D disk) → Answered cap start calls answers here
-      → AreHeld here.board.board.settled here.tickets calls answers
+      → AreHeld here.board.progress.settled here.tickets calls answers
   answered_held cap start _ _ _ Begins = tt
   answered_held cap start _ _ _ (Follows calls answers here call reply after before gives works opens) =
       let grows = grows_by cap here call reply after gives in
-      at_the_end after.board.board.settled after.tickets calls answers call reply
-      (all_later here.board.board.settled after.board.board.settled here.tickets after.tickets grows.more.0 calls answers grows.settled grows.more.1 (answered_held cap start calls answers here before))
+      at_the_end after.board.progress.settled after.tickets calls answers call reply
+      (all_later here.board.progress.settled after.board.progress.settled here.tickets after.tickets grows.more.0 calls answers grows.settled grows.more.1 (answered_held cap start calls answers here before))
       (gives_held cap here call reply after gives)
 
   -- none is answered yet
@@ -319,16 +319,16 @@ module _ {D : Type 0} {disk : Ghosts D} where
 
   -- nothing is settled by it
   turn_settled : (cap : ℕ) (board board-after : Outer) (store store-after : Store D disk) → IsUnsettled cap board store board-after store-after
-      → board-after.board.settled ≡ board.board.settled
-  turn_settled cap board board-after store store-after (inl same) = ap (λ (b : Outer). b.board.settled) same.0
-  turn_settled cap board board-after store store-after (inr (count, longest, some, took)) = ap (λ (b : Outer). b.board.settled) took
+      → board-after.progress.settled ≡ board.progress.settled
+  turn_settled cap board board-after store store-after (inl same) = ap (λ (b : Outer). b.progress.settled) same.0
+  turn_settled cap board board-after store store-after (inr (count, longest, some, took)) = ap (λ (b : Outer). b.progress.settled) took
 
-  pub unanswered_settled : (cap : ℕ) (here after : Between D disk) (call : Call) → IsUnanswered cap here call after → after.board.board.settled ≡ here.board.board.settled
-  unanswered_settled cap here after (Submit command) left = ap (λ (b : Between D disk). b.board.board.settled) left
+  pub unanswered_settled : (cap : ℕ) (here after : Between D disk) (call : Call) → IsUnanswered cap here call after → after.board.progress.settled ≡ here.board.progress.settled
+  unanswered_settled cap here after (Submit command) left = ap (λ (b : Between D disk). b.board.progress.settled) left
   unanswered_settled cap here after Turn left = turn_settled cap here.board after.board here.store after.store left.1
   unanswered_settled cap here after (Ack at) left = absurd left
-  unanswered_settled cap here after (Milestone document revision) left = ap (λ (b : Outer). b.board.settled) left.0
-  unanswered_settled cap here after Retire left = ap (λ (b : Outer). b.board.settled) left.0
+  unanswered_settled cap here after (Milestone document revision) left = ap (λ (b : Outer). b.progress.settled) left.0
+  unanswered_settled cap here after Retire left = ap (λ (b : Outer). b.progress.settled) left.0
 
 -- the call behind those that are answered
 pub call_behind : {X : Type 0} (calls : List Call) (at : ℕ) (answers : List X) (call d : Call) → at < length calls → call ≡ get_or calls at d → length answers ≡ at
@@ -341,19 +341,19 @@ with_some told [] some = absurd (omega (arith, some))
 with_some told (first ∷ others) some = refl
 
 -- a turn of a run that was taken off and settled
-pub turned_by : (old taken after : Outer) (count : ℕ) (run : List Taken) (token : List (List Taken)) → taken ≡ record old { board = taken_more old.board count }
-    → after ≡ record taken { board = settled_more taken.board count; told = token } → run ≡ takens (next_run old.board count) → 0 < length run → token ≡ old.told ++ run ∷ [] → after ≡ turned old count
+pub turned_by : (old taken after : Outer) (count : ℕ) (run : List Taken) (token : List (List Taken)) → taken ≡ record old { progress = taken_more old.progress count }
+    → after ≡ record taken { progress = settled_more taken.progress count; told = token } → run ≡ takens (next_run old.progress count) → 0 < length run → token ≡ old.told ++ run ∷ [] → after ≡ turned old count
 turned_by old taken after count run token took settled is some tells =
-    settled ∙ ap (λ (b : Outer). record b { board = settled_more b.board count; told = token }) took
-    ∙ ap (λ (t : List (List Taken)). record old { board = settled_more (taken_more old.board count) count; told = t })
+    settled ∙ ap (λ (b : Outer). record b { progress = settled_more b.progress count; told = token }) took
+    ∙ ap (λ (t : List (List Taken)). record old { progress = settled_more (taken_more old.progress count) count; told = t })
     (tells ∙ sym (with_some old.told run some) ∙ ap (with_run old.told) is)
 
 -- a turn of no command at all
-pub turned_not : (old after : Outer) (count : ℕ) → after ≡ record old { board = taken_more old.board count } → count ≡ 0 → after ≡ turned old count
+pub turned_not : (old after : Outer) (count : ℕ) → after ≡ record old { progress = taken_more old.progress count } → count ≡ 0 → after ≡ turned old count
 turned_not old after count took none =
-    let settled : old.board.settled ≡ old.board.settled + 0 = omega arith in
-    took ∙ ap (λ (n : ℕ). record old { board = taken_more old.board n }) none
-    ∙ ap (λ (n : ℕ). record old { board = record old.board { taken = old.board.taken + 0; settled = n } }) settled
+    let settled : old.progress.settled ≡ old.progress.settled + 0 = omega arith in
+    took ∙ ap (λ (n : ℕ). record old { progress = taken_more old.progress n }) none
+    ∙ ap (λ (n : ℕ). record old { progress = record old.progress { taken = old.progress.taken + 0; settled = n } }) settled
     ∙ sym (ap (turned old) none)
 
 -- a refusal that is handed on
@@ -370,12 +370,12 @@ not_needed refusal is memory = cc
 module _ {D L : Type 0} {disk : Ghosts D} where
   -- Why a turn is refused whose write is: by the run that was held.
   pub turn_refused : (cap : ℕ) (board : Outer) (store : Store D disk) (held new : Flusher D L disk) (run : List Taken) (refusal : Refusal) → waiting_of held ≡ run ∷ [] → store_of held ≡ store
-      → run ≡ takens (next_run board.board (length run)) → IsLongest cap (untaken board.board) (length run) → 1 ≤ length run
+      → run ≡ takens (next_run board.progress (length run)) → IsLongest cap (untaken board.progress) (length run) → 1 ≤ length run
       → IsUnpublished refusal held new → IsWriteRefused refusal held new
       → ((refusal ≡ NoMemory) ⊎ (refusal ≡ Fault)) ⊎ IsTurnRefused cap board store refusal new
   turn_refused cap board store held new run refusal waits same is longest some left why = by_case why.only
     where
-      no_room : HasNoRoom held → has_room store (takens (next_run board.board (length run))) ≡ false
+      no_room : HasNoRoom held → has_room store (takens (next_run board.progress (length run))) ≡ false
       no_room full =
           ap (has_room store) (sym is) ∙ ap (λ (s : Store D disk). has_room s run) (sym same)
           ∙ ap (has_room (store_of held)) (same_batch (waiting_of held) run full.0 waits full.1) ∙ full.2

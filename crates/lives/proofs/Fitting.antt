@@ -7,7 +7,7 @@ use Rattle.disk.specs.declared.device.Disk.{Ghosts}
 use Rattle.revision.specs.Command.{Taken}
 use Rattle.revision.specs.State.{State}
 use Rattle.journal.specs.BatchSpelling.{batch_width}
-use Rattle.world.specs.Board.{Board, next_run, taken_more}
+use Rattle.world.specs.Progress.{Progress, next_run, taken_more}
 use Rattle.world.specs.World.{Entry, takens}
 use Rattle.recovery.specs.Found.{commands_of}
 use Rattle.recovery.specs.declared.store.Store.{Store}
@@ -22,7 +22,7 @@ use Rattle.lives.proofs.Evens.{told_length, all_settled, takens_length}
 use Rattle.lives.proofs.Steps.{calm_stands}
 
 -- the run that was taken off fits the cap
-pub run_fits : (state : State) (board : Board Entry) (run : List Taken) → run ≡ takens (next_run board (length run)) → IsLongest (cap_of state) (untaken board) (length run)
+pub run_fits : (state : State) (board : Progress Entry) (run : List Taken) → run ≡ takens (next_run board (length run)) → IsLongest (cap_of state) (untaken board) (length run)
     → 0 < length run → batch_width run ≤ cap_of state
 run_fits state board run is longest some = by_case longest.fits
   where
@@ -33,7 +33,7 @@ run_fits state board run is longest some = by_case longest.fits
         subst (λ (b : List Taken). batch_width b ≤ cap_of state) same le
 
 -- and lies in the order
-pub run_within : (cap : ℕ) (board : Board Entry) (count : ℕ) → board.taken ≤ length board.order → IsLongest cap (untaken board) count → board.taken + count ≤ length board.order
+pub run_within : (cap : ℕ) (board : Progress Entry) (count : ℕ) → board.taken ≤ length board.order → IsLongest cap (untaken board) count → board.taken + count ≤ length board.order
 run_within cap board count within longest =
     omega (arith, longest.within, takens_length (drop board.taken board.order), length-drop {A = Entry} board.taken board.order)
 
@@ -42,7 +42,7 @@ settles settled taken n told same is some = grind (arith, nat_tests)
 
 module _ {D : Type 0} {disk : Ghosts D} where
   -- what was published of it may be settled
-  pub may_settle : (start : State) (here : Standing D disk) (board : Board Entry) (run receipt : List Taken) (token : List (List Taken)) → IsCalm start here
+  pub may_settle : (start : State) (here : Standing D disk) (board : Progress Entry) (run receipt : List Taken) (token : List (List Taken)) → IsCalm start here
       → run ≡ takens (next_run here.board (length run)) → board ≡ taken_more here.board (length run) → 0 < length run → receipt ≡ run → token ≡ here.told ++ run ∷ []
       → MaySettle board receipt (length (commands_of token))
   may_settle start here board run receipt token calm is boards some same tells =
@@ -58,7 +58,7 @@ module _ {D : Type 0} {disk : Ghosts D} where
         next = next;
         count = settles here.board.settled here.board.taken (length run) (length (commands_of token)) even long some;
       } in
-      subst (λ (b : Board Entry). MaySettle b receipt (length (commands_of token))) (sym boards)
+      subst (λ (b : Progress Entry). MaySettle b receipt (length (commands_of token))) (sym boards)
       (subst (λ (r : List Taken). MaySettle (taken_more here.board (length run)) r (length (commands_of token))) (sym same) here_may)
 
   -- a run that is taken off continues what is published

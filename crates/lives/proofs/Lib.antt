@@ -8,3 +8,4 @@ pub mod Resting
 pub mod Scheduling
 pub mod Refusing
 pub mod Counting
+pub mod Submitting

@@ -6,14 +6,14 @@ use Rattle.std.proofs.lemmas.List.{take-append-le, take-append-drop, take-take, 
 use Rattle.revision.specs.Command.{Taken, Command}
 use Rattle.revision.specs.State.{newest_revision, fold}
 use Rattle.revision.specs.Acceptance.{Answer, Takes, Repeats, Refuses, answer}
-use Rattle.world.specs.Board.{Board, Ticket, submitted, submitted_by, ticket_of, ticket_by, can_take, can_settle, can_ack, taken_more, settled_more}
+use Rattle.world.specs.Progress.{Progress, Ticket, submitted, submitted_by, ticket_of, ticket_by, can_take, can_settle, can_ack, taken_more, settled_more}
 use Rattle.world.specs.Event.{Done, Submit, Take, Device, Publish, Settle, Ack, Compose}
 use Rattle.world.specs.World.{Entry, entry_of, takens, World}
 use Rattle.world.specs.Step.{is_numbered, with_command, acknowledged, step, run}
 use Rattle.lives.specs.Schedule.{at_rest}
 pub use Rattle.world.proofs.CallerLemmas.{run-append}
 
-module _ (board : Board Entry) (tickets acks : List Ticket) (sent : List Command) (composed : List (ℕ × ℕ)) where
+module _ (board : Progress Entry) (tickets acks : List Ticket) (sent : List Command) (composed : List (ℕ × ℕ)) where
   -- a command is sent
   pub submit_rests : (command : Command) → is_numbered command ≡ true → board.settled ≤ length board.order
       → run (at_rest board tickets acks sent composed) (Submit command ∷ [])

@@ -5,7 +5,7 @@ use Rattle.std.proofs.lemmas.List.{length-map}
 use Rattle.disk.specs.declared.device.Disk.{Ghosts}
 use Rattle.revision.specs.Command.{Taken, Command}
 use Rattle.revision.specs.Acceptance.{Answer as Outcome, Takes, Repeats, Refuses, answer}
-use Rattle.world.specs.Board.{Board, Ticket, submitted, submitted_by, ticket_of, ticket_by, taken_more, settled_more}
+use Rattle.world.specs.Progress.{Progress, Ticket, submitted, submitted_by, ticket_of, ticket_by, taken_more, settled_more}
 use Rattle.world.specs.Event.{Event, Ack as Acknowledges}
 use Rattle.world.specs.World.{Entry, entry_of, World}
 use Rattle.world.specs.Step.{is_numbered, run}
@@ -21,7 +21,7 @@ use Rattle.lives.proofs.Resting.{run-append, submit_rests, turn_rests, ack_rests
 use Rattle.lives.proofs.Answering.{before_more}
 
 -- worlds at rest with equal parts
-same_rest : (board after : Board Entry) (tickets out acks more : List Ticket) (sent later : List Command) (composed : List (ℕ × ℕ)) → board ≡ after → tickets ≡ out → acks ≡ more → sent ≡ later
+same_rest : (board after : Progress Entry) (tickets out acks more : List Ticket) (sent later : List Command) (composed : List (ℕ × ℕ)) → board ≡ after → tickets ≡ out → acks ≡ more → sent ≡ later
     → at_rest board tickets acks sent composed ≡ at_rest after out more later composed
 same_rest board after tickets out acks more sent later composed b t a s = λ i. at_rest (b i) (t i) (a i) (s i) composed
 
@@ -31,21 +31,21 @@ behind [] items at = ap (slice_get items) (let none : 0 + at ≡ at = omega arit
 behind (first ∷ others) items at =
     ap (slice_get (first ∷ (others ++ items))) (let next : length (first ∷ others) + at ≡ suc (length others + at) = omega arith in next) ∙ behind others items at
 
-submitted_settled : (entry : Taken → Entry) (board : Board Entry) (a : Outcome) → IsAllSettled board → IsAllSettled (submitted_by entry board a)
+submitted_settled : (entry : Taken → Entry) (board : Progress Entry) (a : Outcome) → IsAllSettled board → IsAllSettled (submitted_by entry board a)
 submitted_settled entry board (Takes taken) rest = record { taken = rest.taken; within = omega (arith, rest.within, length-append board.order (entry taken ∷ [])) }
 submitted_settled entry board (Repeats revision) rest = rest
 submitted_settled entry board (Refuses refusal) rest = rest
 
-submitted_start : (entry : Taken → Entry) (board : Board Entry) (a : Outcome) → (submitted_by entry board a).start ≡ board.start
+submitted_start : (entry : Taken → Entry) (board : Progress Entry) (a : Outcome) → (submitted_by entry board a).start ≡ board.start
 submitted_start entry board (Takes taken) = refl
 submitted_start entry board (Repeats revision) = refl
 submitted_start entry board (Refuses refusal) = refl
 
-turned_settled : (board : Board Entry) (count : ℕ) → IsAllSettled board → board.taken + count ≤ length board.order → IsAllSettled (settled_more (taken_more board count) count)
+turned_settled : (board : Progress Entry) (count : ℕ) → IsAllSettled board → board.taken + count ≤ length board.order → IsAllSettled (settled_more (taken_more board count) count)
 turned_settled board count rest long = record { taken = ap (λ (n : ℕ). n + count) rest.taken; within = omega (arith, long, rest.taken) }
 
 -- so many commands are left to take off
-long_enough : (cap : ℕ) (board : Board Entry) (count : ℕ) → IsAllSettled board → IsLongest cap (untaken board) count → board.taken + count ≤ length board.order
+long_enough : (cap : ℕ) (board : Progress Entry) (count : ℕ) → IsAllSettled board → IsLongest cap (untaken board) count → board.taken + count ≤ length board.order
 long_enough cap board count rest longest =
     omega (arith, longest.within, rest.taken, rest.within, length-map (drop board.taken board.order) (λ (e : Entry). e.taken), length-drop {A = Entry} board.taken board.order)
 
@@ -63,18 +63,18 @@ module _ {D L : Type 0} where
 -- an acknowledgement, by the ticket that it names and what it gave
 ack_world : (D L : Type 0) (here : Behind) (tickets : List Ticket) (at : ℕ) (found : Option Ticket) (told : Option (List (List Taken))) → slice_get tickets at ≡ found → AckGives here found told
     → (earlier acks : List Ticket) (sent : List Command) (composed : List (ℕ × ℕ))
-    → run (at_rest here.board (earlier ++ tickets) acks sent composed) (Acknowledges (length earlier + at) ∷ [])
-    ≡ at_rest here.board (earlier ++ tickets) (acks ++ acked_by {D = D} {L = L} tickets (Ack at) (Acked told)) sent composed
+    → run (at_rest here.progress (earlier ++ tickets) acks sent composed) (Acknowledges (length earlier + at) ∷ [])
+    ≡ at_rest here.progress (earlier ++ tickets) (acks ++ acked_by {D = D} {L = L} tickets (Ack at) (Acked told)) sent composed
 ack_world D L here tickets at None None is gives earlier acks sent composed =
-    ack_missing here.board (earlier ++ tickets) acks sent composed (length earlier + at) (behind earlier tickets at ∙ is)
-    ∙ ap (λ (l : List Ticket). at_rest here.board (earlier ++ tickets) l sent composed) (sym (append-nil acks))
+    ack_missing here.progress (earlier ++ tickets) acks sent composed (length earlier + at) (behind earlier tickets at ∙ is)
+    ∙ ap (λ (l : List Ticket). at_rest here.progress (earlier ++ tickets) l sent composed) (sym (append-nil acks))
 ack_world D L here tickets at None (Some told) is gives earlier acks sent composed = absurd (let no : ⊥ = cc in no)
 ack_world D L here tickets at (Some ticket) None is gives earlier acks sent composed =
-    ack_waits here.board (earlier ++ tickets) acks sent composed (length earlier + at) ticket (behind earlier tickets at ∙ is) gives
-    ∙ ap (λ (l : List Ticket). at_rest here.board (earlier ++ tickets) l sent composed) (sym (append-nil acks))
+    ack_waits here.progress (earlier ++ tickets) acks sent composed (length earlier + at) ticket (behind earlier tickets at ∙ is) gives
+    ∙ ap (λ (l : List Ticket). at_rest here.progress (earlier ++ tickets) l sent composed) (sym (append-nil acks))
 ack_world D L here tickets at (Some ticket) (Some told) is gives earlier acks sent composed =
-    ack_rests here.board (earlier ++ tickets) acks sent composed (length earlier + at) ticket (behind earlier tickets at ∙ is) gives.0
-    ∙ ap (λ (o : Option Ticket). at_rest here.board (earlier ++ tickets) (acks ++ option_to_list o) sent composed) (sym is)
+    ack_rests here.progress (earlier ++ tickets) acks sent composed (length earlier + at) ticket (behind earlier tickets at ∙ is) gives.0
+    ∙ ap (λ (o : Option Ticket). at_rest here.progress (earlier ++ tickets) (acks ++ option_to_list o) sent composed) (sym is)
 
 ack_found : (D L : Type 0) (here : Behind) (tickets out : List Ticket) (at : ℕ) (found : Option Ticket) (told : Option (List (List Taken))) → slice_get tickets at ≡ found → AckGives here found told → out ≡ tickets
     → IsFound {D = D} {L = L} out (Ack at) (Acked told)
@@ -84,7 +84,7 @@ ack_found D L here tickets out at (Some ticket) (Some told) is gives same = (tic
 
 module _ {D L : Type 0} where
   -- What a call makes of a world at rest.
-  record Rests (board after : Board Entry) (tickets out : List Ticket) (call : Call) (reply : Answer D L) : Type 0 where
+  record Rests (board after : Progress Entry) (tickets out : List Ticket) (call : Call) (reply : Answer D L) : Type 0 where
     pub start : after.start ≡ board.start
     pub settled : IsAllSettled after
     pub tickets_more : (l : List Ticket) × (out ≡ tickets ++ l)
@@ -95,10 +95,10 @@ module _ {D L : Type 0} where
         ≡ at_rest after (earlier ++ out) (acks ++ acked_by tickets call reply) (sent ++ command_of call) more)
 
   -- a call that changes nothing and is no event
-  still : (board after : Board Entry) (tickets out : List Ticket) (call : Call) (reply : Answer D L) → IsAllSettled board → after ≡ board → out ≡ tickets
+  still : (board after : Progress Entry) (tickets out : List Ticket) (call : Call) (reply : Answer D L) → IsAllSettled board → after ≡ board → out ≡ tickets
       → ((t : List Ticket) → acked_by t call reply ≡ []) → ((t : List Ticket) → IsFound t call reply) → command_of call ≡ [] → ((n : ℕ) → events_of n call reply ≡ []) → Rests board after tickets out call reply
   still board after tickets out call reply rest b t acks found sends events = record {
-    start = ap (λ (x : Board Entry). x.start) b;
+    start = ap (λ (x : Progress Entry). x.start) b;
     settled = subst IsAllSettled (sym b) rest;
     tickets_more = ([], t ∙ sym (append-nil tickets));
     acks = acks out ∙ sym (acks tickets);
@@ -111,11 +111,11 @@ module _ {D L : Type 0} where
     );
   }
 
-  submit_case : (board after : Board Entry) (tickets out : List Ticket) (command : Command) (reply : Answer D L) → is_numbered command ≡ true → IsAllSettled board
+  submit_case : (board after : Progress Entry) (tickets out : List Ticket) (command : Command) (reply : Answer D L) → is_numbered command ≡ true → IsAllSettled board
       → after ≡ submitted (entry_of command) board command → out ≡ tickets ++ option_to_list (ticket_of board command)
       → Rests board after tickets out (Submit command) reply
   submit_case board after tickets out command reply numbered rest b t = record {
-    start = ap (λ (x : Board Entry). x.start) b ∙ submitted_start (entry_of command) board (answer board.state command);
+    start = ap (λ (x : Progress Entry). x.start) b ∙ submitted_start (entry_of command) board (answer board.state command);
     settled = subst IsAllSettled (sym b) (submitted_settled (entry_of command) board (answer board.state command) rest);
     tickets_more = (option_to_list (ticket_of board command), t);
     acks = refl;
@@ -128,7 +128,7 @@ module _ {D L : Type 0} where
     );
   }
 
-  turn_case : (cap : ℕ) (board after : Board Entry) (tickets out : List Ticket) (count : ℕ) → IsAllSettled board → IsLongest cap (untaken board) count
+  turn_case : (cap : ℕ) (board after : Progress Entry) (tickets out : List Ticket) (count : ℕ) → IsAllSettled board → IsLongest cap (untaken board) count
       → after ≡ settled_more (taken_more board count) count → out ≡ tickets → Rests board after tickets out Turn (Turned count)
   turn_case cap board after tickets out zero rest longest b t =
       still board after tickets out Turn (Turned zero) rest (b ∙ nothing) t (λ x. refl) (λ x. tt) refl (λ n. refl)
@@ -136,7 +136,7 @@ module _ {D L : Type 0} where
       nothing : settled_more (taken_more board 0) 0 ≡ board
       nothing = λ i. record board { taken = (let e : board.taken + 0 ≡ board.taken = omega arith in e) i; settled = (let e : board.settled + 0 ≡ board.settled = omega arith in e) i }
   turn_case cap board after tickets out (suc n) rest longest b t = record {
-    start = ap (λ (x : Board Entry). x.start) b;
+    start = ap (λ (x : Progress Entry). x.start) b;
     settled = subst IsAllSettled (sym b) (turned_settled board (suc n) rest (long_enough cap board (suc n) rest longest));
     tickets_more = ([], t ∙ sym (append-nil tickets));
     acks = refl;
@@ -149,10 +149,10 @@ module _ {D L : Type 0} where
     );
   }
 
-  ack_case : (here : Behind) (after : Board Entry) (tickets out : List Ticket) (at : ℕ) (told : Option (List (List Taken))) → IsAllSettled here.board → after ≡ here.board → out ≡ tickets
-      → AckGives here (slice_get tickets at) told → Rests here.board after tickets out (Ack at) (Acked told)
+  ack_case : (here : Behind) (after : Progress Entry) (tickets out : List Ticket) (at : ℕ) (told : Option (List (List Taken))) → IsAllSettled here.progress → after ≡ here.progress → out ≡ tickets
+      → AckGives here (slice_get tickets at) told → Rests here.progress after tickets out (Ack at) (Acked told)
   ack_case here after tickets out at told rest b t gives = record {
-    start = ap (λ (x : Board Entry). x.start) b;
+    start = ap (λ (x : Progress Entry). x.start) b;
     settled = subst IsAllSettled (sym b) rest;
     tickets_more = ([], t ∙ sym (append-nil tickets));
     acks = ap (λ (l : List Ticket). acked_by {D = D} {L = L} l (Ack at) (Acked told)) t;
@@ -160,15 +160,15 @@ module _ {D L : Type 0} where
     goes = λ earlier a s c. (
       c,
       ack_world D L here tickets at (slice_get tickets at) told refl gives earlier a s c
-          ∙ same_rest here.board after (earlier ++ tickets) (earlier ++ out) (a ++ acked_by {D = D} {L = L} tickets (Ack at) (Acked told)) (a ++ acked_by {D = D} {L = L} tickets (Ack at) (Acked told)) s (s ++ []) c
+          ∙ same_rest here.progress after (earlier ++ tickets) (earlier ++ out) (a ++ acked_by {D = D} {L = L} tickets (Ack at) (Acked told)) (a ++ acked_by {D = D} {L = L} tickets (Ack at) (Acked told)) s (s ++ []) c
           (sym b) (ap (λ (l : List Ticket). earlier ++ l) (sym t)) refl (sym (append-nil s)),
     );
   }
 
-  put_case : (board after : Board Entry) (tickets out : List Ticket) (document revision : ℕ) → IsAllSettled board → after ≡ board → out ≡ tickets
+  put_case : (board after : Progress Entry) (tickets out : List Ticket) (document revision : ℕ) → IsAllSettled board → after ≡ board → out ≡ tickets
       → Rests board after tickets out (Milestone document revision) Put
   put_case board after tickets out document revision rest b t = record {
-    start = ap (λ (x : Board Entry). x.start) b;
+    start = ap (λ (x : Progress Entry). x.start) b;
     settled = subst IsAllSettled (sym b) rest;
     tickets_more = ([], t ∙ sym (append-nil tickets));
     acks = refl;
@@ -237,28 +237,28 @@ numbered-parts (first ∷ calls) call numbered = let parts = numbered-parts call
 
 module _ {D L : Type 0} {disk : Ghosts D} where
   -- a call, by what it gives
-  call_rests : (cap : ℕ) (here : Between D disk) (call : Call) (reply : Answer D L) (after : Between D disk) → IsNumbered call → IsAllSettled here.board.board → Gives cap here call reply after
-      → Rests here.board.board after.board.board here.tickets after.tickets call reply
+  call_rests : (cap : ℕ) (here : Between D disk) (call : Call) (reply : Answer D L) (after : Between D disk) → IsNumbered call → IsAllSettled here.board.progress → Gives cap here call reply after
+      → Rests here.board.progress after.board.progress here.tickets after.tickets call reply
   call_rests cap here (Submit command) (Submitted at) after numbered rest gives =
-      submit_case here.board.board after.board.board here.tickets after.tickets command (Submitted at) numbered rest (ap (λ (b : Behind). b.board) gives.0)
+      submit_case here.board.progress after.board.progress here.tickets after.tickets command (Submitted at) numbered rest (ap (λ (b : Behind). b.progress) gives.0)
       (gives.2.2 ∙ ap (λ (o : Option Ticket). here.tickets ++ option_to_list o) gives.2.1)
   call_rests cap here (Submit command) (Refused refusal) after numbered rest gives =
-      submit_case here.board.board after.board.board here.tickets after.tickets command (Refused refusal) numbered rest
-      (ap (λ (b : Between D disk). b.board.board) gives.0 ∙ ap (submitted_by (entry_of command) here.board.board) (sym gives.1))
-      (ap (λ (b : Between D disk). b.tickets) gives.0 ∙ (sym (append-nil here.tickets) ∙ ap (λ (o : Outcome). here.tickets ++ option_to_list (ticket_by here.board.board command o)) (sym gives.1)))
+      submit_case here.board.progress after.board.progress here.tickets after.tickets command (Refused refusal) numbered rest
+      (ap (λ (b : Between D disk). b.board.progress) gives.0 ∙ ap (submitted_by (entry_of command) here.board.progress) (sym gives.1))
+      (ap (λ (b : Between D disk). b.tickets) gives.0 ∙ (sym (append-nil here.tickets) ∙ ap (λ (o : Outcome). here.tickets ++ option_to_list (ticket_by here.board.progress command o)) (sym gives.1)))
   call_rests cap here Turn (Turned count) after numbered rest gives =
-      turn_case cap here.board.board after.board.board here.tickets after.tickets count rest gives.0 (ap (λ (b : Behind). b.board) gives.1) gives.2
+      turn_case cap here.board.progress after.board.progress here.tickets after.tickets count rest gives.0 (ap (λ (b : Behind). b.progress) gives.1) gives.2
   call_rests cap here (Ack at) (Acked told) after numbered rest gives =
-      ack_case here.board after.board.board here.tickets after.tickets at told rest (ap (λ (b : Between D disk). b.board.board) gives.0) (ap (λ (b : Between D disk). b.tickets) gives.0) gives.1
+      ack_case here.board after.board.progress here.tickets after.tickets at told rest (ap (λ (b : Between D disk). b.board.progress) gives.0) (ap (λ (b : Between D disk). b.tickets) gives.0) gives.1
   call_rests cap here (Milestone document revision) Put after numbered rest gives =
-      put_case here.board.board after.board.board here.tickets after.tickets document revision rest (ap (λ (b : Behind). b.board) gives.0) gives.1
+      put_case here.board.progress after.board.progress here.tickets after.tickets document revision rest (ap (λ (b : Behind). b.progress) gives.0) gives.1
   call_rests cap here (Milestone document revision) (Refused refusal) after numbered rest gives =
-      still here.board.board after.board.board here.tickets after.tickets (Milestone document revision) (Refused refusal) rest (ap (λ (b : Behind). b.board) gives.0) gives.1
+      still here.board.progress after.board.progress here.tickets after.tickets (Milestone document revision) (Refused refusal) rest (ap (λ (b : Behind). b.progress) gives.0) gives.1
       (λ t. refl) (λ t. tt) refl (λ n. refl)
   call_rests cap here Retire Retired after numbered rest gives =
-      still here.board.board after.board.board here.tickets after.tickets Retire Retired rest (ap (λ (b : Behind). b.board) gives.0) gives.1 (λ t. refl) (λ t. tt) refl (λ n. refl)
+      still here.board.progress after.board.progress here.tickets after.tickets Retire Retired rest (ap (λ (b : Behind). b.progress) gives.0) gives.1 (λ t. refl) (λ t. tt) refl (λ n. refl)
   call_rests cap here Retire (Refused refusal) after numbered rest gives =
-      still here.board.board after.board.board here.tickets after.tickets Retire (Refused refusal) rest (ap (λ (b : Behind). b.board) gives.0) gives.1 (λ t. refl) (λ t. tt) refl (λ n. refl)
+      still here.board.progress after.board.progress here.tickets after.tickets Retire (Refused refusal) rest (ap (λ (b : Behind). b.progress) gives.0) gives.1 (λ t. refl) (λ t. tt) refl (λ n. refl)
   call_rests cap here call reply after numbered rest gives = absurd gives
 
   answered_length : (cap : ℕ) (begin : Between D disk) (calls : List Call) (answers : List (Answer D L)) (here : Between D disk) → Answered cap begin calls answers here → length calls ≡ length answers
@@ -272,7 +272,7 @@ module _ {D L : Type 0} {disk : Ghosts D} where
     pub found : AreFound here.tickets calls answers
     pub is : IsSchedule begin here calls answers
 
-  run_rests : (cap : ℕ) (begin : Between D disk) (calls : List Call) (answers : List (Answer D L)) (here : Between D disk) → IsAllSettled begin.board.board → begin.tickets ≡ []
+  run_rests : (cap : ℕ) (begin : Between D disk) (calls : List Call) (answers : List (Answer D L)) (here : Between D disk) → IsAllSettled begin.board.progress → begin.tickets ≡ []
       → AreNumbered calls → Answered cap begin calls answers here → RunRests begin here calls answers
   run_rests cap begin _ _ _ rest none numbered Begins = record {
     found = tt;
@@ -281,7 +281,7 @@ module _ {D L : Type 0} {disk : Ghosts D} where
       settled = rest;
       goes = λ earlier a s c. (
         c,
-        same_rest begin.board.board begin.board.board earlier (earlier ++ begin.tickets) a (a ++ []) s (s ++ []) c refl
+        same_rest begin.board.progress begin.board.progress earlier (earlier ++ begin.tickets) a (a ++ []) s (s ++ []) c refl
             (sym (append-nil earlier) ∙ ap (λ (l : List Ticket). earlier ++ l) (sym none)) (sym (append-nil a)) (sym (append-nil s)),
       );
     };
@@ -303,11 +303,11 @@ module _ {D L : Type 0} {disk : Ghosts D} where
               let first = so_far.is.goes earlier a s c in
               let second = one.goes earlier (a ++ acked here.tickets calls answers) (s ++ commands_in calls) first.0 in (
                 second.0,
-                ap (run (at_rest begin.board.board earlier a s c)) (schedule-push (length earlier) calls answers call reply same)
-                    ∙ (run-append (at_rest begin.board.board earlier a s c) (schedule (length earlier) calls answers) (events_of (length earlier) call reply)
+                ap (run (at_rest begin.board.progress earlier a s c)) (schedule-push (length earlier) calls answers call reply same)
+                    ∙ (run-append (at_rest begin.board.progress earlier a s c) (schedule (length earlier) calls answers) (events_of (length earlier) call reply)
                     ∙ (ap (λ (w : World). run w (events_of (length earlier) call reply)) first.1
                     ∙ (second.1
-                    ∙ same_rest after.board.board after.board.board (earlier ++ after.tickets) (earlier ++ after.tickets)
+                    ∙ same_rest after.board.progress after.board.progress (earlier ++ after.tickets) (earlier ++ after.tickets)
                     ((a ++ acked here.tickets calls answers) ++ acked_by here.tickets call reply) (a ++ acked after.tickets (calls ++ call ∷ []) (answers ++ reply ∷ []))
                     ((s ++ commands_in calls) ++ command_of call) (s ++ commands_in (calls ++ call ∷ [])) second.0 refl refl
                     (append_assoc a (acked here.tickets calls answers) (acked_by here.tickets call reply) ∙ ap (λ (l : List Ticket). a ++ l) acks)
@@ -321,6 +321,6 @@ run_is_schedule D L disk cap begin here calls answers rest none numbered answere
 
 pub first_is_schedule : (D L : Type 0) (disk : Ghosts D) → FirstIsSchedule D L disk
 first_is_schedule D L disk start cap begin here calls answers from none numbered answered =
-    let rest : IsAllSettled begin.board.board = subst IsAllSettled (sym from) (record { taken = refl; within = omega arith }) in
+    let rest : IsAllSettled begin.board.progress = subst IsAllSettled (sym from) (record { taken = refl; within = omega arith }) in
     let goes = (run_is_schedule D L disk cap begin here calls answers rest none numbered answered).goes [] [] [] [] in
-    (goes.0, ap (λ (b : Board Entry). run (at_rest b [] [] [] []) (schedule 0 calls answers)) (sym from) ∙ goes.1)
+    (goes.0, ap (λ (b : Progress Entry). run (at_rest b [] [] [] []) (schedule 0 calls answers)) (sym from) ∙ goes.1)

@@ -5,7 +5,7 @@ use Rattle.disk.specs.declared.device.Disk.{Ghosts}
 use Rattle.revision.specs.Command.{Taken, Command}
 use Rattle.revision.specs.State.{State, fold}
 use Rattle.revision.specs.Acceptance.{Answer, Takes, Repeats, Refuses, answer}
-use Rattle.world.specs.Board.{Board, submitted, submitted_by, next_run, taken_more, settled_more}
+use Rattle.world.specs.Progress.{Progress, submitted, submitted_by, next_run, taken_more, settled_more}
 use Rattle.world.specs.World.{Entry, entry_of, takens}
 use Rattle.recovery.specs.declared.store.Store.{Store}
 use Rattle.recovery.specs.Found.{commands_of, FoundAs}
@@ -19,13 +19,13 @@ use Rattle.lives.proofs.Evens.{parts_longer, parts_taken, parts_settled, run_tak
 use Rattle.lives.proofs.Running.{calm_parts, calm_batches, run_step, run_settled_step}
 
 -- a board's counts lie in its order, and its order as far as it is taken off is these batches
-pub record Stands (board : Board Entry) (told rest : List (List Taken)) : Type 0 where
+pub record Stands (board : Progress Entry) (told rest : List (List Taken)) : Type 0 where
   pub settled : board.settled ≤ board.taken
   pub taken : board.taken ≤ length board.order
   pub parts : AreParts (takens board.order) board.settled board.taken told rest
 
 -- a command that is submitted, by its answer
-stands_by : (entry : Taken → Entry) (board : Board Entry) (told rest : List (List Taken)) (due : Answer) → Stands board told rest → Stands (submitted_by entry board due) told rest
+stands_by : (entry : Taken → Entry) (board : Progress Entry) (told rest : List (List Taken)) (due : Answer) → Stands board told rest → Stands (submitted_by entry board due) told rest
 stands_by entry board told rest (Takes taken) is =
     let longer : takens (board.order ++ entry taken ∷ []) ≡ takens board.order ++ takens (entry taken ∷ []) = map-append (λ (e : Entry). e.taken) board.order (entry taken ∷ []) in
     record {
@@ -37,18 +37,18 @@ stands_by entry board told rest (Takes taken) is =
 stands_by entry board told rest (Repeats revision) is = is
 stands_by entry board told rest (Refuses refusal) is = is
 
-pub settled_by : (entry : Taken → Entry) (board : Board Entry) (due : Answer) → (submitted_by entry board due).settled ≡ board.settled
+pub settled_by : (entry : Taken → Entry) (board : Progress Entry) (due : Answer) → (submitted_by entry board due).settled ≡ board.settled
 settled_by entry board (Takes taken) = refl
 settled_by entry board (Repeats revision) = refl
 settled_by entry board (Refuses refusal) = refl
 
 module _ {D : Type 0} {disk : Ghosts D} where
-  pub even_of : (board : Board Entry) (known told committed waiting : List (List Taken)) (store : Store D disk) → Stands board told (committed ++ waiting)
+  pub even_of : (board : Progress Entry) (known told committed waiting : List (List Taken)) (store : Store D disk) → Stands board told (committed ++ waiting)
       → IsEven (record { board = board; known = known; told = told; committed = committed; waiting = waiting; store = store })
   even_of board known told committed waiting store is = record { settled = is.settled; taken = is.taken; parts = is.parts }
 
   -- a calm moment, by its parts
-  pub calm_of : (start : State) (board : Board Entry) (known told committed waiting : List (List Taken)) (store : Store D disk) → Stands board told [] → known ≡ told → committed ≡ [] → waiting ≡ []
+  pub calm_of : (start : State) (board : Progress Entry) (known told committed waiting : List (List Taken)) (store : Store D disk) → Stands board told [] → known ≡ told → committed ≡ [] → waiting ≡ []
       → state_of store ≡ fold start (commands_of told)
       → IsCalm start (record { board = board; known = known; told = told; committed = committed; waiting = waiting; store = store })
   calm_of start board known told committed waiting store is knows none nothing state = record {
@@ -64,7 +64,7 @@ module _ {D : Type 0} {disk : Ghosts D} where
   calm_stands start here calm = record { settled = calm.even.settled; taken = calm.even.taken; parts = calm_parts start here calm }
 
   -- the board alone changes, and what is settled doesn't
-  pub run_board : (start : State) (here : Standing D disk) (board : Board Entry) (known : List (List Taken)) → IsCalm start here → Stands board here.told [] → board.settled ≡ here.board.settled
+  pub run_board : (start : State) (here : Standing D disk) (board : Progress Entry) (known : List (List Taken)) → IsCalm start here → Stands board here.told [] → board.settled ≡ here.board.settled
       → known ≡ here.known
       → IsCalm start (record here { board = board; known = known }) × RunGoes start here (record here { board = board; known = known })
   run_board start here board known calm is settled knows =
@@ -75,14 +75,14 @@ module _ {D : Type 0} {disk : Ghosts D} where
       )
 
   -- a command is submitted
-  pub run_submitted : (start : State) (here : Standing D disk) (board : Board Entry) (known : List (List Taken)) (command : Command) → IsCalm start here
+  pub run_submitted : (start : State) (here : Standing D disk) (board : Progress Entry) (known : List (List Taken)) (command : Command) → IsCalm start here
       → board ≡ submitted (entry_of command) here.board command → known ≡ here.known
       → IsCalm start (record here { board = board; known = known }) × RunGoes start here (record here { board = board; known = known })
   run_submitted start here board known command calm is knows =
       let due = answer here.board.state command in
       run_board start here board known calm
-      (subst (λ (b : Board Entry). Stands b here.told []) (sym is) (stands_by (entry_of command) here.board here.told [] due (calm_stands start here calm)))
-      (ap (λ (b : Board Entry). b.settled) is ∙ settled_by (entry_of command) here.board due) knows
+      (subst (λ (b : Progress Entry). Stands b here.told []) (sym is) (stands_by (entry_of command) here.board here.told [] due (calm_stands start here calm)))
+      (ap (λ (b : Progress Entry). b.settled) is ∙ settled_by (entry_of command) here.board due) knows
 
   -- the store alone changes, and a crash leaves no other state
   pub run_store : (start : State) (here : Standing D disk) (store : Store D disk) → IsCalm start here → state_of store ≡ state_of here.store
@@ -96,7 +96,7 @@ module _ {D : Type 0} {disk : Ghosts D} where
       )
 
   -- A turn that was refused: the run is taken off, and is committed or not.
-  pub run_refused : (start : State) (here : Standing D disk) (board : Board Entry) (known committed waiting : List (List Taken)) (store : Store D disk) (run : List Taken) → IsCalm start here
+  pub run_refused : (start : State) (here : Standing D disk) (board : Progress Entry) (known committed waiting : List (List Taken)) (store : Store D disk) (run : List Taken) → IsCalm start here
       → run ≡ takens (next_run here.board (length run)) → here.board.taken + length run ≤ length here.board.order → board ≡ taken_more here.board (length run) → committed ++ waiting ≡ run ∷ []
       → Goes (IsWithOrWithout (state_of here.store) run) here.store store
       → RunGoes start here (record { board = board; known = known; told = here.told; committed = committed; waiting = waiting; store = store })
@@ -107,13 +107,13 @@ module _ {D : Type 0} {disk : Ghosts D} where
       (is ∙ run_taken here.board.order here.board.taken count) stands.parts in
       let later : Stands (taken_more here.board count) here.told (run ∷ []) = record { settled = omega (arith, stands.settled); taken = within; parts = parts } in
       let even = even_of board known here.told committed waiting store
-      (subst (λ (b : Board Entry). Stands b here.told (committed ++ waiting)) (sym boards) (subst (λ (rest : List (List Taken)). Stands (taken_more here.board count) here.told rest) (sym held) later)) in
+      (subst (λ (b : Progress Entry). Stands b here.told (committed ++ waiting)) (sym boards) (subst (λ (rest : List (List Taken)). Stands (taken_more here.board count) here.told rest) (sym held) later)) in
       run_step start here (record { board = board; known = known; told = here.told; committed = committed; waiting = waiting; store = store }) (run ∷ []) calm even
-      (ap (λ (l : List (List Taken)). here.told ++ l) held) (ap (λ (b : Board Entry). b.settled) boards)
+      (ap (λ (l : List (List Taken)). here.told ++ l) held) (ap (λ (b : Progress Entry). b.settled) boards)
       (subst (λ (c : List Taken). Goes (IsWithOrWithout (state_of here.store) c) here.store store) (sym (append-nil run)) goes)
 
   -- the same, where an equation says that what was published is unchanged
-  pub run_refused_by : (start : State) (here : Standing D disk) (board : Board Entry) (known told committed waiting : List (List Taken)) (store : Store D disk) (run : List Taken) → IsCalm start here
+  pub run_refused_by : (start : State) (here : Standing D disk) (board : Progress Entry) (known told committed waiting : List (List Taken)) (store : Store D disk) (run : List Taken) → IsCalm start here
       → run ≡ takens (next_run here.board (length run)) → here.board.taken + length run ≤ length here.board.order → board ≡ taken_more here.board (length run) → committed ++ waiting ≡ run ∷ []
       → Goes (IsWithOrWithout (state_of here.store) run) here.store store → told ≡ here.told
       → RunGoes start here (record { board = board; known = known; told = told; committed = committed; waiting = waiting; store = store })
@@ -122,7 +122,7 @@ module _ {D : Type 0} {disk : Ghosts D} where
       (run_refused start here board known committed waiting store run calm is within boards held goes)
 
   -- A turn that was good: the run is taken off, committed, published and settled.
-  pub run_settled : (start : State) (here : Standing D disk) (board : Board Entry) (known told committed waiting : List (List Taken)) (store : Store D disk) (run : List Taken) → IsCalm start here
+  pub run_settled : (start : State) (here : Standing D disk) (board : Progress Entry) (known told committed waiting : List (List Taken)) (store : Store D disk) (run : List Taken) → IsCalm start here
       → run ≡ takens (next_run here.board (length run)) → here.board.taken + length run ≤ length here.board.order
       → board ≡ settled_more (taken_more here.board (length run)) (length run) → known ≡ told → told ≡ here.told ++ run ∷ [] → committed ≡ [] → waiting ≡ []
       → state_of store ≡ fold start (commands_of told) → has_failed store ≡ false
@@ -136,16 +136,16 @@ module _ {D : Type 0} {disk : Ghosts D} where
       let parts = parts_settled (takens here.board.order) here.board.settled here.board.taken stands.settled bound run count here.told
       (is ∙ run_taken here.board.order here.board.taken count) stands.parts in
       let later : Stands (settled_more (taken_more here.board count) count) (here.told ++ run ∷ []) [] = record { settled = omega (arith, stands.settled); taken = within; parts = parts } in
-      let there = subst (λ (b : Board Entry). Stands b told []) (sym boards) (subst (λ (t : List (List Taken)). Stands (settled_more (taken_more here.board count) count) t []) (sym tells) later) in
+      let there = subst (λ (b : Progress Entry). Stands b told []) (sym boards) (subst (λ (t : List (List Taken)). Stands (settled_more (taken_more here.board count) count) t []) (sym tells) later) in
       let after = calm_of start board known told committed waiting store there knows none nothing state in (
         after,
         run_settled_step start here (record { board = board; known = known; told = told; committed = committed; waiting = waiting; store = store }) (run ∷ []) calm after tells
-            (omega (arith, ap (λ (b : Board Entry). b.settled) boards)) works
+            (omega (arith, ap (λ (b : Progress Entry). b.settled) boards)) works
             (subst (λ (c : List Taken). Goes (IsWithOrWithout (state_of here.store) c) here.store store) (sym (append-nil run)) goes),
       )
 
   -- a run of no command at all
-  pub run_of_none : (start : State) (here : Standing D disk) (board : Board Entry) (known : List (List Taken)) → IsCalm start here → board ≡ taken_more here.board 0 → known ≡ here.known
+  pub run_of_none : (start : State) (here : Standing D disk) (board : Progress Entry) (known : List (List Taken)) → IsCalm start here → board ≡ taken_more here.board 0 → known ≡ here.known
       → IsCalm start (record here { board = board; known = known }) × RunGoes start here (record here { board = board; known = known })
   run_of_none start here board known calm is knows =
       let stands = calm_stands start here calm in
@@ -154,4 +154,4 @@ module _ {D : Type 0} {disk : Ghosts D} where
         taken = omega (arith, stands.taken);
         parts = subst (λ (n : ℕ). AreParts (takens here.board.order) here.board.settled n here.told []) (omega arith) stands.parts;
       } in
-      run_board start here board known calm (subst (λ (b : Board Entry). Stands b here.told []) (sym is) same) (ap (λ (b : Board Entry). b.settled) is) knows
+      run_board start here board known calm (subst (λ (b : Progress Entry). Stands b here.told []) (sym is) same) (ap (λ (b : Progress Entry). b.settled) is) knows

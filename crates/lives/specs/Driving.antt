@@ -6,7 +6,7 @@ use Rattle.refusal.specs.declared.Refusal.TheVariants.{JournalFull, StillNeeded,
 use Rattle.revision.specs.Command.{Taken}
 use Rattle.revision.specs.State.{fold}
 use Rattle.revision.specs.Acceptance.{Refuses, answer}
-use Rattle.world.specs.Board.{Ticket, submitted, ticket_of, next_run, taken_more, settled_more, can_ack}
+use Rattle.world.specs.Progress.{Ticket, submitted, ticket_of, next_run, taken_more, settled_more, can_ack}
 use Rattle.world.specs.World.{entry_of, takens}
 use Rattle.recovery.specs.declared.store.Store.{Store}
 use Rattle.recovery.specs.declared.run.StoreStep.TheVariants.{Milestone as PutsMilestone, Retire as Retires}
@@ -34,8 +34,8 @@ pub record Between (D : Type 0) (disk : Ghosts D) : Type 0 where
 -- was published.
 abbrev pub AckGives : Board → Option Ticket → Option (List (List Taken)) → Type 0
 AckGives board None told = told ≡ None
-AckGives board (Some ticket) None = can_ack board.board ticket ≡ false
-AckGives board (Some ticket) (Some told) = (can_ack board.board ticket ≡ true) × (told ≡ board.told) × (ticket.length ≤ length (commands_of told))
+AckGives board (Some ticket) None = can_ack board.progress ticket ≡ false
+AckGives board (Some ticket) (Some told) = (can_ack board.progress ticket ≡ true) × (told ≡ board.told) × (ticket.length ≤ length (commands_of told))
 
 -- batches with one more behind them, if it has a command
 abbrev pub with_run : List (List Taken) → List Taken → List (List Taken)
@@ -45,7 +45,7 @@ with_run told (first ∷ others) = told ++ (first ∷ others) ∷ []
 -- Turn: so many of the next commands are taken off and settled, and the board is told that they were published as one batch.
 abbrev pub turned : Board → ℕ → Board
 turned board count =
-    record board { board = settled_more (taken_more board.board count) count; told = with_run board.told (takens (next_run board.board count)) }
+    record board { progress = settled_more (taken_more board.progress count) count; told = with_run board.told (takens (next_run board.progress count)) }
 
 module _ {D : Type 0} {disk : Ghosts D} where
   -- the commands of a run are committed as one batch; of none the store is left unchanged
@@ -58,7 +58,7 @@ module _ {D : Type 0} {disk : Ghosts D} where
   abbrev pub IsUnsettled : ℕ → Board → Store D disk → Board → Store D disk → Type 0
   IsUnsettled cap board store board-after store-after =
       ((board-after ≡ board) × (store-after ≡ store))
-      ⊎ ((count : ℕ) × IsLongest cap (untaken board.board) count × (1 ≤ count) × (board-after ≡ record board { board = taken_more board.board count }))
+      ⊎ ((count : ℕ) × IsLongest cap (untaken board.progress) count × (1 ≤ count) × (board-after ≡ record board { progress = taken_more board.progress count }))
 
   -- What a call leaves that was begun and isn't answered: no ticket is given, and nothing more is settled. A submission leaves all
   -- unchanged, and an acknowledgement is always answered. A milestone leaves the board and the tickets, and where the store works still,
@@ -83,14 +83,14 @@ module _ {D L : Type 0} {disk : Ghosts D} where
   -- at most `cap` bytes.
   abbrev pub Gives : ℕ → Between D disk → Call → Answer D L → Between D disk → Type 0
   Gives cap here (Submit command) (Submitted at) after =
-      (after.board ≡ record here.board { board = submitted (entry_of command) here.board.board command }) × (at ≡ length here.tickets)
-      × ((ticket : Ticket) × (Some ticket ≡ ticket_of here.board.board command) × (after.tickets ≡ here.tickets ++ ticket ∷ []))
+      (after.board ≡ record here.board { progress = submitted (entry_of command) here.board.progress command }) × (at ≡ length here.tickets)
+      × ((ticket : Ticket) × (Some ticket ≡ ticket_of here.board.progress command) × (after.tickets ≡ here.tickets ++ ticket ∷ []))
       × (after.store ≡ here.store)
-  Gives cap here (Submit command) (Refused refusal) after = (after ≡ here) × (answer here.board.board.state command ≡ Refuses refusal)
+  Gives cap here (Submit command) (Refused refusal) after = (after ≡ here) × (answer here.board.progress.state command ≡ Refuses refusal)
   Gives cap here Turn (Turned count) after =
-      IsLongest cap (untaken here.board.board) count × (after.board ≡ turned here.board count) × (after.tickets ≡ here.tickets)
-      × (state_of after.store ≡ fold (state_of here.store) (takens (next_run here.board.board count)))
-      × IsRunCommitted (takens (next_run here.board.board count)) here.store after.store
+      IsLongest cap (untaken here.board.progress) count × (after.board ≡ turned here.board count) × (after.tickets ≡ here.tickets)
+      × (state_of after.store ≡ fold (state_of here.store) (takens (next_run here.board.progress count)))
+      × IsRunCommitted (takens (next_run here.board.progress count)) here.store after.store
   Gives cap here (Ack at) (Acked told) after = (after ≡ here) × AckGives here.board (slice_get here.tickets at) told
   Gives cap here (Milestone document revision) Put after =
       (after.board ≡ here.board) × (after.tickets ≡ here.tickets) × IsTaken (PutsMilestone document revision) here.store after.store
@@ -116,8 +116,8 @@ module _ {D L : Type 0} {disk : Ghosts D} where
     pub last : Between D disk
     pub answered : Answered cap start (take (length answers) calls) answers last
     pub tickets : after.tickets ≡ last.tickets
-    pub order : after.board.board.order ≡ last.board.board.order
-    pub settled : after.board.board.settled ≡ last.board.board.settled
+    pub order : after.board.progress.order ≡ last.board.progress.order
+    pub settled : after.board.progress.settled ≡ last.board.progress.settled
     pub behind : (after ≡ last) ⊎ ((call : Call) × (slice_get calls (length answers) ≡ Some call) × IsUnanswered cap last call after)
 
 module _ {D L : Type 0} where
@@ -150,7 +150,7 @@ module _ {D L : Type 0} {disk : Ghosts D} where
   -- Why a turn is refused, likewise: it took off a run with a command, and the write of that is refused.
   abbrev pub IsTurnRefused : ℕ → Board → Store D disk → Refusal → Flusher D L disk → Type 0
   IsTurnRefused cap board store refusal after =
-      (count : ℕ) × IsLongest cap (untaken board.board) count × (1 ≤ count) × IsRunRefused store (takens (next_run board.board count)) refusal after
+      (count : ℕ) × IsLongest cap (untaken board.progress) count × (1 ≤ count) × IsRunRefused store (takens (next_run board.progress count)) refusal after
 
 module _ {D L : Type 0} {disk : Ghosts D} where
   -- The call behind those that were answered is a turn, and by what stood there it is refused so, and leaves this flusher.

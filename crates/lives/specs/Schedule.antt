@@ -2,7 +2,7 @@
 use Rattle.std.specs.Prelude.{◌≡◌, ◌≤◌, ℕ, zero, suc, ◌+◌, true, false, Some, List, [], ◌∷◌, ◌++◌, length, take, slice_get, option_to_list}
 use Rattle.disk.specs.declared.device.Disk.{Ghosts}
 use Rattle.revision.specs.Command.{Command}
-use Rattle.world.specs.Board.{Board, Ticket, begun_board}
+use Rattle.world.specs.Progress.{Progress, Ticket, begun_progress}
 use Rattle.world.specs.Event.{Event, Done, Submit as Sends, Take, Device, Publish, Settle, Ack as Acknowledges, Compose}
 use Rattle.revision.specs.State.{State}
 use Rattle.world.specs.World.{Entry, takens, World, begun}
@@ -14,7 +14,7 @@ use Rattle.lives.specs.declared.calls.Answer.TheVariants.{Turned, Acked, Put}
 use Rattle.lives.specs.Driving.{Between, Answered}
 
 -- A world in which nothing is under way: all that is taken off is settled and shown, and a crash leaves just that.
-abbrev pub at_rest : Board Entry → List Ticket → List Ticket → List Command → List (ℕ × ℕ) → World
+abbrev pub at_rest : Progress Entry → List Ticket → List Ticket → List Command → List (ℕ × ℕ) → World
 at_rest board tickets acks sent composed = record {
   board = board;
   published = takens (take board.settled board.order);
@@ -77,7 +77,7 @@ module _ {D L : Type 0} where
   acked tickets (call ∷ calls) (reply ∷ answers) = acked_by tickets call reply ++ acked tickets calls answers
 
 -- Nothing that was taken off is left to be settled, and that lies in the order.
-pub record IsAllSettled (board : Board Entry) : Type 0 where
+pub record IsAllSettled (board : Progress Entry) : Type 0 where
   pub taken : board.taken ≡ board.settled
   pub within : board.settled ≤ length board.order
 
@@ -86,21 +86,21 @@ module _ {D L : Type 0} {disk : Ghosts D} where
   -- at rest that it began with the one that it ends with. The world's board is the run's, its tickets have the run's tickets behind those
   -- that there were, its acknowledgements are those that gave a token, and it was sent the commands that were submitted.
   pub record IsSchedule (begin here : Between D disk) (calls : List Call) (answers : List (Answer D L)) : Type 0 where
-    pub start : here.board.board.start ≡ begin.board.board.start
-    pub settled : IsAllSettled here.board.board
+    pub start : here.board.progress.start ≡ begin.board.progress.start
+    pub settled : IsAllSettled here.board.progress
     pub goes : (earlier acks : List Ticket) (sent : List Command) (composed : List (ℕ × ℕ)) → (more : List (ℕ × ℕ))
-        × (run (at_rest begin.board.board earlier acks sent composed) (schedule (length earlier) calls answers)
-        ≡ at_rest here.board.board (earlier ++ here.tickets) (acks ++ acked here.tickets calls answers) (sent ++ commands_in calls) more)
+        × (run (at_rest begin.board.progress earlier acks sent composed) (schedule (length earlier) calls answers)
+        ≡ at_rest here.board.progress (earlier ++ here.tickets) (acks ++ acked here.tickets calls answers) (sent ++ commands_in calls) more)
 
 -- Each run of calls that were answered one after another, from a board where all that is taken off is settled, is a schedule.
 abbrev pub RunIsSchedule : (D L : Type 0) (disk : Ghosts D) → Type 0
 RunIsSchedule D L disk =
-    (cap : ℕ) (begin here : Between D disk) (calls : List Call) (answers : List (Answer D L)) → IsAllSettled begin.board.board → begin.tickets ≡ []
+    (cap : ℕ) (begin here : Between D disk) (calls : List Call) (answers : List (Answer D L)) → IsAllSettled begin.board.progress → begin.tickets ≡ []
     → AreNumbered calls → Answered cap begin calls answers here → IsSchedule begin here calls answers
 
 -- And the first run over a store that was just opened is a schedule of a world that was.
 abbrev pub FirstIsSchedule : (D L : Type 0) (disk : Ghosts D) → Type 0
 FirstIsSchedule D L disk =
-    (start : State) (cap : ℕ) (begin here : Between D disk) (calls : List Call) (answers : List (Answer D L)) → begin.board.board ≡ begun_board start → begin.tickets ≡ []
+    (start : State) (cap : ℕ) (begin here : Between D disk) (calls : List Call) (answers : List (Answer D L)) → begin.board.progress ≡ begun_progress start → begin.tickets ≡ []
     → AreNumbered calls → Answered cap begin calls answers here
-    → (more : List (ℕ × ℕ)) × (run (begun start) (schedule 0 calls answers) ≡ at_rest here.board.board here.tickets (acked here.tickets calls answers) (commands_in calls) more)
+    → (more : List (ℕ × ℕ)) × (run (begun start) (schedule 0 calls answers) ≡ at_rest here.board.progress here.tickets (acked here.tickets calls answers) (commands_in calls) more)

@@ -7,7 +7,7 @@ use Rattle.delta.specs.Operation.{insert_text}
 use Rattle.revision.specs.Command.{Action, Create, Command}
 use Rattle.revision.specs.State.{State}
 use Rattle.revision.specs.Acceptance.{Reply, TakenAt, AgainAt}
-use Rattle.world.specs.Board.{Ticket}
+use Rattle.world.specs.Progress.{Ticket}
 use Rattle.world.specs.Event.{Done, Submit as Sends, Take, Device, Publish, Settle, Ack as Acknowledges, Compose}
 use Rattle.world.specs.World.{World, begun}
 use Rattle.world.specs.Step.{run}

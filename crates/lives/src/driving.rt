@@ -2,7 +2,7 @@
 ghost use Rattle.std.specs.Prelude.{List, ℕ, ◌≡◌, ◌≢◌, ◌⊎◌, ◌↔◌, ◌<◌, ◌+◌, [], true, false, Some, None, length, slice_get, take, OnOk, OnErr, IfOk, IfErr, IfSome, IsErrOf};
 ghost use Rattle.disk.specs.Crash.{LeavesOnly, MayLeaveNow};
 ghost use Rattle.refusal.specs.declared.Refusal.{Refusal as Why};
-ghost use Rattle.world.specs.Board.{submitted};
+ghost use Rattle.world.specs.Progress.{submitted};
 ghost use Rattle.world.specs.World.{entry_of, takens};
 ghost use Rattle.recovery.specs.declared.store.Store.{Store};
 ghost use Rattle.recovery.specs.declared.run.StoreStep.TheVariants.{Milestone as PutsMilestone, Retire as Retires};
@@ -50,11 +50,11 @@ fn submit_one<D: Disk, L: Life>(
     ensures gives { (cap : ℕ) (store : Store D ⟦<D as Disk>⟧)
         → IfOk result (λ reply. Gives cap (record { board = board.old; tickets = tickets.old.items; store = store })
         (Call.Submit command.now) reply (record { board = board.new; tickets = tickets.new.items; store = store })) }
-    ensures step { OnOk result (board.new.board ≡ submitted (entry_of command.now) board.old.board command.now) }
+    ensures step { OnOk result (board.new.progress ≡ submitted (entry_of command.now) board.old.progress command.now) }
     ensures same { OnErr result ((board.new ≡ board.old) × (tickets.new.items ≡ tickets.old.items)) }
     ensures told { board.new.told ≡ board.old.told }
     ensures failed { board.new.failed ≡ board.old.failed }
-    ensures counts { seat.new + length board.old.board.order ≡ seat.old + length board.new.board.order }
+    ensures counts { seat.new + length board.old.progress.order ≡ seat.old + length board.new.progress.order }
 {
     tickets.reserve(1)?;
     match board.submit(alloc, seat, command) {
@@ -164,9 +164,9 @@ fn call_one<D: Disk, L: Life, R: Wait>(
     ensures left { OnErr result
         (IsUnanswered (cap_of L.start) (between board.old tickets.old.items flusher.old) call.now
         (between board.new tickets.new.items flusher.new)) }
-    ensures order { OnErr result (board.new.board.order ≡ board.old.board.order) }
+    ensures order { OnErr result (board.new.progress.order ≡ board.old.progress.order) }
     ensures failed { board.new.failed ≡ board.old.failed }
-    ensures counts { seat.new + length board.old.board.order ≡ seat.old + length board.new.board.order }
+    ensures counts { seat.new + length board.old.progress.order ≡ seat.old + length board.new.progress.order }
     ensures fails { has_failed (store_of flusher.new) ≡ true ↔ IsErrOf result Refusal.Fault }
     ensures stops { IfErr result (λ e. ((e ≡ Refusal.NoMemory) ⊎ (e ≡ Refusal.Fault))
         ⊎ ((call.now ≡ Call.Turn)
@@ -212,7 +212,7 @@ fn drive_all<D: Disk, L: Life, R: Wait>(
         × Answered (cap_of L.start) (between board.old [] flusher.old) calls.now answers.new.items
         (between board.new tickets.new.items flusher.new)) }
     ensures failed { board.new.failed ≡ board.old.failed }
-    ensures counts { seat.new + length board.old.board.order ≡ seat.old + length board.new.board.order }
+    ensures counts { seat.new + length board.old.progress.order ≡ seat.old + length board.new.progress.order }
     ensures fails { has_failed (store_of flusher.new) ≡ true ↔ IsErrOf result Refusal.Fault }
 {
     for call in calls {
@@ -256,14 +256,14 @@ pub fn drive<D: Disk, L: Life, R: Wait>(
     ensures goes { RunGoes L.start (standing board.old flusher.old) (standing board.new flusher.new) }
     ensures any_moment { IsOpen (store_of flusher.old)
         → LeavesOnly ⟦<D as Disk>⟧
-        (IsFirst board.old.board.settled L.start (takens board.new.board.order)
+        (IsFirst board.old.progress.settled L.start (takens board.new.progress.order)
         (batches_of (standing board.new flusher.new)))
         (device_of (store_of flusher.old)) (device_of (store_of flusher.new)) }
     ensures holds { IsOpen (store_of flusher.old) → (content : List ℕ)
         → MayLeaveNow ⟦<D as Disk>⟧ (device_of (store_of flusher.new)) content
-        → IsFirst board.new.board.settled L.start (takens board.new.board.order)
+        → IsFirst board.new.progress.settled L.start (takens board.new.progress.order)
         (batches_of (standing board.new flusher.new)) content }
-    ensures acknowledged { AreHeld board.new.board.settled result.tickets.items
+    ensures acknowledged { AreHeld board.new.progress.settled result.tickets.items
         (take (length result.answers.items) calls.now) result.answers.items }
 
     // What the calls gave.
@@ -278,7 +278,7 @@ pub fn drive<D: Disk, L: Life, R: Wait>(
         (between board.new result.tickets.items flusher.new) }
     ensures fails { has_failed (store_of flusher.new) ≡ true ↔ result.stopped ≡ Some Refusal.Fault }
     // The seat counts each command that is taken, and no other seat does.
-    ensures counts { seat.new + length board.old.board.order ≡ seat.old + length board.new.board.order }
+    ensures counts { seat.new + length board.old.progress.order ≡ seat.old + length board.new.progress.order }
 
     // The next run may go on from there.
     ensures calm { result.stopped ≡ None → IsCalm L.start (standing board.new flusher.new) }

@@ -61,7 +61,7 @@
 //!     requires works { (has_failed (store_of flusher.old) ≡ false) × (board.old.failed ≡ false) }
 //!     ensures any_moment { IsOpen (store_of flusher.old)
 //!         → LeavesOnly ⟦<D as Disk>⟧
-//!         (IsFirst board.old.board.settled L.start (takens board.new.board.order)
+//!         (IsFirst board.old.progress.settled L.start (takens board.new.progress.order)
 //!         (batches_of (standing board.new flusher.new)))
 //!         (device_of (store_of flusher.old)) (device_of (store_of flusher.new)) }
 //!     ensures calm { result.stopped ≡ None → IsCalm L.start (standing board.new flusher.new) }

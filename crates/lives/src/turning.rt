@@ -1,7 +1,7 @@
 //! A turn of a run: what is taken off is written, published and settled.
 ghost use Rattle.std.specs.Prelude.{◌≡◌, ◌⊎◌, ◌↔◌, ◌<◌, true, false, OnOk, OnErr, IfOk, IfErr, IsErrOf};
 ghost use Rattle.revision.specs.State.{fold};
-ghost use Rattle.world.specs.Board.{next_run};
+ghost use Rattle.world.specs.Progress.{next_run};
 ghost use Rattle.world.specs.World.{takens};
 ghost use Rattle.hub.specs.Runs.{IsLongest, untaken};
 ghost use Rattle.recovery.specs.Open.{state_of, has_failed};
@@ -34,11 +34,11 @@ pub fn turn<D: Disk, L: Life, R: Wait>(
     ensures calm { OnOk result (IsCalm L.start (standing board.new flusher.new)) }
     ensures works { OnOk result (has_failed (store_of flusher.new) ≡ false) }
     ensures run { IfOk result
-        (λ count. IsLongest (cap_of (state_of (store_of flusher.old))) (untaken board.old.board) count) }
+        (λ count. IsLongest (cap_of (state_of (store_of flusher.old))) (untaken board.old.progress) count) }
     ensures settled { IfOk result (λ count. board.new ≡ turned board.old count) }
     ensures state { IfOk result (λ count. state_of (store_of flusher.new)
-        ≡ fold (state_of (store_of flusher.old)) (takens (next_run board.old.board count))) }
-    ensures committed { IfOk result (λ count. IsRunCommitted (takens (next_run board.old.board count))
+        ≡ fold (state_of (store_of flusher.old)) (takens (next_run board.old.progress count))) }
+    ensures committed { IfOk result (λ count. IsRunCommitted (takens (next_run board.old.progress count))
         (store_of flusher.old) (store_of flusher.new)) }
     ensures fails { has_failed (store_of flusher.new) ≡ true ↔ IsErrOf result Refusal.Fault }
     ensures refused { IfErr result (λ e. ((e ≡ Refusal.NoMemory) ⊎ (e ≡ Refusal.Fault))
@@ -46,13 +46,13 @@ pub fn turn<D: Disk, L: Life, R: Wait>(
         flusher.new) }
     ensures left { OnErr result (IsUnsettled (cap_of (state_of (store_of flusher.old))) board.old
         (store_of flusher.old) board.new (store_of flusher.new)) }
-    ensures unsettled { OnErr result ((board.new.board.settled ≡ board.old.board.settled)
+    ensures unsettled { OnErr result ((board.new.progress.settled ≡ board.old.progress.settled)
         × (board.new.told ≡ board.old.told)) }
     ensures unpublished { OnErr result (told_of flusher.new ≡ told_of flusher.old) }
     ensures uncommitted { IsErrOf result Refusal.Fault → state_of (store_of flusher.new)
         ≡ state_of (store_of flusher.old) }
     ensures failed { board.new.failed ≡ board.old.failed }
-    ensures order { board.new.board.order ≡ board.old.board.order }
+    ensures order { board.new.progress.order ≡ board.old.progress.order }
 {
     let run = board.take(alloc, flusher.cap())?;
     let count = run.len();

@@ -17,10 +17,11 @@ use Rattle.revision.specs.contracts.rule.taken.Taken as taken
 use Rattle.revision.specs.contracts.past.state.State as state
 use Rattle.world.specs.contracts.entry.Entry as entry
 use Rattle.published.specs.declared.life.Life as life
-use Rattle.published.specs.contracts.batch.Batch as batch
-use Rattle.published.specs.contracts.batch.Moment as moment
-use Rattle.published.specs.contracts.mark.Mark as mark
+use Rattle.published.specs.contracts.batch.BatchItem as batch
+use Rattle.published.specs.contracts.batch.MomentItem as moment
+use Rattle.published.specs.contracts.moments.Moments as moments
 use Rattle.published.specs.contracts.order.Ordered as ordered
+use Rattle.published.specs.contracts.prefix.PublishedPrefix as prefix
 use Rattle.published.specs.contracts.told.Told as told
 
 pub name_send : IsSend name.the_row
@@ -59,18 +60,24 @@ batch_send = search (taken_send, sendable, crosses) depth 60 fits 20000
 pub moment_send : IsSend moment.the_row
 moment_send = search (sendable, crosses) depth 60 fits 20000
 
-pub mark_send : IsSend mark.the_row
-mark_send =
-    let log = front_send batch.the_row batch_send in
-    let order = front_send entry.the_row entry_send in
-    let start = front_send state.the_row state_send in
-    let moments = front_send moment.the_row moment_send in
-    search (sendable, crosses) depth 60 fits 20000
-
 pub ordered_send : (T : RattleType) (s : life.Ghosts T.Denot) (l : ledger.Ghosts T.Denot) → IsSend T → IsSend (ordered.the_row T s l)
 ordered_send T s l a =
     let order = front_send entry.the_row entry_send in
     search (sendable, crosses) depth 60 fits 20000
 
+pub moments_send : (T : RattleType) (s : life.Ghosts T.Denot) (l : ledger.Ghosts T.Denot) → IsSend T → IsSend (moments.the_row T s l)
+moments_send T s l a =
+    let moments = front_send moment.the_row moment_send in
+    search (sendable, crosses) depth 60 fits 20000
+
+pub prefix_send : (T : RattleType) (s : life.Ghosts T.Denot) (l : ledger.Ghosts T.Denot) → IsSend T → IsSend (prefix.the_row T s l)
+prefix_send T s l a =
+    let log = front_send batch.the_row batch_send in
+    let order = ordered_send T s l a in
+    let moments = moments_send T s l a in
+    search (sendable, crosses) depth 60 fits 20000
+
 pub told_send : (D T : RattleType) (s : life.Ghosts T.Denot) (l : ledger.Ghosts T.Denot) → IsSend T → IsSend (told.the_row D T s l)
-told_send D T s l a = search (mark_send, sendable, crosses) depth 60 fits 20000
+told_send D T s l a =
+    let prefix = prefix_send T s l a in
+    search (sendable, crosses) depth 60 fits 20000

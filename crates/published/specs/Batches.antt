@@ -1,16 +1,14 @@
 -- What was published: batches, the oldest first.
-use Rattle.std.specs.Prelude.{◌<◌, List, length}
+use Rattle.std.specs.Prelude.{◌≡◌, ◌⊎◌, ◌<◌, List, length}
 use mathlib.Core.List.{IsPrefix}
 use Rattle.revision.specs.Command.{Taken}
-use Rattle.revision.specs.State.{State}
-use Rattle.published.specs.Books.{Logs}
 
 -- this list is a prefix of the other one, and shorter
 abbrev pub IsShorter : List (List Taken) → List (List Taken) → Type 0
 IsShorter batches others = IsPrefix batches others × (length batches < length others)
 
--- which run, its start as a list of one, and a prefix of the batches in its log
-pub record Mark : Type 0 where
-  pub book : Logs
-  pub start : List State
-  pub batches : List (List Taken)
+-- of two prefixes of what is published this is the longer one
+pub record IsTheLonger (one other longer : List (List Taken)) : Type 0 where
+  pub either : (longer ≡ one) ⊎ (longer ≡ other)
+  pub this : IsPrefix one longer
+  pub that : IsPrefix other longer

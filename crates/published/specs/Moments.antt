@@ -12,11 +12,6 @@ AreMoments start [] (moment ∷ moments) = ⊥
 AreMoments start (batch ∷ batches) [] = ⊥
 AreMoments start (batch ∷ batches) (moment ∷ moments) = IsMomentOf (fold start batch) moment × AreMoments (fold start batch) batches moments
 
--- the same where the start stands in a list of one, as a mark has it
-abbrev pub AreTimed : List State → List (List Taken) → List Moment → Type 0
-AreTimed [] batches moments = ⊥
-AreTimed (start ∷ others) batches moments = AreMoments start batches moments
-
 -- what a run has published, the oldest first, and for each batch the moment at which its commit had ended
 pub record Log : Type 0 where
   pub batches : List (List Taken)

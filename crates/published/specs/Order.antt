@@ -1,11 +1,9 @@
 -- The order of a run: the commands that were taken, each with what was taken of it.
 use Rattle.std.specs.Prelude.{◌≡◌, ◌≤◌, ◌<◌, ◌^◌, List, [], ◌∷◌}
-use mathlib.Core.List.{IsPrefix}
 use Rattle.revision.specs.Command.{Taken, Command}
 use Rattle.revision.specs.State.{State, grown}
 use Rattle.revision.specs.Acceptance.{Takes, answer}
-use Rattle.recovery.specs.Found.{commands_of}
-use Rattle.world.specs.World.{Entry, takens}
+use Rattle.world.specs.World.{Entry}
 
 -- a command has a number that one may have
 abbrev pub HasNumber : Command → Type 0
@@ -19,8 +17,3 @@ WasTaken state entry = HasNumber entry.command × (answer state entry.command �
 abbrev pub IsLegal : State → List Entry → Type 0
 IsLegal state [] = Unit {0}
 IsLegal state (first ∷ others) = WasTaken state first × IsLegal (grown state first.taken) others
-
--- The commands of these batches are a prefix of the order, which is a legal history from the start. A mark has its start as a list of one.
-abbrev pub AreOrdered : List State → List (List Taken) → List Entry → Type 0
-AreOrdered [] batches order = ⊥
-AreOrdered (start ∷ others) batches order = IsLegal start order × IsPrefix (commands_of batches) (takens order)

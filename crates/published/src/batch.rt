@@ -7,11 +7,11 @@ use std::marker::{Model, PhantomData};
 
 /// A published batch. No value of it is made.
 #[derive(Drop)]
-pub struct Batch {
+pub struct BatchItem {
     items: [Taken; 0],
 }
 
-impl Model for Batch {
+impl Model for BatchItem {
     ghost use Rattle.std.specs.Prelude.{List};
     ghost use Rattle.revision.specs.Command.{Taken};
 
@@ -22,11 +22,11 @@ impl Model for Batch {
 
 /// The moment at which the commit of a published batch had ended. No value of it is made.
 #[derive(Drop)]
-pub struct Moment {
+pub struct MomentItem {
     of: PhantomData<u8>,
 }
 
-impl Model for Moment {
+impl Model for MomentItem {
     ghost use Rattle.recovery.specs.Moment as spec;
 
     ghost Value = { spec.Moment };
@@ -37,14 +37,14 @@ impl Model for Moment {
 /// A receipt is seen as its batch,
 pub struct OfReceipt;
 
-impl<D> Shows<Receipt<D>, Batch> for OfReceipt {
+impl<D> Shows<Receipt<D>, BatchItem> for OfReceipt {
     ghost item = { λ receipt. receipt.batch };
 }
 
 /// and as the moment at which its commit ended.
 pub struct AtReceipt;
 
-impl<D: Disk> Shows<Receipt<D>, Moment> for AtReceipt {
+impl<D: Disk> Shows<Receipt<D>, MomentItem> for AtReceipt {
     ghost use Rattle.recovery.specs.Moment.{moment_of};
 
     ghost item = { λ receipt. moment_of ⟦<D as Disk>⟧ receipt.at };

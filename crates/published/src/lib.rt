@@ -4,12 +4,13 @@
 //! They stand in the proofs alone (`ownlog`): each has one owner, to whom appending never fails, and who knows that each token names a prefix
 //! of it. An `Order` is the owner of the order, and keeps that it is a legal history; an `Ordered` is a token of it. A `Log` is the owner of
 //! the other log, and a `Told` a token of that: it can be copied, and of two tokens one begins the other. The commands of a `Told` are a
-//! prefix of the order. Only `Told::add` makes a longer one, and it wants the log, a receipt, and a token of the order that continues with the
-//! batch: so each published batch was committed by a store, and is the next part of the order. Beside each batch the log keeps the moment at
-//! which its commit had ended, which the receipt has from the store; `Told::moments` gives those of a token's batches. So who has a `Told` of
-//! a batch has a moment at which the store held it, over a device that was synced. All types carry one parameter, a `Life`,
-//! which names the run: its logs, its ledger of seats, and the state that its store was opened with. The crate stands on `revision`, on
-//! `world` for the order's entries, on `recovery` for the receipt, on `disk` for what a device has been through, and on `ownlog`.
+//! prefix of the order. Inside it is a `PublishedPrefix`, which has all but the device's type: what stands over any device keeps that. Only
+//! `Told::add` makes a longer one, and it wants the log, a receipt, and a token of the order that continues with the batch: so each published
+//! batch was committed by a store, and is the next part of the order. Beside each batch the log keeps the moment at which its commit had
+//! ended, which the receipt has from the store; `Told::moments` gives those of a token's batches. So who has a `Told` of a batch has a moment
+//! at which the store held it, over a device that was synced. All types carry one parameter, a `Life`, which names the run: its logs, its
+//! ledger of seats, and the state that its store was opened with. The crate stands on `revision`, on `world` for the order's entries, on
+//! `recovery` for the receipt, on `disk` for what a device has been through, and on `ownlog`.
 //!
 //! A caller, with its contract, which `test_view` proves as it stands:
 //!
@@ -45,19 +46,19 @@
 #![tactic(auto)]
 
 mod batch;
-mod counts;
 pub mod laws;
+mod ledgers;
 mod life;
 mod log;
-mod mark;
 mod moments;
 mod order;
+mod prefix;
 mod told;
 
-pub use counts::{Counts, OfSettled, OfTaken};
+pub use ledgers::{Ledgers, OfSettled, OfTaken};
 pub use life::Life;
 pub use log::{Log, Opened};
-pub use mark::Mark;
 pub use moments::Moments;
 pub use order::{Order, Ordered};
+pub use prefix::PublishedPrefix;
 pub use told::Told;

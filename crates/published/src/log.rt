@@ -6,27 +6,25 @@ ghost use Rattle.recovery.specs.Found.{commands_of};
 ghost use Rattle.recovery.specs.Moment.{IsMomentOf, moment_of};
 ghost use Rattle.published.specs.Moments.{AreMoments};
 
-use crate::batch::{AtReceipt, Batch, Moment, OfReceipt};
-use crate::counts::Counts;
+use crate::batch::{AtReceipt, BatchItem, MomentItem, OfReceipt};
+use crate::ledgers::Ledgers;
 use crate::life::Life;
-use crate::mark::Mark;
 use crate::moments::Moments;
 use crate::order::Order;
+use crate::prefix::PublishedPrefix;
 use crate::told::Told;
 use disk::Disk;
 use ownlog::Owner;
 use recovery::Receipt;
-use revision::State;
 use std::marker::{Model, PhantomData};
 use std::sync::ledger::Blank;
 use world::Entry;
 
 /// The empty logs of a run that has no name yet, and its two empty ledgers. Contracts see them as their own names.
 pub struct Opened {
-    batches: Owner<Batch>,
+    batches: Owner<BatchItem>,
     order: Owner<Entry>,
-    moments: Owner<Moment>,
-    start: Owner<State>,
+    moments: Owner<MomentItem>,
     takes: Blank,
     settles: Blank,
 }
@@ -45,7 +43,7 @@ impl Model for Opened {
       settles = o.settles.name;
     } };
 
-    ghost invariant = { λ o. (o.batches.items ≡ []) × (o.order.items ≡ []) × (o.start.items ≡ [])
+    ghost invariant = { λ o. (o.batches.items ≡ []) × (o.order.items ≡ [])
         × (o.moments.items ≡ []) × (o.takes.parts ≡ 1) × (o.settles.parts ≡ 1) };
 }
 
@@ -56,17 +54,14 @@ impl Opened {
             batches: Owner::open()?,
             order: Owner::open()?,
             moments: Owner::open()?,
-            start: Owner::open()?,
             takes: Blank::new(1),
             settles: Blank::new(1),
         })
     }
 
-    /// The logs as those of a run that begins with a state, and the token of its start, which names no batch. The order has the ledgers. It
-    /// takes no memory.
-    pub fn named<D, L: Life>(self, state: &State) -> (Log<D, L>, Told<D, L>, Order<L>)
-        requires book { self ≡ L.book }
-        requires start { state.now ≡ L.start }
+    /// The logs as those of a run, and the token of its start, which names no batch. The order has the ledgers. It takes no memory.
+    pub fn named<D, L: Life>(self) -> (Log<D, L>, Told<D, L>, Order<L>)
+        requires { self ≡ L.book }
         ensures log { result.0 ≡ record { batches = []; moments = [] } }
         ensures told { result.1 ≡ [] }
         ensures order { result.2 ≡ [] }
@@ -75,22 +70,9 @@ impl Opened {
             batches,
             order,
             moments,
-            mut start,
             takes,
             settles,
         } = self;
-        start.append(state);
-        let told = Told {
-            mark: Mark {
-                batches: 0,
-                len: 0,
-                log: batches.front(),
-                order: order.front(),
-                start: start.front(),
-                moments: moments.front(),
-            },
-            of: PhantomData,
-        };
         let log = Log {
             owner: batches,
             moments,
@@ -98,10 +80,17 @@ impl Opened {
         };
         let order = Order {
             owner: order,
-            counts: Counts::of(takes, settles),
+            ledgers: Ledgers::of(takes, settles),
             of: PhantomData,
         };
-        (log, told, order)
+        let prefix = PublishedPrefix {
+            batches: 0,
+            len: 0,
+            log: log.owner.front(),
+            order: order.ordered(),
+            moments: log.moments(),
+        };
+        (log, Told::of(prefix), order)
     }
 }
 
@@ -109,8 +98,8 @@ impl Opened {
 /// owns it publishes. Contracts see it as its batches, the oldest first, and their moments. It takes two words of memory, however long it is.
 #[derive(Drop)]
 pub struct Log<D, L: Life> {
-    pub(crate) owner: Owner<Batch>,
-    pub(crate) moments: Owner<Moment>,
+    pub(crate) owner: Owner<BatchItem>,
+    pub(crate) moments: Owner<MomentItem>,
     pub(crate) of: PhantomData<(D, L)>,
 }
 
@@ -132,7 +121,7 @@ impl<D, L: Life> Log<D, L> {
         ensures begins { IsPrefix told.now self.old.batches }
         ensures same { self.new ≡ self.old }
     {
-        self.owner.covers(&told.mark.log);
+        self.owner.covers(&told.prefix.log);
     }
 
     /// What each log keeps, for the prover: there is one moment for each batch, at which a store held exactly what the batches up to this
@@ -141,6 +130,16 @@ impl<D, L: Life> Log<D, L> {
         ensures { AreMoments L.start self.now.batches self.now.moments }
     {
         let _ = &self.moments;
+    }
+
+    // A token of all the moments. It takes no memory.
+    pub(crate) fn moments(&self) -> Moments<L>
+        ensures { result ≡ self.now.moments }
+    {
+        Moments {
+            front: self.moments.front(),
+            of: PhantomData,
+        }
     }
 
     /// The moments of each token are a prefix of those of the log. It takes no memory.

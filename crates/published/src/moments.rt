@@ -3,7 +3,7 @@ ghost use Rattle.std.specs.Prelude.{◌≡◌, List};
 ghost use mathlib.Core.List.{IsPrefix};
 ghost use Rattle.recovery.specs.Moment.{Moment as Point};
 
-use crate::batch::Moment;
+use crate::batch::MomentItem;
 use crate::life::Life;
 use ownlog::Front;
 use std::marker::{Model, PhantomData};
@@ -12,7 +12,7 @@ use std::marker::{Model, PhantomData};
 /// It takes no memory.
 #[derive(Drop)]
 pub struct Moments<L: Life> {
-    pub(crate) front: Front<Moment>,
+    pub(crate) front: Front<MomentItem>,
     pub(crate) of: PhantomData<L>,
 }
 
@@ -28,6 +28,16 @@ impl<L: Life> Model for Moments<L> {
 }
 
 impl<L: Life> Moments<L> {
+    /// Another token of the same moments. It takes no memory.
+    pub fn copy(&self) -> Moments<L>
+        ensures { result ≡ self.now }
+    {
+        Moments {
+            front: self.front.copy(),
+            of: PhantomData,
+        }
+    }
+
     /// The moments of two tokens of one run begin one list. It takes no memory.
     pub fn meets(&self, other: &Moments<L>)
         ensures { (all : List Point) × IsPrefix self.now all × IsPrefix other.now all }

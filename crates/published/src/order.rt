@@ -6,7 +6,7 @@ ghost use Rattle.recovery.specs.Found.{commands_of};
 ghost use Rattle.world.specs.World.{takens, Entry as Kept};
 ghost use Rattle.published.specs.Order.{IsLegal, WasTaken};
 
-use crate::counts::Counts;
+use crate::ledgers::Ledgers;
 use crate::life::Life;
 use crate::told::Told;
 use ownlog::{Front, Owner};
@@ -16,9 +16,9 @@ use world::Entry;
 /// The order of a run: a legal history from the state that its store was opened with. Only who owns it makes it longer. Contracts see it
 /// as its entries. It takes a word of memory, however long it is. A new one has the run's two ledgers, `C`.
 #[derive(Drop)]
-pub struct Order<L: Life, C = Counts<L>> {
+pub struct Order<L: Life, C = Ledgers<L>> {
     pub(crate) owner: Owner<Entry>,
-    pub(crate) counts: C,
+    pub(crate) ledgers: C,
     pub(crate) of: PhantomData<L>,
 }
 
@@ -36,20 +36,20 @@ impl<L: Life, C> Model for Order<L, C> {
 
 impl<L: Life> Order<L> {
     /// The order, and the ledgers. It takes no memory.
-    pub fn without_counts(self) -> (Order<L, ()>, Counts<L>)
+    pub fn without_ledgers(self) -> (Order<L, ()>, Ledgers<L>)
         ensures { result.0 ≡ self }
     {
         let Order {
             owner,
-            counts,
+            ledgers,
             of: _,
         } = self;
         let order = Order {
             owner,
-            counts: (),
+            ledgers: (),
             of: PhantomData,
         };
-        (order, counts)
+        (order, ledgers)
     }
 }
 
@@ -68,7 +68,7 @@ impl<L: Life, C> Order<L, C> {
         ensures begins { IsPrefix (commands_of told.now) (takens self.old) }
         ensures same { self.new ≡ self.old }
     {
-        self.owner.covers(&told.mark.order);
+        self.holds(&told.ordered());
     }
 
     /// The entries of a token begin the order. It takes no memory.

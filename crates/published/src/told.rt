@@ -1,39 +1,37 @@
 //! The token of what was published.
-ghost use Rattle.std.specs.Prelude.{◌≡◌, ◌⊎◌, ◌≤◌, ◌<◌, ◌+◌, ◌^◌, ◌∷◌, ◌++◌, [], ◌↔◌, true, length, IsTrue, MatchBool};
+ghost use Rattle.std.specs.Prelude.{◌≡◌, ◌≤◌, ◌<◌, ◌+◌, ◌^◌, ◌∷◌, ◌++◌, [], ◌↔◌, length, IsTrue, MatchBool};
 ghost use mathlib.Core.List.{IsPrefix};
 ghost use Rattle.revision.specs.State.{fold};
 ghost use Rattle.recovery.specs.Found.{commands_of};
 ghost use Rattle.recovery.specs.Moment.{IsMomentOf, moment_of};
 ghost use Rattle.world.specs.World.{takens};
-ghost use Rattle.published.specs.Batches.{IsShorter};
+ghost use Rattle.published.specs.Batches.{IsShorter, IsTheLonger};
 ghost use Rattle.published.specs.Moments.{AreMoments};
 
 use crate::life::Life;
 use crate::log::Log;
-use crate::mark::Mark;
 use crate::moments::Moments;
 use crate::order::Ordered;
+use crate::prefix::PublishedPrefix;
 use disk::Disk;
 use recovery::Receipt;
 use std::marker::{Model, PhantomData};
 
-/// A token of what was published: a prefix of the run's log that was seen, with the moments of its batches. Its commands are a prefix of the
-/// run's order. Contracts see it as its batches, the oldest first; `moments` gives the rest.
+/// A token of what a run over a device of this type has published: a prefix of it that was seen. Contracts see it as its batches, the oldest
+/// first.
 #[derive(Drop)]
 pub struct Told<D, L: Life> {
-    pub(crate) mark: Mark,
-    pub(crate) of: PhantomData<(D, L)>,
+    pub(crate) prefix: PublishedPrefix<L>,
+    pub(crate) of: PhantomData<D>,
 }
 
 impl<D, L: Life> Model for Told<D, L> {
-    ghost use Rattle.std.specs.Prelude.{◌≡◌, List, [], ◌∷◌};
+    ghost use Rattle.std.specs.Prelude.{List};
     ghost use Rattle.revision.specs.Command.{Taken};
 
     ghost Value = { List (List Taken) };
 
-    ghost view = { λ t. t.mark.batches };
-
-    ghost invariant = { λ t. (t.mark.book ≡ L.book.logs) × (t.mark.start ≡ L.start ∷ []) };
+    ghost view = { λ t. t.prefix };
 }
 
 impl<D, L: Life> Told<D, L> {
@@ -41,40 +39,33 @@ impl<D, L: Life> Told<D, L> {
     pub fn len(&self) -> u64
         ensures { result ≡ length (commands_of self.now) }
     {
-        self.mark.len
+        self.prefix.len()
     }
 
     /// Another token of the same batches. It takes no memory.
     pub fn copy(&self) -> Told<D, L>
         ensures { result ≡ self.now }
     {
-        Told {
-            mark: self.mark.copy(),
-            of: PhantomData,
-        }
+        Told::of(self.prefix.copy())
     }
 
     /// Whether the other token begins with this one: of two tokens of a run one begins the other. It takes no memory.
     pub fn begins(&self, other: &Told<D, L>) -> bool
         ensures { MatchBool result (IsPrefix self.now other.now) (IsShorter other.now self.now) }
     {
-        self.mark.log.meets(&other.mark.log);
-        self.mark.batches <= other.mark.batches
+        self.prefix.begins(&other.prefix)
     }
 
     /// Whether both tokens name the same batches. It takes no memory.
     pub fn is_same(&self, other: &Told<D, L>) -> bool
         ensures { IsTrue result ↔ (self.now ≡ other.now) }
     {
-        self.mark.log.meets(&other.mark.log);
-        self.mark.batches == other.mark.batches
+        self.prefix.is_same(&other.prefix)
     }
 
     /// The longer of two tokens, which the other begins. It takes no memory.
     pub fn longer(&self, other: &Told<D, L>) -> Told<D, L>
-        ensures one { (result ≡ self.now) ⊎ (result ≡ other.now) }
-        ensures this { IsPrefix self.now result }
-        ensures that { IsPrefix other.now result }
+        ensures { IsTheLonger self.now other.now result }
     {
         if self.begins(other) {
             other.copy()
@@ -85,9 +76,7 @@ impl<D, L: Life> Told<D, L> {
 
     /// Becomes the longer of the two. It takes no memory.
     pub fn learn(&mut self, other: &Told<D, L>)
-        ensures one { (self.new ≡ self.old) ⊎ (self.new ≡ other.now) }
-        ensures this { IsPrefix self.old self.new }
-        ensures that { IsPrefix other.now self.new }
+        ensures { IsTheLonger self.old other.now self.new }
     {
         *self = self.longer(other);
     }
@@ -97,7 +86,8 @@ impl<D, L: Life> Told<D, L> {
         requires { length ordered.now ≤ length (commands_of self.now) }
         ensures { IsPrefix (takens ordered.now) (commands_of self.now) }
     {
-        self.mark.order.meets(&ordered.front);
+        let mine = self.ordered();
+        mine.meets(ordered);
     }
 
     /// What is published begins the order that a token has, where that is no shorter. It takes no memory.
@@ -105,17 +95,15 @@ impl<D, L: Life> Told<D, L> {
         requires { length (commands_of self.now) ≤ length ordered.now }
         ensures { IsPrefix (commands_of self.now) (takens ordered.now) }
     {
-        self.mark.order.meets(&ordered.front);
+        let mine = self.ordered();
+        mine.meets(ordered);
     }
 
     /// A token of the order that has all its commands first. It takes no memory.
     pub fn ordered(&self) -> Ordered<L>
         ensures { IsPrefix (commands_of self.now) (takens result) }
     {
-        Ordered {
-            front: self.mark.order.copy(),
-            of: PhantomData,
-        }
+        self.prefix.ordered()
     }
 
     /// The moments at which the commits of its batches had ended, one for each: at each a store held exactly what the batches up to this one
@@ -123,27 +111,22 @@ impl<D, L: Life> Told<D, L> {
     pub fn moments(&self) -> Moments<L>
         ensures { AreMoments L.start self.now result }
     {
-        Moments {
-            front: self.mark.moments.copy(),
-            of: PhantomData,
-        }
+        self.prefix.moments()
     }
 
-    /// What it has inside, without the run's name. It takes no memory.
-    pub fn mark(&self) -> Mark
-        ensures { result ≡ record { book = L.book.logs; start = L.start ∷ []; batches = self.now } }
+    /// What it has inside, without the device's type.
+    pub fn prefix(&self) -> &PublishedPrefix<L>
+        ensures { result.now ≡ self.now }
     {
-        self.mark.copy()
+        &self.prefix
     }
 
-    /// The token of a mark of this run's log. It takes no memory.
-    pub fn of_mark(mark: Mark) -> Told<D, L>
-        requires book { mark.book ≡ L.book.logs }
-        requires start { mark.start ≡ L.start ∷ [] }
-        ensures { result ≡ mark.batches }
+    /// The token of a prefix. It takes no memory.
+    pub fn of(prefix: PublishedPrefix<L>) -> Told<D, L>
+        ensures { result ≡ prefix }
     {
         Told {
-            mark,
+            prefix,
             of: PhantomData,
         }
     }
@@ -167,16 +150,13 @@ impl<D: Disk, L: Life> Told<D, L> {
         } }
     {
         log.put(receipt);
-        Told {
-            mark: Mark {
-                batches: self.mark.batches + 1,
-                len: self.mark.len + receipt.batch().as_slice().len() as u64,
-                log: log.owner.front(),
-                order: ordered.front.copy(),
-                start: self.mark.start.copy(),
-                moments: log.moments.front(),
-            },
-            of: PhantomData,
-        }
+        let prefix = PublishedPrefix {
+            batches: self.prefix.batches + 1,
+            len: self.prefix.len + receipt.batch().as_slice().len() as u64,
+            log: log.owner.front(),
+            order: ordered.copy(),
+            moments: log.moments(),
+        };
+        Told::of(prefix)
     }
 }

@@ -22,7 +22,7 @@ use Rattle.recovery.specs.declared.store.Store.{Store}
 use Rattle.recovery.specs.Found.{commands_of}
 use Rattle.recovery.specs.Moment.{Moment}
 use Rattle.recovery.specs.Open.{IsOpen, device_of, state_of, moment_now, has_failed}
-use Rattle.world.specs.Board.{Ticket}
+use Rattle.world.specs.Progress.{Ticket}
 use Rattle.world.specs.World.{Entry, entry_of, takens, World, begun, is_of, last_sent}
 use Rattle.world.specs.Step.{may_leave}
 use Rattle.world.specs.Shown.{Shown, shown, all_shown}
@@ -408,14 +408,16 @@ module _ (D : Type 0) (disk : Ghosts D) where
       by_desk (passed_last (state_of old) first_desk answers.earlier (Answered command (Err refusal)) answers.mid answers.before)
     where
       by_rule : IsRefusedAfter (state_of old) answers.mid.found command refusal → (refusal ≡ NoMemory) ⊎ (refusal ≡ StoreFailed)
-      by_rule (inl (memory, may)) = inl memory
-      by_rule (inr refused) =
-          let done = answers.mid.found in
-          let begins : IsPrefix done life.order = (kept_of old new life command (Err refusal) answers).found answers.later answers.mid answers.after.4 in
-          let kept = all_lives D disk start stand acks old new life done [] lives begins (All-nil (HasGiven old new life (takens done))) in
-          let repeats : answer (fold (state_of old) (takens done)) command ≡ Repeats revision =
-          kept.again command revision some (taken_more start stand done command revision has) last in
-          absurd (cc (repeats, refused))
+      by_rule at = elim at.rule [
+        | inl memory ↦ inl memory
+        | inr refused ↦
+            let done = answers.mid.found in
+            let begins : IsPrefix done life.order = (kept_of old new life command (Err refusal) answers).found answers.later answers.mid answers.after.4 in
+            let kept = all_lives D disk start stand acks old new life done [] lives begins (All-nil (HasGiven old new life (takens done))) in
+            let repeats : answer (fold (state_of old) (takens done)) command ≡ Repeats revision =
+            kept.again command revision some (taken_more start stand done command revision has) last in
+            absurd (cc (repeats, refused))
+      ]
 
       by_desk : (before : Desk) × Refuses (state_of old) before command refusal answers.mid → (refusal ≡ NoMemory) ⊎ (refusal ≡ StoreFailed)
       by_desk (before, inl (same, memory)) = inl memory

@@ -27,7 +27,7 @@ use Rattle.view.specs.declared.shown.Basis.{Basis}
 use Rattle.view.specs.contracts.shown.News as news
 use Rattle.view.specs.contracts.publisher.Publisher as publisher
 use Rattle.view.specs.contracts.publisher.Publisher.TheInside as inside
-use Rattle.published.proofs.Crossing.{name_send, delta_send, document_send, sources_send, state_send, batch_send, moment_send, mark_send, ordered_send, told_send}
+use Rattle.published.proofs.Crossing.{name_send, delta_send, document_send, sources_send, state_send, batch_send, moment_send, prefix_send, ordered_send, told_send}
 use Rattle.view.proofs.CallerLemmas.{commands_send, shown_send, shown_sync}
 use Rattle.hub.proofs.CallerLemmas.{hub_sync, writer_send}
 use Rattle.flusher.specs.contracts.flusher.Flusher as flusher
@@ -45,7 +45,9 @@ pub receipt_send : (D : RattleType) → IsSend (receipt.the_row D)
 receipt_send D = search (commands_send, sendable, crosses) depth 60 fits 20000
 
 pub news_send : (T : RattleType) (s : life.Ghosts T.Denot) (l : ledger.Ghosts T.Denot) → IsSend T → IsSend (news.the_row T s l)
-news_send T s l a = search (commands_send, document_send, mark_send, sendable, crosses) depth 60 fits 20000
+news_send T s l a =
+    let prefix = prefix_send T s l a in
+    search (commands_send, document_send, sendable, crosses) depth 60 fits 20000
 
 pub log_send : (D T : RattleType) (s : life.Ghosts T.Denot) (l : ledger.Ghosts T.Denot) → IsSend (log.the_row D T s l)
 log_send D T s l =

@@ -9,7 +9,7 @@ use Rattle.revision.specs.Window.{revision_in}
 use Rattle.revision.specs.Sources.{window_of}
 use Rattle.revision.specs.State.{DocumentRecord, State, sources_of, find, last_of_all, fold, grown}
 use Rattle.revision.specs.Acceptance.{Answer, Takes, Reply, TakenAt, AgainAt, Refused, answer}
-use Rattle.world.specs.Board.{submitted_by, ticket_by}
+use Rattle.world.specs.Progress.{submitted_by, ticket_by}
 use Rattle.world.specs.Event.{Submit}
 use Rattle.world.specs.World.{Entry, entry_of, takens, World, begun}
 use Rattle.world.specs.Step.{is_numbered, with_command}

@@ -11,11 +11,10 @@ use Rattle.revision.specs.State.{State}
 use Rattle.revision.specs.Acceptance as acceptance
 use Rattle.revision.specs.Acceptance.{TakenAt, AgainAt, Refused}
 use Rattle.recovery.specs.Found.{commands_of}
-use Rattle.world.specs.Board.{Ticket}
+use Rattle.world.specs.Progress.{Ticket}
 use Rattle.world.specs.World.{Entry, entry_of, takens}
 use Rattle.published.proofs.CallerLemmas.{prefix_trans, takens_begin}
 use Rattle.flusher.proofs.CallerLemmas.{commands-append}
-use Rattle.hub.specs.Found.{IsRefusedAfter}
 use Rattle.hub.specs.Legal.{counted}
 use Rattle.hub.specs.Placed.{PlacedBy}
 use Rattle.session.specs.declared.reply.Reply.{Reply}
@@ -65,11 +64,11 @@ cause_by : (start : State) (old next : Desk) (command : Command) (refusal : Refu
     → IsPrefix next.found order → HasCause start (takens order) command refusal
 cause_by start old next command refusal order (inl none) within = inl none.1
 cause_by start old next command refusal order (inr (inr stops)) within = inr (inl stops.0)
-cause_by start old next command refusal order (inr (inl refused)) within = by_cause refused.refused
-  where
-    by_cause : IsRefusedAfter start next.found command refusal → HasCause start (takens order) command refusal
-    by_cause (inl memory) = inl memory.0
-    by_cause (inr by_rule) = inr (inr (takens next.found, takens_begin next.found order within, by_rule))
+cause_by start old next command refusal order (inr (inl refused)) within =
+    elim refused.refused.rule [
+      | inl memory ↦ inl memory
+      | inr by_rule ↦ inr (inr (takens next.found, takens_begin next.found order within, by_rule))
+    ]
 
 -- each command that a desk refused has its cause, in an order that begins with what it found in the end
 pub all_have_causes : (start : State) (old last : Desk) (asked : List Exchange) (order : List Entry) → Asks (PassesAtHub start) old asked last

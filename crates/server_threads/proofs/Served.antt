@@ -24,7 +24,7 @@ use Rattle.flusher.specs.Holding.{LastsSince, store_of, told_of, committed_of, w
 use Rattle.flusher.specs.Lasting.{Surely}
 use Rattle.turns.specs.Writing.{WasAt, Writes, told_count}
 use Rattle.hub.specs.Legal.{IsOfRun}
-use Rattle.world.specs.Board.{Board as Inner}
+use Rattle.world.specs.Progress.{Progress}
 use Rattle.hub_desk.specs.AtHub.{Desk}
 use Rattle.server_threads.specs.Answers.{first_desk}
 use Rattle.server_threads.specs.Held.{HasHeld, IsCounted}
@@ -233,7 +233,7 @@ module _ {D L : Type 0} {disk : Ghosts D} where
       }
 
 -- an order at the end of a life: it is a legal history, and a token has a prefix of it
-pub order_legal : (start : State) (board : Inner Entry) → IsOfRun start board → IsLegal start board.order
+pub order_legal : (start : State) (board : Progress Entry) → IsOfRun start board → IsLegal start board.order
 order_legal start board run = subst (λ (s : State). IsLegal s board.order) run.begun run.history.legal
 
 pub order_begins : (commands : List Taken) (token all : List Entry) → IsPrefix commands (takens token) → IsPrefix token all → IsPrefix commands (takens all)

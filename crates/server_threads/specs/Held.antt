@@ -8,7 +8,7 @@ use Rattle.revision.specs.State.{State, fold}
 use Rattle.recovery.specs.declared.store.Store.{Store}
 use Rattle.recovery.specs.Found.{commands_of}
 use Rattle.recovery.specs.Open.{state_of}
-use Rattle.world.specs.Board as world
+use Rattle.world.specs.Progress as world
 use Rattle.world.specs.World.{Entry, takens}
 use Rattle.flusher.specs.declared.flusher.Flusher.{Flusher}
 use Rattle.flusher.specs.Holding.{LastsSince, store_of, told_of, committed_of, waiting_of, opened_of}
@@ -50,7 +50,7 @@ module _ {D L : Type 0} {disk : Ghosts D} where
 -- There was a board of this run, whose order begins with this and is as long as what the seats have counted; and the writing ended well only
 -- where as many commands are published.
 pub record IsCounted (start : State) (ordered : List Entry) (published counted : ℕ) (written answer : Result (Unit {0}) Refusal) : Type 0 where
-  pub board : world.Board Entry
+  pub board : world.Progress Entry
   pub run : IsOfRun start board
   pub begins : IsPrefix ordered board.order
   pub counts : length board.order ≡ counted

@@ -21,7 +21,7 @@ pub(crate) fn seats_of<L: Life, D>(
     requires left { board.old.left ≡ count }
     ensures new { IfOk result (λ seats. All (λ seat. seat ≡ 0) seats.items) }
     ensures all { IfOk result (λ seats. length seats.items ≡ count) }
-    ensures board { board.new.board ≡ board.old.board }
+    ensures board { board.new.progress ≡ board.old.progress }
 {
     let mut seats = Vec::new(alloc);
     for i in 0..count {

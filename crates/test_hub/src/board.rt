@@ -111,7 +111,7 @@ fn lived<L: Life, R: Abort + AllocGlobal>(
 {
     let alloc = rt.alloc();
     let state = store.state().copy(alloc).expect(rt, "memory");
-    let (log, told, order) = opened.named::<FaultDisk, L>(store.state());
+    let (log, told, order) = opened.named::<FaultDisk, L>();
     let mut board = Board::new(alloc, &store, state, told.copy(), order, blank, 1);
     let seat = board.seat().expect(rt, "a seat");
     let mut life = BoardLife::new(rt, board, seat, Publishing::new(store, log, told));

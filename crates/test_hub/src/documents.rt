@@ -108,7 +108,7 @@ fn handed_out<L: Life, R: Abort + AllocGlobal>(
 {
     let alloc = rt.alloc();
     let state = store.state().copy(alloc).expect(rt, "memory");
-    let (log, told, order) = opened.named::<FaultDisk, L>(store.state());
+    let (log, told, order) = opened.named::<FaultDisk, L>();
     let mut board = Board::new(alloc, &store, state, told.copy(), order, blank, 1);
     let mut seat = board.seat().expect(rt, "a seat");
     let mut publishing = Publishing::new(store, log, told);

@@ -36,7 +36,7 @@ fn two_seats<L: Life, R: Abort + AllocGlobal>(
     requires start { state_of store ≡ L.start }
 {
     let state = store.state().copy(rt.alloc()).expect(rt, "memory");
-    let (_log, told, order) = opened.named::<MemDisk, L>(store.state());
+    let (_log, told, order) = opened.named::<MemDisk, L>();
     let mut board = Board::new(rt.alloc(), &store, state, told, order, blank, 2);
     let _ = seat_of(rt, &mut board);
     let _ = seat_of(rt, &mut board);

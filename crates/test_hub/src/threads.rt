@@ -173,7 +173,7 @@ fn both<L: Life + Send + Sync, R: Threads + Wait + Abort + AllocGlobal + Sync>(
 {
     let alloc = rt.alloc();
     let state = store.state().copy(alloc).expect(rt, "memory");
-    let (log, told, order) = opened.named::<_, L>(store.state());
+    let (log, told, order) = opened.named::<_, L>();
     let board = Board::new(alloc, &store, state, told.copy(), order, blank, 64);
     let publishing = Publishing::new(store, log, told);
     let (hub, mut writer, mut closer) = Hub::new(board);

@@ -49,17 +49,17 @@ module _ {D L : Type 0} {disk : Ghosts D} where
 
   -- a hub of a board that has begun with the flusher, whatever seats it gave
   pub at_begun : (start : State) (store : Store D disk) (seats : ℕ) (flusher : Flusher D L disk) (begun board : Board) (writer : Writer) → HaveBegun start store seats flusher begun
-      → board.board ≡ begun.board → writer ≡ record { taken = board.board.taken; settled = board.board.settled } → IsAt writer flusher
+      → board.progress ≡ begun.progress → writer ≡ record { taken = board.progress.taken; settled = board.progress.settled } → IsAt writer flusher
   at_begun start store seats flusher begun board writer has same is =
       let none : told_count flusher ≡ 0 = ap (λ (t : List (List Taken)). length (commands_of t)) has.told in
       record {
-        settled = ap (λ (w : Writer). w.settled) is ∙ ap (λ b. b.settled) same ∙ ap (λ (b : Board). b.board.settled) has.fresh ∙ sym none;
+        settled = ap (λ (w : Writer). w.settled) is ∙ ap (λ b. b.settled) same ∙ ap (λ (b : Board). b.progress.settled) has.fresh ∙ sym none;
         taken = omega (
           arith,
           none,
           ap (λ (w : Writer). w.taken) is,
           ap (λ b. b.taken) same,
-          ap (λ (b : Board). b.board.taken) has.fresh,
+          ap (λ (b : Board). b.progress.taken) has.fresh,
           ap (λ (t : List (List Taken)). length (commands_of t)) (nothing flusher has.calm.committed has.calm.waiting),
         );
       }

@@ -5,6 +5,7 @@ ghost use Rattle.recovery.specs.Found.{commands_of};
 ghost use Rattle.recovery.specs.Open.{state_of, has_failed};
 ghost use Rattle.flusher.specs.Flushers.{cap_of};
 ghost use Rattle.flusher.specs.Holding.{store_of, told_of, committed_of, waiting_of};
+ghost use Rattle.hub.specs.Moves.{ComesOff};
 ghost use Rattle.hub.specs.Runs.{counts_taken};
 ghost use Rattle.flusher.specs.Writing.{IsFullForGood};
 ghost use Rattle.turns.specs.Counting.{IsAt};
@@ -155,9 +156,7 @@ fn take_next<D: Disk, L: Life, R: Wait>(
 ) -> Result<Result<Run<D, L>, Nothing<L>>, Refusal>
     ensures fits { IfOk result (λ taken. IfOk taken (λ run. (1 ≤ length run.commands)
         × (batch_width run.commands ≤ cap))) }
-    ensures cap { IfOk result (λ taken. IfOk taken (λ run. run.cap ≡ cap)) }
-    ensures next { IfOk result (λ taken. IfOk taken (λ run. run.place ≡ writer.old.taken)) }
-    ensures counts { IfOk result (λ taken. IfOk taken (λ run. writer.new ≡ counts_taken writer.old (length run.commands))) }
+    ensures next { IfOk result (λ taken. IfOk taken (λ run. ComesOff writer.old cap run writer.new)) }
     ensures none { IfOk result (λ taken. IfErr taken (λ nothing. (nothing ≡ cap)
         × (writer.new ≡ counts_taken writer.old 0))) }
     ensures only { IfErr result (λ e. (e ≡ Refusal.NoMemory) × (writer.new ≡ writer.old)) }

@@ -2,7 +2,6 @@
 use Rattle.std.proofs.Common.{◌≡◌, Result, Ok, Err, List, [], ◌∷◌, ◌++◌, fold, refl, ap, ap₂, sym, subst, ◌∙◌, ◌&&◌, Bool, true}
 use Rattle.std.specs.Prelude.{MatchBool, MatchResult, is_ok}
 use Rattle.std.proofs.lemmas.Bool.{and_parts}
-use Rattle.published.specs.Books.{Logs}
 use Rattle.delta.specs.Element.{Element}
 use Rattle.revision.specs.Command.{Taken}
 use Rattle.revision.specs.Made.{AreMade}
@@ -11,7 +10,6 @@ use Rattle.recovery.specs.Found.{commands_of}
 use Rattle.view.specs.News.{News, GoesOn}
 use Rattle.view.specs.Shown.{Seen, basis_of, after, IsShown}
 use Rattle.view.specs.Stages.{news_of, AreShown}
-use Rattle.published.specs.Batches.{Mark}
 use Rattle.view.specs.declared.shown.Basis.{Basis}
 pub use Rattle.recovery.proofs.CallerLemmas.{commands_of-push as commands_more}
 
@@ -28,40 +26,38 @@ grow_join s (x ∷ xs) ys first later =
     ap₂ (λ a b. a && b) parts.0 (grow_join (state.grown s x) xs ys parts.1 later)
 
 -- what shows these batches and takes in one more shows them all
-pub shows_more : (book : Logs) (start : state.State) (told next : List (List Taken)) (batch : List Taken) (old new : Seen) (waiting : List News)
-    → AreShown book start told old → waiting ≡ news_of book start batch next ∷ [] → next ≡ told ++ batch ∷ []
-    → basis_of new ≡ fold after (basis_of old) waiting → IsShown book start new
-shows_more book start told next batch old new waiting shows waits more goes =
-    let is : basis_of new ≡ after (basis_of old) (news_of book start batch next) = goes ∙ ap (fold after (basis_of old)) waits in
-    let batches : new.mark.batches ≡ told ++ batch ∷ [] = ap (λ b. b.mark.batches) is ∙ more in
-    let commands : commands_of new.mark.batches ≡ commands_of told ++ batch = ap commands_of batches ∙ commands_more told batch in
+pub shows_more : (start : state.State) (told next : List (List Taken)) (batch : List Taken) (old new : Seen) (waiting : List News)
+    → AreShown start told old → waiting ≡ news_of batch next ∷ [] → next ≡ told ++ batch ∷ []
+    → basis_of new ≡ fold after (basis_of old) waiting → IsShown start new
+shows_more start told next batch old new waiting shows waits more goes =
+    let is : basis_of new ≡ after (basis_of old) (news_of batch next) = goes ∙ ap (fold after (basis_of old)) waits in
+    let batches : new.published ≡ told ++ batch ∷ [] = ap (λ b. b.published) is ∙ more in
+    let commands : commands_of new.published ≡ commands_of told ++ batch = ap commands_of batches ∙ commands_more told batch in
     let before : old.state ≡ state.fold start (commands_of told) = shows.0.made ∙ ap (λ l. state.fold start (commands_of l)) shows.1 in
     let goes_on : new.state ≡ state.fold (state.fold start (commands_of told)) batch = ap (λ b. b.state) is ∙ ap (λ s. state.fold s batch) before in
-    let all : state.fold start (commands_of new.mark.batches) ≡ state.fold (state.fold start (commands_of told)) batch =
+    let all : state.fold start (commands_of new.published) ≡ state.fold (state.fold start (commands_of told)) batch =
     ap (state.fold start) commands ∙ fold_join start (commands_of told) batch in
     let first : state.all_grow start (commands_of told) ≡ true = subst (λ (l : List (List Taken)). state.all_grow start (commands_of l) ≡ true) shows.1 shows.0.grew in
     let later : state.all_grow (state.fold start (commands_of told)) batch ≡ true =
     subst (λ (s : state.State). state.all_grow s batch ≡ true) before (sym (ap (λ b. b.grew) is)) in
     record {
-      log = ap (λ b. b.mark.book) is;
-      begun = ap (λ b. b.mark.start) is;
       made = goes_on ∙ sym all;
       grew = ap (state.all_grow start) commands ∙ grow_join start (commands_of told) batch first later;
     }
 
-abbrev pub basis : state.State → Mark → Bool → Basis
-basis made mark grew = record { state = made; mark = mark; grew = grew }
+abbrev pub basis : state.State → List (List Taken) → Bool → Basis
+basis made published grew = record { state = made; published = published; grew = grew }
 
 -- a copy that has absorbed a batch
-pub absorbs : (before made : state.State) (batch : List Taken) (mark other : Mark) → made ≡ state.fold before batch → state.all_grow before batch ≡ true → other ≡ mark
-    → basis made other true ≡ basis (state.fold before batch) mark (true && state.all_grow before batch)
-absorbs before made batch mark other is grew same =
-    ap₂ (λ (s : state.State) (rest : Mark × Bool). basis s rest.0 rest.1) is (ap₂ (λ (m : Mark) (b : Bool). (m, b)) same (sym grew))
+pub absorbs : (before made : state.State) (batch : List Taken) (published other : List (List Taken)) → made ≡ state.fold before batch → state.all_grow before batch ≡ true → other ≡ published
+    → basis made other true ≡ basis (state.fold before batch) published (true && state.all_grow before batch)
+absorbs before made batch published other is grew same =
+    ap₂ (λ (s : state.State) (rest : List (List Taken) × Bool). basis s rest.0 rest.1) is (ap₂ (λ (l : List (List Taken)) (b : Bool). (l, b)) same (sym grew))
 
 -- a copy that shows what was published before a batch
-module _ (book : Logs) (start : state.State) (shown : Seen) (batch : List Taken) (documents : List (List Element)) (before after : Mark) (is : IsShown book start shown)
-    (goes : GoesOn book start batch documents before after) (same : shown.mark.batches ≡ before.batches) where
-  there : shown.state ≡ state.fold start (commands_of before.batches)
+module _ (start : state.State) (shown : Seen) (batch : List Taken) (documents : List (List Element)) (before after : List (List Taken)) (is : IsShown start shown)
+    (goes : GoesOn start batch documents before after) (same : shown.published ≡ before) where
+  there : shown.state ≡ state.fold start (commands_of before)
   there = is.made ∙ ap (λ (l : List (List Taken)). state.fold start (commands_of l)) same
 
   -- the documents beside the batch are those of this copy
@@ -69,17 +65,15 @@ module _ (book : Logs) (start : state.State) (shown : Seen) (batch : List Taken)
   made_here = subst (λ (s : state.State). AreMade s batch documents) (sym there) goes.made
 
   -- and it shows the batch too, once it has absorbed it
-  pub shows_after : (made : state.State) (mark : Mark) → made ≡ state.fold shown.state batch → state.all_grow shown.state batch ≡ true → mark ≡ after
-      → IsShown book start (record { state = made; mark = mark })
-  shows_after made mark made_is grow mark_is =
-      let commands : commands_of after.batches ≡ commands_of before.batches ++ batch = ap commands_of goes.next ∙ commands_more before.batches batch in
-      let first : state.all_grow start (commands_of before.batches) ≡ true = ap (λ (l : List (List Taken)). state.all_grow start (commands_of l)) (sym same) ∙ is.grew in
-      let later : state.all_grow (state.fold start (commands_of before.batches)) batch ≡ true = ap (λ (s : state.State). state.all_grow s batch) (sym there) ∙ grow in
-      subst (λ (m : Mark). IsShown book start (record { state = made; mark = m })) (sym mark_is) (record {
-        log = goes.log_after;
-        begun = goes.begun_after;
-        made = made_is ∙ ap (λ (s : state.State). state.fold s batch) there ∙ sym (ap (state.fold start) commands ∙ fold_join start (commands_of before.batches) batch);
-        grew = ap (state.all_grow start) commands ∙ grow_join start (commands_of before.batches) batch first later;
+  pub shows_after : (made : state.State) (published : List (List Taken)) → made ≡ state.fold shown.state batch → state.all_grow shown.state batch ≡ true → published ≡ after
+      → IsShown start (record { state = made; published = published })
+  shows_after made published made_is grow published_is =
+      let commands : commands_of after ≡ commands_of before ++ batch = ap commands_of goes.next ∙ commands_more before batch in
+      let first : state.all_grow start (commands_of before) ≡ true = ap (λ (l : List (List Taken)). state.all_grow start (commands_of l)) (sym same) ∙ is.grew in
+      let later : state.all_grow (state.fold start (commands_of before)) batch ≡ true = ap (λ (s : state.State). state.all_grow s batch) (sym there) ∙ grow in
+      subst (λ (l : List (List Taken)). IsShown start (record { state = made; published = l })) (sym published_is) (record {
+        made = made_is ∙ ap (λ (s : state.State). state.fold s batch) there ∙ sym (ap (state.fold start) commands ∙ fold_join start (commands_of before) batch);
+        grew = ap (state.all_grow start) commands ∙ grow_join start (commands_of before) batch first later;
       })
 
 -- what a writer has still to show, after one more was given to it where nothing was waiting, or refused

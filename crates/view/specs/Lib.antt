@@ -1,4 +1,5 @@
 pub mod News
 pub mod Shown
 pub mod Published
+pub mod Publishing
 pub mod Stages

@@ -1,7 +1,6 @@
 -- How far the publishing of a batch has come.
 use Rattle.std.specs.Prelude.{◌≡◌, ◌≤◌, ◌<◌, ◌+◌, ◌^◌, List, [], ◌∷◌, ◌++◌, length}
 use mathlib.Core.List.{IsPrefix}
-use Rattle.published.specs.Books.{Logs}
 use Rattle.revision.specs.Command.{Taken}
 use Rattle.revision.specs.Made.{AreMade}
 use Rattle.revision.specs.State.{State, fold}
@@ -15,12 +14,12 @@ use Rattle.view.specs.declared.publisher.Stage.{Stage}
 use Rattle.view.specs.declared.publisher.Stage.TheVariants.{Idle, Held, Logged, Queued}
 
 -- a batch, as it is to be shown with the batches that are then published
-abbrev pub news_of : Logs → State → List Taken → List (List Taken) → News
-news_of book start batch next = record { batch = batch; mark = record { book = book; start = start ∷ []; batches = next } }
+abbrev pub news_of : List Taken → List (List Taken) → News
+news_of batch next = record { batch = batch; published = next }
 
 -- what is shown is what exactly these batches make of the start
-abbrev pub AreShown : Logs → State → List (List Taken) → Seen → Type 0
-AreShown book start told shown = IsShown book start shown × (shown.mark.batches ≡ told)
+abbrev pub AreShown : State → List (List Taken) → Seen → Type 0
+AreShown start told shown = IsShown start shown × (shown.published ≡ told)
 
 -- A batch has a command, and is the next part of the order after what is published, which then has fewer than 2^64 commands.
 pub record IsNext (told batch order : List Taken) : Type 0 where
@@ -44,11 +43,11 @@ module _ {D L : Type 0} where
   moments_in disk moments (Queued receipt next) = moments
 
   -- what the writer has still to show
-  abbrev pub waiting : Logs → State → Stage D L → List News
-  waiting book start Idle = []
-  waiting book start (Held receipt ordered made) = []
-  waiting book start (Logged receipt next) = []
-  waiting book start (Queued receipt next) = news_of book start receipt.batch next ∷ []
+  abbrev pub waiting : Stage D L → List News
+  waiting Idle = []
+  waiting (Held receipt ordered made) = []
+  waiting (Logged receipt next) = []
+  waiting (Queued receipt next) = news_of receipt.batch next ∷ []
 
   -- what the log has beyond what is shown is the batch, and one that isn't in the log yet is the next part of the order
   abbrev pub IsLogged : List (List Taken) → List (List Taken) → Stage D L → Type 0

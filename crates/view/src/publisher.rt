@@ -1,5 +1,5 @@
 //! The writer of the view.
-ghost use Rattle.std.specs.Prelude.{◌≡◌, ◌⊎◌, ◌∷◌, ◌++◌, [], drop, length, nat_lt, IfOk, IfSome, IfNone, OnErr, MatchBool};
+ghost use Rattle.std.specs.Prelude.{◌≡◌, ◌⊎◌, ◌∷◌, ◌++◌, [], drop, length, nat_lt, IfOk, IfSome, MatchBool};
 ghost use mathlib.Core.List.{IsPrefix};
 ghost use Rattle.recovery.specs.Found.{commands_of};
 ghost use Rattle.recovery.specs.Moment.{IsMomentOf, moment_of};
@@ -8,6 +8,7 @@ ghost use Rattle.revision.specs.State.{fold};
 ghost use Rattle.world.specs.World.{takens};
 ghost use Rattle.published.specs.Moments.{AreMoments};
 ghost use Rattle.view.specs.Published.{Published};
+ghost use Rattle.view.specs.Publishing.{Publishes, ShowsNext};
 ghost use Rattle.view.specs.Stages.{AreShown, IsNext, news_of as to_show};
 
 use crate::shown::{Basis, InLog, News, Sees, Shown};
@@ -21,7 +22,7 @@ use published::{Life, Log, Moments, Opened, Order, Ordered, Told};
 use recovery::Receipt;
 use revision::State;
 use std::alloc::{AllocError, Global};
-use std::marker::{Model, PhantomData};
+use std::marker::Model;
 use std::sync::Wait;
 
 /// So many viewers there may be at once.
@@ -70,8 +71,8 @@ where
       moments = spec.moments_in ⟦<D as Disk>⟧ p.log.moments p.stage;
     } };
 
-    ghost invariant = { λ p. spec.AreShown L.book.logs L.start p.told p.writer.desk.shown.value
-        × (drop p.writer.behind p.writer.log.items ≡ spec.waiting L.book.logs L.start p.stage) × spec.IsLogged p.log.batches p.told p.stage
+    ghost invariant = { λ p. spec.AreShown L.start p.told p.writer.desk.shown.value
+        × (drop p.writer.behind p.writer.log.items ≡ spec.waiting p.stage) × spec.IsLogged p.log.batches p.told p.stage
         × spec.IsGiven L.start p.told p.stage × spec.IsTimed ⟦<D as Disk>⟧ L.start p.told p.stage };
 }
 
@@ -89,18 +90,16 @@ impl<D: Disk, L: Life> Publisher<D, L> {
         ensures told { IfOk result (λ made. made.1 ≡ []) }
         ensures order { IfOk result (λ made. made.2 ≡ []) }
     {
-        let (log, told, order) = opened.named::<D, L>(state);
+        let (log, told, order) = opened.named::<D, L>();
         let first = Shown {
             alloc,
             state: state.copy(alloc)?,
-            mark: told.mark(),
-            of: PhantomData,
+            published: told.prefix().copy(),
         };
         let second = Shown {
             alloc,
             state: state.copy(alloc)?,
-            mark: told.mark(),
-            of: PhantomData,
+            published: told.prefix().copy(),
         };
         let writer = Writer::new(alloc, first, second, VIEWERS)?;
         let start = told.copy();
@@ -218,13 +217,7 @@ impl<D: Disk, L: Life> Publisher<D, L> {
         rt: &R,
         alloc: Global,
     ) -> Result<Option<(Receipt<D>, Told<D, L>)>, AllocError>
-        ensures batch { IfOk result (λ published. IfSome published (λ p. self.old.unpublished ≡ p.0.batch ∷ [])) }
-        ensures told { IfOk result (λ published. IfSome published (λ p. p.1 ≡ self.old.told ++ p.0.batch ∷ [])) }
-        ensures shown { IfOk result (λ published. IfSome published
-            (λ p. self.new ≡ record { told = p.1; unpublished = []; moments = self.old.moments })) }
-        ensures none { IfOk result (λ published. IfNone published
-            ((self.old.unpublished ≡ []) × (self.new ≡ self.old))) }
-        ensures unchanged { OnErr result (self.new ≡ self.old) }
+        ensures { Publishes self.old result self.new }
     {
         replace_with(self, (rt, alloc), published::<D, L, R>)
     }
@@ -249,13 +242,7 @@ fn published<D: Disk, L: Life, R: Wait>(
     Publisher<D, L>,
     Result<Option<(Receipt<D>, Told<D, L>)>, AllocError>,
 )
-    ensures batch { IfOk result.1 (λ published. IfSome published (λ p. publisher.unpublished ≡ p.0.batch ∷ [])) }
-    ensures told { IfOk result.1 (λ published. IfSome published (λ p. p.1 ≡ publisher.told ++ p.0.batch ∷ [])) }
-    ensures shown { IfOk result.1 (λ published. IfSome published
-        (λ p. result.0 ≡ record { told = p.1; unpublished = []; moments = publisher.moments })) }
-    ensures none { IfOk result.1 (λ published. IfNone published
-        ((publisher.unpublished ≡ []) × (result.0 ≡ publisher))) }
-    ensures unchanged { OnErr result.1 (result.0 ≡ publisher) }
+    ensures { Publishes publisher result.1 result.0 }
 {
     let (rt, alloc) = with;
     let Publisher {
@@ -298,15 +285,12 @@ fn queued<D: Disk, L: Life, R: Wait>(
     Publisher<D, L>,
     Result<Option<(Receipt<D>, Told<D, L>)>, AllocError>,
 )
-    requires shown { AreShown L.book.logs L.start told writer.desk.shown.value }
+    requires shown { AreShown L.start told writer.desk.shown.value }
     requires waiting { drop writer.behind writer.log.items ≡ [] }
     requires next { next ≡ told ++ receipt.batch ∷ [] }
     requires made { AreMade (fold L.start (commands_of told)) receipt.batch made.items }
     requires log { log.batches ≡ next }
-    ensures done { IfOk result.1 (λ published. IfSome published (λ p. (p.0 ≡ receipt) × (p.1 ≡ next)
-        × (result.0 ≡ record { told = next; unpublished = []; moments = log.moments }))) }
-    ensures some { IfOk result.1 (λ published. IfNone published ⊥) }
-    ensures unchanged { OnErr result.1 (result.0 ≡ record { told = told; unpublished = receipt.batch ∷ []; moments = log.moments }) }
+    ensures { ShowsNext told receipt next log.moments result.1 result.0 }
 {
     if !appended(&mut writer, &receipt, &told, &next, made) {
         let logged = Publisher {
@@ -333,7 +317,7 @@ fn appended<D, L: Life>(
     requires made { AreMade (fold L.start (commands_of told.now)) receipt.now.batch made.items }
     ensures desk { writer.new.desk ≡ writer.old.desk }
     ensures waiting { MatchBool result (drop writer.new.behind writer.new.log.items
-        ≡ to_show L.book.logs L.start receipt.now.batch next.now ∷ []) (drop writer.new.behind writer.new.log.items ≡ []) }
+        ≡ to_show receipt.now.batch next.now ∷ []) (drop writer.new.behind writer.new.log.items ≡ []) }
 {
     match news_of(receipt, told, next, made) {
         Ok(news) => writer.append(news).is_ok(),
@@ -353,14 +337,11 @@ fn shown<D: Disk, L: Life, R: Wait>(
     Publisher<D, L>,
     Result<Option<(Receipt<D>, Told<D, L>)>, AllocError>,
 )
-    requires shown { AreShown L.book.logs L.start told writer.desk.shown.value }
-    requires waiting { drop writer.behind writer.log.items ≡ to_show L.book.logs L.start receipt.batch next ∷ [] }
+    requires shown { AreShown L.start told writer.desk.shown.value }
+    requires waiting { drop writer.behind writer.log.items ≡ to_show receipt.batch next ∷ [] }
     requires next { next ≡ told ++ receipt.batch ∷ [] }
     requires log { log.batches ≡ next }
-    ensures done { IfOk result.1 (λ published. IfSome published (λ p. (p.0 ≡ receipt) × (p.1 ≡ next)
-        × (result.0 ≡ record { told = next; unpublished = []; moments = log.moments }))) }
-    ensures some { IfOk result.1 (λ published. IfNone published ⊥) }
-    ensures unchanged { OnErr result.1 (result.0 ≡ record { told = told; unpublished = receipt.batch ∷ []; moments = log.moments }) }
+    ensures { ShowsNext told receipt next log.moments result.1 result.0 }
 {
     let (writer, published) = writer.publish_as::<Sees<L>, R>(rt);
     match published {
@@ -395,13 +376,12 @@ fn news_of<D, L: Life>(
 ) -> Result<News<L>, AllocError>
     requires next { next.now ≡ told.now ++ receipt.now.batch ∷ [] }
     requires made { AreMade (fold L.start (commands_of told.now)) receipt.now.batch made.items }
-    ensures news { IfOk result (λ news. news ≡ to_show L.book.logs L.start receipt.now.batch next.now) }
+    ensures news { IfOk result (λ news. news ≡ to_show receipt.now.batch next.now) }
 {
     Ok(News {
         batch: receipt.batch().share()?,
         made,
-        before: told.mark(),
-        mark: next.mark(),
-        of: PhantomData,
+        before: told.prefix().copy(),
+        published: next.prefix().copy(),
     })
 }

@@ -4,8 +4,8 @@ ghost use Rattle.std.specs.Prelude.{◌≡◌};
 use crossbeam_utils::rule::{Outcome, Protocol};
 use document::Document;
 use left_right::Absorb;
-use published::{Life, Mark, Told};
-use revision::{Batch, State};
+use published::{Life, PublishedPrefix};
+use revision::{Batch, State, Taken};
 use std::alloc::{AllocError, Global};
 use std::marker::{Model, PhantomData};
 
@@ -14,8 +14,7 @@ use std::marker::{Model, PhantomData};
 pub struct Shown<L: Life> {
     pub(crate) alloc: Global,
     pub(crate) state: State,
-    pub(crate) mark: Mark,
-    pub(crate) of: PhantomData<L>,
+    pub(crate) published: PublishedPrefix<L>,
 }
 
 impl<L: Life> Model for Shown<L> {
@@ -23,9 +22,9 @@ impl<L: Life> Model for Shown<L> {
 
     ghost Value = { spec.Seen };
 
-    ghost view = { λ s. record { state = s.state; mark = s.mark } };
+    ghost view = { λ s. record { state = s.state; published = s.published } };
 
-    ghost invariant = { λ s. spec.IsShown L.book.logs L.start (record { state = s.state; mark = s.mark }) };
+    ghost invariant = { λ s. spec.IsShown L.start (record { state = s.state; published = s.published }) };
 }
 
 /// A batch that is to be shown, with what was published before it and what is published with it. Beside its first commands stand the
@@ -34,9 +33,8 @@ impl<L: Life> Model for Shown<L> {
 pub struct News<L: Life> {
     pub(crate) batch: Batch,
     pub(crate) made: Vec<Document>,
-    pub(crate) before: Mark,
-    pub(crate) mark: Mark,
-    pub(crate) of: PhantomData<L>,
+    pub(crate) before: PublishedPrefix<L>,
+    pub(crate) published: PublishedPrefix<L>,
 }
 
 impl<L: Life> Model for News<L> {
@@ -44,15 +42,15 @@ impl<L: Life> Model for News<L> {
 
     ghost Value = { spec.News };
 
-    ghost view = { λ n. record { batch = n.batch; mark = n.mark } };
+    ghost view = { λ n. record { batch = n.batch; published = n.published } };
 
-    ghost invariant = { λ n. spec.GoesOn L.book.logs L.start n.batch n.made.items n.before n.mark };
+    ghost invariant = { λ n. spec.GoesOn L.start n.batch n.made.items n.before n.published };
 }
 
 /// What the two copies have in common, and whether each batch continued the state. No value of it is made.
 pub struct Basis {
     pub state: State,
-    pub mark: Mark,
+    pub published: [[Taken; 0]; 0],
     pub grew: bool,
 }
 
@@ -68,9 +66,7 @@ impl<L: Life> Absorb<News<L>> for Shown<L> {
     /// Takes over the documents that stand beside the batch, and makes the others. It fails out of memory; and where this copy doesn't show
     /// what was published before the batch, which never happens, but no clause says so.
     fn absorb_first(&mut self, operation: &News<L>, _other: &Shown<L>) -> Result<(), AllocError> {
-        let here = Told::<(), L>::of_mark(self.mark.copy());
-        let before = Told::<(), L>::of_mark(operation.before.copy());
-        if !here.is_same(&before) {
+        if !self.published.is_same(&operation.before) {
             return Err(AllocError);
         }
         let absorbed = self.state.absorb_all(
@@ -81,7 +77,7 @@ impl<L: Life> Absorb<News<L>> for Shown<L> {
         if absorbed.is_err() {
             return Err(AllocError);
         }
-        self.mark = operation.mark.copy();
+        self.published = operation.published.copy();
         Ok(())
     }
 }
@@ -94,7 +90,7 @@ pub struct InLog<L> {
 impl<L: Life> Protocol<Shown<L>, ()> for InLog<L> {
     ghost use Rattle.view.specs.Shown.{IsShown};
 
-    ghost holds = { λ x views. IsShown L.book.logs L.start x };
+    ghost holds = { λ x views. IsShown L.start x };
 
     ghost first = { tt };
 }
@@ -107,5 +103,5 @@ pub struct Sees<L> {
 impl<L: Life> Outcome<Shown<L>, ()> for Sees<L> {
     ghost use Rattle.view.specs.Shown.{IsShown};
 
-    ghost then = { λ v x y w. IsShown L.book.logs L.start y };
+    ghost then = { λ v x y w. IsShown L.start y };
 }

@@ -1,10 +1,12 @@
 //! A reader of the view.
-ghost use Rattle.std.specs.Prelude.{◌≡◌, ◌⊎◌, true, IfOk, IfErr, IsOk, OnOk, OnErr};
+ghost use Rattle.std.specs.Prelude.{◌≡◌, ◌⊎◌, IfOk, IfErr, IsOk, OnOk, OnErr};
 ghost use Rattle.std.specs.Fn.{FnOnceReturnsAt};
 ghost use mathlib.Core.List.{IsPrefix};
 ghost use Rattle.revision.specs.State as state;
 ghost use Rattle.revision.specs.Readings.{document_at, taken_since, read_as};
 ghost use Rattle.recovery.specs.Found.{commands_of};
+ghost use Rattle.published.specs.Batches.{IsTheLonger};
+ghost use Rattle.view.specs.Publishing.{ReadsOn};
 
 use crate::shown::{InLog, Sees, Shown};
 use delta::Delta;
@@ -51,9 +53,7 @@ impl<D, L: Life> Viewer<D, L> {
 
     /// Takes in what was published by a token: from now on no less is read. It takes no memory.
     pub fn learn(&mut self, told: &Told<D, L>)
-        ensures one { (self.new ≡ self.old) ⊎ (self.new ≡ told.now) }
-        ensures kept { IsPrefix self.old self.new }
-        ensures learned { IsPrefix told.now self.new }
+        ensures { IsTheLonger self.old told.now self.new }
     {
         self.told.learn(told);
     }
@@ -64,8 +64,7 @@ impl<D, L: Life> Viewer<D, L> {
     /// alone, where the view has ended; nothing is lent then, and the viewer is unchanged. It waits for nobody, and takes no memory.
     pub fn read<A, F: FnOnce(&State) -> A + Drop>(&mut self, f: F) -> Result<A, Refusal>
         requires { F.IsAlwaysCallable f }
-        ensures kept { IsPrefix self.old self.new }
-        ensures grows { OnOk result (state.all_grow L.start (commands_of self.new) ≡ true) }
+        ensures seen { OnOk result (ReadsOn L.start self.old self.new) }
         ensures answer { IfOk result (λ a. (s : state.State) × (s ≡ state.fold L.start (commands_of self.new))
             × FnOnceReturnsAt F.FnOnce f s a) }
         ensures only { IfErr result (λ e. e ≡ Refusal.StoreFailed) }
@@ -83,8 +82,7 @@ impl<D, L: Life> Viewer<D, L> {
         f: F,
     ) -> Result<(A, Told<D, L>), Refusal>
         requires { F.IsAlwaysCallable f }
-        ensures begins { IfOk result (λ r. IsPrefix self.old r.1) }
-        ensures grows { IfOk result (λ r. state.all_grow L.start (commands_of r.1) ≡ true) }
+        ensures seen { IfOk result (λ r. ReadsOn L.start self.old r.1) }
         ensures answer { IfOk result (λ r. (s : state.State) × (s ≡ state.fold L.start (commands_of r.1))
             × FnOnceReturnsAt F.FnOnce f s r.0) }
         ensures only { IfErr result (λ e. e ≡ Refusal.StoreFailed) }
@@ -101,7 +99,7 @@ impl<D, L: Life> Viewer<D, L> {
                 return Err(Refusal::StoreFailed);
             }
         };
-        let seen = Told::of_mark(reading.get().mark.copy());
+        let seen = Told::of(reading.get().published.copy());
         if !self.told.begins(&seen) {
             self.reader = Some(reading.leave());
             return Err(Refusal::StoreFailed);

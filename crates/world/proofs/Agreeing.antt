@@ -8,7 +8,7 @@ use Rattle.revision.specs.Past.{Past, newest, empty_past, from_floor}
 use Rattle.revision.specs.State.{newest_revision, change_of, DocumentRecord, revision_of, State, record_by_name, set_document, grown, fold}
 use Rattle.revision.specs.Acceptance.{Answer, Takes, Repeats, Refuses, answer}
 use Rattle.revision.specs.Agree.{DocumentsAgree, PlacesAgree}
-use Rattle.world.specs.Board.{Ticket, can_take, can_settle, can_ack}
+use Rattle.world.specs.Progress.{Ticket, can_take, can_settle, can_ack}
 use Rattle.world.specs.Event.{Done, Failed, Stopped, Event, Submit, Take, Device, Publish, Settle, Ack, Compose, Crash, Open, Resend}
 use Rattle.world.specs.World.{Entry, entry_of, takens, World, begun, last_sent, last_composed}
 use Rattle.world.specs.Step.{keeping_all, whole, with_floors, may_begin_at, may_pick, is_numbered, is_among_last, with_command, is_written, written, acknowledged, may_leave, stopped, opened, can_open, running_step, crashed_step, step, run}

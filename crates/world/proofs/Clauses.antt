@@ -7,7 +7,7 @@ use Rattle.std.proofs.lemmas.List.Elements.{All-weaker}
 use Rattle.revision.specs.Window.{longest, Window, revision_in}
 use Rattle.revision.specs.Command.{Command}
 use Rattle.revision.specs.State.{DocumentRecord, State, find}
-use Rattle.world.specs.Board.{Ticket}
+use Rattle.world.specs.Progress.{Ticket}
 use Rattle.world.specs.World.{Entry, takens, World, begun, is_of, last_sent}
 use Rattle.world.specs.Step.{run}
 use Rattle.world.specs.Shown.{Shown, all_shown}

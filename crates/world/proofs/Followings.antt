@@ -14,7 +14,7 @@ use Rattle.revision.specs.Acceptance.{Answer, Takes, Repeats, Refuses, TakenAt, 
 use Rattle.world.specs.declared.follower.Place.{Place}
 use Rattle.world.specs.declared.follower.Waiting.{Waiting}
 use Rattle.world.specs.declared.follower.Happening.{Happening}
-use Rattle.world.specs.Board.{Ticket, can_take, can_settle, can_ack}
+use Rattle.world.specs.Progress.{Ticket, can_take, can_settle, can_ack}
 use Rattle.world.specs.Event.{Outcome, Done, Failed, Stopped, Event, Submit, Take, Device, Publish, Settle, Ack, Compose, Crash, Open, Resend}
 use Rattle.world.specs.World.{Entry, entry_of, takens, World, begun, is_of, last_sent}
 use Rattle.world.specs.Step.{is_numbered, is_among_last, with_command, is_written, written, acknowledged, may_leave, stopped, opened, can_open, may_pick, whole, running_step, crashed_step, step, run}

@@ -3,7 +3,7 @@ use Rattle.std.proofs.Common.{◌≡◌, ℕ, ◌-◌, ◌≤◌, true, List, []
 use Rattle.std.specs.Prelude.{◌==◌, ◌&&◌, nat_lt, min, slice_get}
 use Rattle.std.proofs.lemmas.Bool.{and_parts, cond_both}
 use Rattle.std.proofs.lemmas.List.{take_all, take-append-le, take-take, length-take, take-map}
-use Rattle.world.specs.Board.{Ticket, can_take, can_settle, can_ack, taken_beyond}
+use Rattle.world.specs.Progress.{Ticket, can_take, can_settle, can_ack, taken_beyond}
 use Rattle.world.specs.Event.{Outcome, Done, Failed, Stopped, Event, Submit, Take, Device, Publish, Settle, Ack, Compose, Crash, Open, Resend}
 use Rattle.world.specs.World.{Entry, takens, World, begun, last_sent}
 use Rattle.world.specs.Step.{is_numbered, is_among_last, with_command, is_written, written, acknowledged, may_leave, stopped, opened, can_open, running_step, crashed_step, step, run}

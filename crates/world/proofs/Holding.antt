@@ -9,7 +9,7 @@ use Rattle.revision.specs.Window.{revision_in}
 use Rattle.revision.specs.Command.{Command}
 use Rattle.revision.specs.State.{State, last_of_all}
 use Rattle.revision.specs.Acceptance.{Answer, Takes, Repeats, Refuses, answer}
-use Rattle.world.specs.Board.{Ticket, submitted_by, ticket_by, can_take, can_settle, can_ack, taken_beyond}
+use Rattle.world.specs.Progress.{Ticket, submitted_by, ticket_by, can_take, can_settle, can_ack, taken_beyond}
 use Rattle.world.specs.Event.{Outcome, Done, Failed, Stopped, Event, Submit, Take, Device, Publish, Settle, Ack, Compose, Crash, Open, Resend}
 use Rattle.world.specs.World.{Entry, entry_of, takens, World, begun, is_of, last_sent}
 use Rattle.world.specs.Step.{is_numbered, is_among_last, with_command, is_written, written, acknowledged, may_leave, stopped, opened, can_open, running_step, crashed_step, step, run, whole, may_pick}

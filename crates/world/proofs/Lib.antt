@@ -11,7 +11,7 @@ pub mod Further
 pub mod Followings
 pub mod Cutting
 pub mod Agreeing
-pub mod SameBoards
+pub mod SameProgresses
 pub mod Milestones
 pub mod Steps
 pub mod CallerLemmas

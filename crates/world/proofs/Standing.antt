@@ -6,7 +6,7 @@ use Rattle.std.proofs.lemmas.List.{take-append-le, take-take, length-append, len
 use Rattle.revision.specs.Window.{longest, taken_next, revision_in}
 use Rattle.revision.specs.Command.{Command}
 use Rattle.revision.proofs.CallerLemmas.{shifts}
-use Rattle.world.specs.Board.{Ticket}
+use Rattle.world.specs.Progress.{Ticket}
 use Rattle.world.specs.World.{Entry, is_of, takens}
 use Rattle.world.specs.Law.{IsSent, Made, revision_named}
 use Rattle.world.specs.Shown.{Shown}

@@ -8,7 +8,7 @@ use Rattle.revision.specs.State.{Limits, State, grows, grown, all_grow, fold, la
 use Rattle.revision.specs.Acceptance.{Answer, Takes, Repeats, Refuses, answer}
 use Rattle.revision.specs.Agree.{Agree}
 use Rattle.revision.proofs.CallerLemmas.{taken_grows, agreeing_grow, fold-append}
-use Rattle.world.specs.Board.{Board, Ticket, submitted, submitted_by, ticket_of, reopened}
+use Rattle.world.specs.Progress.{Progress, Ticket, submitted, submitted_by, ticket_of, reopened}
 use Rattle.world.specs.Event.{Submit, Publish}
 use Rattle.world.specs.World.{Entry, entry_of, takens, World}
 use Rattle.world.specs.Step.{is_numbered, with_command, may_leave, may_pick, whole, opened, can_open, running_step}
@@ -36,7 +36,7 @@ all_grow-append state (taken ∷ more) others grow rest =
     and_from (grows state taken) (all_grow (grown state taken) (more ++ others)) parts.0 (all_grow-append (grown state taken) more others parts.1 rest)
 
 -- one command more
-module _ (limits : Limits) (board : Board Entry) (order : List Entry) (shown without with_batch : ℕ) (stepped : AreStepped limits board order shown without with_batch)
+module _ (limits : Limits) (board : Progress Entry) (order : List Entry) (shown without with_batch : ℕ) (stepped : AreStepped limits board order shown without with_batch)
     (command : Command) (some : 1 ≤ command.number) (below : command.number < 2 ^ 53) where
   stays : AreStepped limits board (order ++ []) shown without with_batch
   stays = subst (λ o. AreStepped limits board o shown without with_batch) (sym (append-nil order)) stepped
@@ -70,7 +70,7 @@ module _ (limits : Limits) (board : Board Entry) (order : List Entry) (shown wit
   stepped-submitted = answered (answer board.state command) refl
 
 -- an opening
-pub stepped-opened : (limits : Limits) (board : Board Entry) (order : List Entry) (shown without with_batch : ℕ) (state : State) (kept : ℕ) (milestones : List ℕ)
+pub stepped-opened : (limits : Limits) (board : Progress Entry) (order : List Entry) (shown without with_batch : ℕ) (state : State) (kept : ℕ) (milestones : List ℕ)
     → AreStepped limits board order shown without with_batch → kept ≤ board.taken → state ≡ recovered (empty_store limits) (takens (take kept board.order)) milestones
     → AreStepped limits (reopened board state kept) (take kept order) kept kept kept
 stepped-opened limits board order shown without with_batch state kept milestones stepped within is = record {

@@ -9,7 +9,7 @@ use Rattle.delta.specs.Operation.{insert_text}
 use Rattle.revision.specs.Command.{Action, Create, Edit, Delete, Command}
 use Rattle.revision.specs.State.{State}
 use Rattle.revision.specs.Acceptance.{Refuses, Reply, TakenAt, AgainAt, answer}
-use Rattle.world.specs.Board.{Ticket}
+use Rattle.world.specs.Progress.{Ticket}
 use Rattle.world.specs.Event.{Done, Failed, Stopped, Event, Submit, Take, Device, Publish, Settle, Ack, Compose, Crash, Open, Resend}
 use Rattle.world.specs.World.{World, begun}
 use Rattle.world.specs.Step.{may_leave, run}

@@ -6,7 +6,7 @@ use Rattle.world.specs.declared.follower.Place.{Place}
 use Rattle.world.specs.declared.follower.Waiting.{Waiting}
 use Rattle.world.specs.declared.follower.Happening.{Happening}
 use Rattle.world.specs.declared.follower.Happening.TheVariants as happenings
-use Rattle.world.specs.Board.{Ticket}
+use Rattle.world.specs.Progress.{Ticket}
 use Rattle.world.specs.Event.{Outcome, Done, Failed, Stopped, Event, Submit, Take, Device, Publish, Settle, Ack, Compose, Crash, Open, Resend}
 use Rattle.world.specs.World.{Entry, takens, World, begun, last_sent}
 use Rattle.world.specs.Step.{may_pick, whole, step, run}

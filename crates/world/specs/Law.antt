@@ -6,7 +6,7 @@ use Rattle.revision.specs.Command.{Command}
 use Rattle.revision.specs.State.{DocumentRecord, sources_of, State, find, fold}
 use Rattle.revision.specs.Acceptance.{Repeats, Reply, TakenAt, AgainAt, Refused, answer}
 use Rattle.revision.specs.Agree.{Agree}
-use Rattle.world.specs.Board.{Ticket}
+use Rattle.world.specs.Progress.{Ticket}
 use Rattle.world.specs.Event.{Event}
 use Rattle.world.specs.World.{Entry, takens, World, begun, last_sent}
 use Rattle.world.specs.Step.{may_leave, run}

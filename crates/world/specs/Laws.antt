@@ -2,7 +2,7 @@
 use Rattle.std.specs.Prelude.{◌≡◌, ℕ, ◌≤◌, List, ◌++◌, length, take}
 use Rattle.revision.specs.Command.{Taken}
 use Rattle.revision.specs.State.{State, fold}
-use Rattle.world.specs.Board.{Ticket}
+use Rattle.world.specs.Progress.{Ticket}
 use Rattle.world.specs.Event.{Event}
 use Rattle.world.specs.World.{Entry, World, begun}
 use Rattle.world.specs.Step.{run}

@@ -1,7 +1,8 @@
-pub mod Board
+pub mod Progress
 pub mod Event
 pub mod World
-pub mod Boards
+pub mod Submitting
+pub mod Alike
 pub mod Step
 pub mod Stepping
 pub mod Shown

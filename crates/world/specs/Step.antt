@@ -4,7 +4,7 @@ use Rattle.revision.specs.Command.{Taken, Command}
 use Rattle.revision.specs.Past.{from_floor}
 use Rattle.revision.specs.Window.{longest}
 use Rattle.revision.specs.State.{DocumentRecord, revision_of, newest_revision, State, last_of_all, fold}
-use Rattle.world.specs.Board.{Ticket, submitted, ticket_of, can_take, taken_more, can_settle, settled_more, taken_beyond, can_ack}
+use Rattle.world.specs.Progress.{Ticket, submitted, ticket_of, can_take, taken_more, can_settle, settled_more, taken_beyond, can_ack}
 use Rattle.world.specs.Event.{Outcome, Done, Failed, Stopped, Event, Submit, Take, Device, Publish, Settle, Ack, Compose, Crash, Open, Resend}
 use Rattle.world.specs.World.{entry_of, takens, World, last_sent, last_composed}
 

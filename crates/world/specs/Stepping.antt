@@ -11,7 +11,7 @@ use Rattle.world.specs.declared.stepping.Outcome.TheVariants as outcomes
 use Rattle.world.specs.declared.stepping.Event as program
 use Rattle.world.specs.declared.stepping.Event.TheVariants as events
 use Rattle.world.specs.Event.{Outcome, Done, Failed, Stopped, Event, Submit, Take, Device, Publish, Settle, Ack, Compose, Crash, Open, Resend}
-use Rattle.world.specs.Board.{Board}
+use Rattle.world.specs.Progress.{Progress}
 use Rattle.world.specs.World.{Entry, entry_of, takens, World, last_composed}
 
 -- a store without documents
@@ -41,7 +41,7 @@ taken_of command (Refuses refusal) = []
 
 -- It began with a store without documents; all lengths are within what is taken off; each command of the order continues what
 -- those before it make, with which the state agrees; and the order is kept as a whole, where the board lets go what is settled.
-pub record AreStepped (limits : Limits) (board : Board Entry) (order : List Entry) (shown without with_batch : ℕ) : Type 0 where
+pub record AreStepped (limits : Limits) (board : Progress Entry) (order : List Entry) (shown without with_batch : ℕ) : Type 0 where
   pub start : board.start ≡ empty_store limits
   pub shown_taken : shown ≤ board.taken
   pub without_taken : without ≤ board.taken

@@ -2,7 +2,7 @@
 use Rattle.std.specs.Prelude.{ℕ, ◌==◌, ◌&&◌, bytes_eq, if◌then◌else◌, max, Bool, false, List, [], ◌∷◌, map}
 use Rattle.revision.specs.Command.{Taken, Command}
 use Rattle.revision.specs.State.{State}
-use Rattle.world.specs.Board.{Board, Ticket}
+use Rattle.world.specs.Progress.{Progress, Ticket}
 
 -- what the order keeps: the command, and what was taken of it
 pub record Entry : Type 0 where
@@ -19,7 +19,7 @@ takens entries = map (λ (entry : Entry). entry.taken) entries
 -- written and with it; the tickets that are out; all acknowledgements and all commands that were sent since the world began; the
 -- revisions of documents that were composed; whether the store has failed, and whether the machine has stopped.
 pub record World : Type 0 where
-  pub board : Board Entry
+  pub board : Progress Entry
   pub published : List Taken
   pub without : ℕ
   pub with_batch : ℕ

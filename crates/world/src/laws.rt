@@ -1,5 +1,5 @@
 //! What holds of every schedule, as contracts of functions that do nothing.
-ghost use Rattle.world.specs.Boards.{SameBoard, BatchGoesOn};
+ghost use Rattle.world.specs.Alike.{SameProgress, BatchGoesOn};
 ghost use Rattle.world.specs.Following.{Follows};
 ghost use Rattle.world.specs.Laws as law;
 ghost use Rattle.world.specs.Law.{OverAll, OverAllFurther, AcksStay, AcksAreShown, TakenOnce, OneRevision, NothingTakenBack, TakenIsAgain, ShownStays, NothingRewritten, StateIsFold, StateAgrees};
@@ -27,8 +27,8 @@ pub fn follower_follows()
 {}
 
 /// A board that keeps of each command only what was taken of it moves as the board of a world does.
-pub fn same_board()
-    ensures { SameBoard }
+pub fn same_progress()
+    ensures { SameProgress }
 {}
 
 /// Folding a batch onto the state before it gives the state of the order with the batch. The law says nothing of crashes.

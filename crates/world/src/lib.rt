@@ -4,14 +4,14 @@
 //! far it is taken off, shown and settled, the tickets that are out, all acknowledgements since the world began, and the two
 //! lengths of the order that a crash may leave (specs/World.antt). Events are the steps of the board, of the device and of the
 //! view, and crashes and openings (specs/Event.antt). Each makes a world of a world, and one that isn't possible changes nothing,
-//! so every list of events is a schedule (specs/Step.antt). What the board does stands apart, in specs/Board.antt, in words that
+//! so every list of events is a schedule (specs/Step.antt). What the board does stands apart, in specs/Progress.antt, in words that
 //! the board itself can be promised by.
 //!
 //! `laws::every_schedule` promises of every list of events: no acknowledged edit is missing, none is taken twice, none changes its
 //! revision, and what was shown and acknowledged at any moment is a prefix of what is shown and acknowledged at any later one
 //! (specs/Law.antt). The crate stands on the rule of acceptance, `revision`.
 //!
-//! A `Board` is what stands behind the server's lock. Each of its calls is promised by the definition of the same step: what it does
+//! A `Progress` is what stands behind the server's lock. Each of its calls is promised by the definition of the same step: what it does
 //! to the order, the state and the counts, and which ticket it gives. A `World` is a plain program over a board that steps a whole
 //! world, event by event (specs/Stepping.antt). A `Follower` is a plainer one, which goes through a schedule of one source's commands
 //! to one document, with what the rule of acceptance says told to it; `laws::follower_follows` ties it to worlds.
@@ -50,17 +50,17 @@
 //! - The law is one of definitions. That what the server does is the events of a world, in some order, isn't promised here.
 #![tactic(auto)]
 
-mod board;
 mod entry;
 mod follower;
 pub mod laws;
+mod progress;
 mod sent;
 mod stepping;
 mod ticket;
 
-pub use board::Board;
 pub use entry::Entry;
 pub use follower::{Follower, Happening, Place, Waiting};
 pub use laws::every_schedule;
+pub use progress::Progress;
 pub use stepping::{Event, Outcome, World};
 pub use ticket::{Ack, Ticket};

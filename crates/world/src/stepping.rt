@@ -9,8 +9,8 @@ ghost use Rattle.world.specs.World.{takens, begun, last_composed as spec_last_co
 ghost use Rattle.world.specs.Step.{with_command, may_leave, stopped, acknowledged as spec_acknowledged, can_open, opened, running_step, step as spec_step};
 ghost use Rattle.world.specs.Stepping.{empty_store, taken_of, outcome_of, event_of, floors_left, are_reached as spec_are_reached};
 
-use crate::board::Board;
 use crate::entry::Entry;
+use crate::progress::Progress;
 use crate::sent::{Sent, is_among_last, last_number};
 use crate::ticket::{Ack, Ticket};
 use refusal::Refusal;
@@ -60,7 +60,7 @@ pub enum Event<'a> {
 #[derive(Drop)]
 pub struct World {
     limits: Limits,
-    board: Board,
+    board: Progress,
     order: Vec<Entry>,
     published: usize,
     without: usize,
@@ -91,7 +91,7 @@ impl World {
     {
         World {
             limits,
-            board: Board::new(alloc, State::new(alloc, limits)),
+            board: Progress::new(alloc, State::new(alloc, limits)),
             order: Vec::new(alloc),
             published: 0,
             without: 0,
@@ -106,7 +106,7 @@ impl World {
     }
 
     /// The order, the state after it, and how far it is written.
-    pub fn board(&self) -> &Board
+    pub fn board(&self) -> &Progress
         ensures { result.now ≡ self.now.board }
     {
         &self.board
@@ -191,7 +191,7 @@ impl World {
         self.sent.reserve(1)?;
         self.tickets.reserve(1)?;
         self.order.reserve(1)?;
-        match self.board.submit(alloc, command) {
+        match self.board.submit(alloc, command, None) {
             Ok(ticket) => {
                 self.tickets.push(ticket)?;
                 self.sent.push(sent)?;

@@ -18,7 +18,7 @@ pub struct Ticket {
 impl Model for Ticket {
     ghost use Rattle.std.specs.Prelude.{Ok};
     ghost use Rattle.revision.specs.Planned.{reply_of};
-    ghost use Rattle.world.specs.Board as spec;
+    ghost use Rattle.world.specs.Progress as spec;
 
     ghost Value = { spec.Ticket };
 
@@ -63,7 +63,7 @@ pub struct Ack {
 impl Model for Ack {
     ghost use Rattle.std.specs.Prelude.{◌≡◌, Ok};
     ghost use Rattle.revision.specs.Planned.{reply_of};
-    ghost use Rattle.world.specs.Board as spec;
+    ghost use Rattle.world.specs.Progress as spec;
 
     ghost Value = { spec.Ticket };
 

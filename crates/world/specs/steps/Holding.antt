@@ -2,7 +2,7 @@
 use Rattle.std.specs.Prelude.{◌≡◌, ℕ, ◌≤◌, Some, List, length, take, All}
 use Rattle.revision.specs.Window.{revision_in}
 use Rattle.revision.specs.Command.{Command}
-use Rattle.world.specs.Board.{Ticket}
+use Rattle.world.specs.Progress.{Ticket}
 use Rattle.world.specs.World.{Entry, takens, World, last_sent}
 use Rattle.world.specs.Shown.{Shown, all_shown}
 use Rattle.world.specs.Law.{revision_named}

@@ -4,4 +4,4 @@ use Rattle.hub.proofs.board.order_taken.Goals as goal
 
 pub returns-in-Taken-clause-placed : goal.returns-in-Taken-clause-placed
 returns-in-Taken-clause-placed g c =
-    placed_taken g.L.Life.start c.args.order.now c.args.ticket.now c.args.board.now c.requires c.in-Taken.rev (search rules) c.put.new.self (search rules)
+    placed_taken g.L.Life.start c.args.order.now c.args.ticket.now c.args.progress.now c.requires c.in-Taken.rev (search rules) c.put.new.self (search rules)

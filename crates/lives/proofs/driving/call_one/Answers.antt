@@ -2,7 +2,7 @@ use Rattle.std.proofs.Common.{◌≡◌, ◌⊎◌, ℕ, List, refl, subst}
 use Rattle.std.specs.Prelude.{slice_get}
 use Rattle.std.proofs.lemmas.Result.{err_from_is_err_and}
 use Rattle.refusal.specs.declared.Refusal.TheVariants.{NoMemory, Fault}
-use Rattle.world.specs.Board.{Ticket}
+use Rattle.world.specs.Progress.{Ticket}
 use Rattle.lives.specs.declared.calls.Call.TheVariants.{Submit, Turn, Ack, Milestone, Retire}
 use Rattle.lives.specs.declared.calls.Answer.TheVariants.{Turned, Acked}
 use Rattle.hub.specs.Runs.{IsLongest, untaken}
@@ -30,7 +30,7 @@ returns-in_err-submit_one-in-Submit-clause-goes g c =
 
 pub returns-in_ok-submit_one-in-Submit-clause-calm : goal.returns-in_ok-submit_one-in-Submit-clause-calm
 returns-in_ok-submit_one-in-Submit-clause-calm g c =
-    (run_submitted g.L.Life.start (standing c.args.board.now c.args.flusher.now) c.submit_one.new.board.board c.submit_one.new.board.told c.in-Submit.command c.requires.calm
+    (run_submitted g.L.Life.start (standing c.args.board.now c.args.flusher.now) c.submit_one.new.board.progress c.submit_one.new.board.told c.in-Submit.command c.requires.calm
     c.in_ok-submit_one-in-Submit.ensures.step c.submit_one.ensures.told).0
 
 pub returns-in_ok-submit_one-in-Submit-clause-gives : goal.returns-in_ok-submit_one-in-Submit-clause-gives
@@ -55,7 +55,7 @@ pub returns-in_ok-count-in-Turn-clause-gives : goal.returns-in_ok-count-in-Turn-
 returns-in_ok-count-in-Turn-clause-gives g c =
     gives_one (cap_of g.L.Life.start) (between c.args.board.now c.args.tickets.now.items c.args.flusher.now) c.args.call.now Turn (Turned c.in_ok-count-in-Turn.count)
     (between c.turn.new.board c.args.tickets.now.items c.turn.new.flusher) c.in-Turn.is (
-      subst (λ (n : ℕ). IsLongest n (untaken c.args.board.now.board) c.in_ok-count-in-Turn.count)
+      subst (λ (n : ℕ). IsLongest n (untaken c.args.board.now.progress) c.in_ok-count-in-Turn.count)
           (same_cap g.L.Life.start (state_of (store_of c.args.flusher.now)) (commands_of (told_of c.args.flusher.now)) c.requires.calm.state) c.in_ok-count-in-Turn.ensures.run,
       c.in_ok-count-in-Turn.ensures.settled,
       refl,

@@ -24,7 +24,7 @@ returns-clause-acknowledged g c =
     let tickets = c.drive_all-ended.new.tickets.items in
     let answers = c.drive_all-ended.new.answers.items in
     let made = take (length answers) c.args.calls.now in
-    all_later a.last.board.board.settled c.drive_all-ended.new.board.board.settled a.last.tickets tickets [] made answers (omega (arith, a.settled)) (a.tickets ∙ sym (append-nil a.last.tickets))
+    all_later a.last.board.progress.settled c.drive_all-ended.new.board.progress.settled a.last.tickets tickets [] made answers (omega (arith, a.settled)) (a.tickets ∙ sym (append-nil a.last.tickets))
     (answered_held (cap_of g.L.Life.start) (between c.args.board.now [] c.args.flusher.now) made answers a.last a.answered)
 
 pub returns-clause-whole : goal.returns-clause-whole

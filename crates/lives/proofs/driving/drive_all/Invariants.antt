@@ -13,7 +13,7 @@ invariant-loop-call g l = record {
   works : has_failed (store_of l.flusher) ≡ false;
   failed : l.board.failed ≡ l.fn.board.failed;
   goes : RunGoes g.L.Life.start (standing l.fn.board l.fn.flusher) (standing l.board l.flusher);
-  counts : l.seat + length l.fn.board.board.order ≡ l.fn.seat + length l.board.board.order;
+  counts : l.seat + length l.fn.board.progress.order ≡ l.fn.seat + length l.board.progress.order;
   count : length l.answers.items ≡ l.call-index;
   answered : Answered (cap_of g.L.Life.start) (between l.fn.board [] l.fn.flusher) (take l.call-index l.calls) l.answers.items (between l.board l.tickets.items l.flusher);
 }

@@ -8,5 +8,5 @@ invariant-loop-i g l = record {
   left : l.board.left + l.i ≡ l.fn.board.left;
   new : All (λ seat. seat ≡ 0) l.seats.items;
   all : length l.seats.items ≡ l.i;
-  board : l.board.board ≡ l.fn.board.board;
+  board : l.board.progress ≡ l.fn.board.progress;
 }

@@ -14,4 +14,4 @@ returns-clause-at g c =
     let e = c.commit_held-committed.ensures in
     let at = at_committed c.hold_next.new.writer c.commit_held-committed.result c.hold_next.new.flusher c.commit_held-committed.new.self e.committed e.refused c.hold_next.ensures.at in
     let done = rw c.expect-batch.ensures at (rw c.expect-written.ensures at c.write.ensures.published) in
-    at_settled c.hold_next.new.writer c.settle-settled.new.writer c.commit_held-committed.new.self c.write.new.self c.expect-batch.result done c.settle-settled.ensures.counts at
+    at_settled c.hold_next.new.writer c.settle-settled.new.writer c.commit_held-committed.new.self c.write.new.self c.expect-batch.result done c.settle-settled.ensures.settled.counts at

@@ -10,4 +10,4 @@ settle-settled-requires g c =
 pub returns-clause-at : goal.returns-clause-at
 returns-clause-at g c =
     let done = rw c.expect-batch.ensures at (rw c.expect-written.ensures at c.write.ensures.published) in
-    at_settled c.hold_next.new.writer c.settle-settled.new.writer c.hold_next.new.flusher c.write.new.self c.expect-batch.result done c.settle-settled.ensures.counts c.hold_next.ensures.at
+    at_settled c.hold_next.new.writer c.settle-settled.new.writer c.hold_next.new.flusher c.write.new.self c.expect-batch.result done c.settle-settled.ensures.settled.counts c.hold_next.ensures.at

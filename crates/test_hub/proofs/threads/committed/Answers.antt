@@ -47,15 +47,15 @@ module _ {D E : Type 0} where
 pub returns-clause-next : goal.returns-clause-next
 returns-clause-next g c =
     let some : 1 ≤ length c.in-Ok.run'.commands = omega arith in
-    next c.write_or_end.result c.args.writer.now c.take.new.writer c.args.publishing c.in-Ok.run'.commands c.requires.taken c.requires.settled c.in-Ok.ensures.counts some
+    next c.write_or_end.result c.args.writer.now c.take.new.writer c.args.publishing c.in-Ok.run'.commands c.requires.taken c.requires.settled c.in-Ok.ensures.next.counts some
     c.write_or_end.ensures.told c.write_or_end.ensures.batch
 
 pub returns-clause-taken : goal.returns-clause-taken
 returns-clause-taken g c =
-    taken_all c.write_or_end.result c.args.writer.now c.take.new.writer c.args.publishing c.in-Ok.run'.commands c.requires.taken c.in-Ok.ensures.counts
+    taken_all c.write_or_end.result c.args.writer.now c.take.new.writer c.args.publishing c.in-Ok.run'.commands c.requires.taken c.in-Ok.ensures.next.counts
     c.write_or_end.ensures.told c.write_or_end.ensures.batch
 
 pub returns-clause-settled : goal.returns-clause-settled
 returns-clause-settled g c =
-    settled_all c.write_or_end.result c.args.writer.now c.take.new.writer c.args.publishing c.in-Ok.run'.commands c.requires.settled c.in-Ok.ensures.counts
+    settled_all c.write_or_end.result c.args.writer.now c.take.new.writer c.args.publishing c.in-Ok.run'.commands c.requires.settled c.in-Ok.ensures.next.counts
     c.write_or_end.ensures.told

@@ -25,10 +25,10 @@ pub returns-in-Ok-taken-clause-at : goal.returns-in-Ok-taken-clause-at
 returns-in-Ok-taken-clause-at g c =
     let none : c.holds.result ≡ false = search rules in
     let still = c.holds.ensures.held none in
-    at_held c.args.writer.now c.take_next.new.writer c.args.flusher.now c.hold.new.self c.in-Ok-taken.run'.commands still.0 still.1 (rw c.in-Ok-taken.is at c.in-Ok.ensures.counts) c.hold.ensures c.requires.at
+    at_held c.args.writer.now c.take_next.new.writer c.args.flusher.now c.hold.new.self c.in-Ok-taken.run'.commands still.0 still.1 (rw c.in-Ok-taken.is at c.in-Ok.ensures.next).counts c.hold.ensures c.requires.at
 
 pub hold-requires-clause-next : goal.hold-requires-clause-next
 hold-requires-clause-next g c =
     let none : c.holds.result ≡ false = search rules in
     let still = c.holds.ensures.held none in
-    (rw c.in-Ok-taken.is at c.in-Ok.ensures.next) ∙ follows c.args.writer.now c.args.flusher.now still.0 still.1 c.requires.at
+    (rw c.in-Ok-taken.is at c.in-Ok.ensures.next).place ∙ follows c.args.writer.now c.args.flusher.now still.0 still.1 c.requires.at

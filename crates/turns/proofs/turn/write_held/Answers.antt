@@ -13,23 +13,23 @@ use Rattle.turns.proofs.turn.write_held.Goals as goal
 pub returns-in-Err-clause-writes : goal.returns-in-Err-clause-writes
 returns-in-Err-clause-writes g c =
     let e = c.in-Err.ensures in
-    writes_refused g.L.Life.start c.args.flusher.now c.write.new.self c.in-Err.refusal c.kept.ensures c.write.ensures.goes c.kept-in-Err.ensures e.refused e.why e.faults.fails
+    writes_refused g.L.Life.start c.args.flusher.now c.write.new.self c.in-Err.refusal c.kept.ensures c.write.ensures.writes.goes c.kept-in-Err.ensures e.refused e.writes.why e.writes.faults.fails
 
 pub returns-in-Err-clause-fails : goal.returns-in-Err-clause-fails
 returns-in-Err-clause-fails g c =
-    fails_same c.stop_for.result c.in-Err.refusal (has_failed (store_of c.args.flusher.now)) (has_failed (store_of c.write.new.self)) c.stop_for.ensures c.in-Err.ensures.faults.fails
+    fails_same c.stop_for.result c.in-Err.refusal (has_failed (store_of c.args.flusher.now)) (has_failed (store_of c.write.new.self)) c.stop_for.ensures c.in-Err.ensures.writes.faults.fails
 
 pub returns-in-Err-clause-causes : goal.returns-in-Err-clause-causes
 returns-in-Err-clause-causes g c =
     let e = c.in-Err.ensures in
     subst (λ r. r ≢ NoMemory → r ≢ Fault → IsTurnFailed c.args.flusher.now r c.write.new.self) (sym c.stop_for.ensures)
-    (turn_failed c.args.flusher.now c.write.new.self c.in-Err.refusal e.refused e.why)
+    (turn_failed c.args.flusher.now c.write.new.self c.in-Err.refusal e.refused e.writes.why)
 
 pub stop_for-requires-clause-full : goal.stop_for-requires-clause-full
 stop_for-requires-clause-full g c =
     let e = c.in-Err.ensures in
     subst (λ s. c.in-Err.refusal ≢ NoMemory → c.in-Err.refusal ≢ Fault → IsFullForGood c.in-Err.refusal s c.write.new.self) (sym c.snapshot-then.ensures)
-    (full_for_good c.args.flusher.now c.write.new.self c.in-Err.refusal e.refused e.why)
+    (full_for_good c.args.flusher.now c.write.new.self c.in-Err.refusal e.refused e.writes.why)
 
 -- a batch is held, so the write doesn't answer that none was
 pub unreachable-requires : goal.unreachable-requires
@@ -39,19 +39,19 @@ unreachable-requires g c = c.requires.held (rw c.in-None.is at c.in-Ok.ensures.p
 pub returns-clause-writes : goal.returns-clause-writes
 returns-clause-writes g c =
     let e = c.in-Ok.ensures in
-    writes_written g.L.Life.start c.args.flusher.now c.write.new.self c.in-Some.both c.kept.ensures c.kept-in-Some.ensures c.write.ensures.goes
-    (works_after c.in-Ok.written (has_failed (store_of c.args.flusher.now)) (has_failed (store_of c.write.new.self)) e.faults.fails) (rw c.in-Some.is at e.published)
+    writes_written g.L.Life.start c.args.flusher.now c.write.new.self c.in-Some.both c.kept.ensures c.kept-in-Some.ensures c.write.ensures.writes.goes
+    (works_after c.in-Ok.written (has_failed (store_of c.args.flusher.now)) (has_failed (store_of c.write.new.self)) e.writes.faults.fails) (rw c.in-Some.is at e.published)
 
 pub returns-clause-turned : goal.returns-clause-turned
 returns-clause-turned g c =
     let done = rw c.in-Some.is at c.in-Ok.ensures.published in
-    (one_written c.args.flusher.now c.write.new.self c.in-Some.both done, c.settle-receipt.ensures.settled ∙ done.some.token_is)
+    (one_written c.args.flusher.now c.write.new.self c.in-Some.both done, c.settle-receipt.ensures.settled.settled ∙ done.some.token_is)
 
 pub returns-clause-fails : goal.returns-clause-fails
 returns-clause-fails g c =
     let old = has_failed (store_of c.args.flusher.now) in
     let new = has_failed (store_of c.write.new.self) in
-    fails_ok (Settled _) old new (works_after c.in-Ok.written old new c.in-Ok.ensures.faults.fails)
+    fails_ok (Settled _) old new (works_after c.in-Ok.written old new c.in-Ok.ensures.writes.faults.fails)
 
 pub settle-receipt-requires : goal.settle-receipt-requires
 settle-receipt-requires g c =
@@ -59,7 +59,7 @@ settle-receipt-requires g c =
 
 pub returns-clause-at : goal.returns-clause-at
 returns-clause-at g c =
-    at_settled c.args.writer.now c.settle-receipt.new.writer c.args.flusher.now c.write.new.self c.in-Some.both (rw c.in-Some.is at c.in-Ok.ensures.published) c.settle-receipt.ensures.counts
+    at_settled c.args.writer.now c.settle-receipt.new.writer c.args.flusher.now c.write.new.self c.in-Some.both (rw c.in-Some.is at c.in-Ok.ensures.published) c.settle-receipt.ensures.settled.counts
     c.requires.at
 
 pub returns-in-Err-clause-at : goal.returns-in-Err-clause-at

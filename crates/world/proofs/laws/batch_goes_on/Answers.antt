@@ -1,4 +1,4 @@
-use Rattle.world.proofs.SameBoards.{batch_goes_on}
+use Rattle.world.proofs.SameProgresses.{batch_goes_on}
 use Rattle.world.proofs.laws.batch_goes_on.Goals as goal
 
 pub returns : goal.returns

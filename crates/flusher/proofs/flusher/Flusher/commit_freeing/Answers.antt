@@ -12,16 +12,6 @@ use Rattle.flusher.proofs.Lasting.{surely_refused, surely_committed}
 use Rattle.flusher.proofs.Writes.{faults_ok, faults_err, faults_none, no_room_of}
 use Rattle.flusher.proofs.flusher.Flusher.commit_freeing.Goals as goal
 
-pub returns-in-None-clause-goes : goal.returns-in-None-clause-goes
-returns-in-None-clause-goes g c = goes_not c.args.self.now.store (commands_of (held_in c.args.self.now.waiting))
-
-pub returns-in-Ok-clause-goes : goal.returns-in-Ok-clause-goes
-returns-in-Ok-clause-goes g c =
-    let held : c.args.self.now.waiting ≡ Some c.in-Some.batch = cc in
-    let same : c.batch.result.now ≡ c.in-Some.batch.commands = cc in
-    let e = c.commit_freeing.ensures in
-    goes_batch _ _ c.batch.result.now _ (ap held_in held ∙ ap (λ (b : List Taken). b ∷ []) (sym same)) e.goes
-
 pub goes_on-ordered-requires : goal.goes_on-ordered-requires
 goes_on-ordered-requires g c =
     let held : c.args.self.now.waiting ≡ Some c.in-Some.batch = cc in
@@ -33,13 +23,6 @@ accept-requires-clause-next g c =
     let same : c.batch.result.now ≡ c.in-Some.batch.commands = cc in
     next_by c.args.self.now.publisher.told c.told.result.now c.in-Some.batch.commands c.in-Ok.receipt.batch (takens c.goes_on-ordered.result) c.told.ensures
     (c.in-Ok.ensures.receipt.names ∙ same) (c.args.self.now.fits c.in-Some.batch held).some c.goes_on-ordered.ensures.few c.goes_on-ordered.ensures.next
-
-pub returns-in-Err-clause-goes : goal.returns-in-Err-clause-goes
-returns-in-Err-clause-goes g c =
-    let held : c.args.self.now.waiting ≡ Some c.in-Some.batch = cc in
-    let same : c.batch.result.now ≡ c.in-Some.batch.commands = cc in
-    let e = c.commit_freeing.ensures in
-    goes_batch _ _ c.batch.result.now _ (ap held_in held ∙ ap (λ (b : List Taken). b ∷ []) (sym same)) e.goes
 
 pub invariant_of-self-in-Ok : goal.invariant_of-self-in-Ok
 invariant_of-self-in-Ok g c =
@@ -117,9 +100,6 @@ accept-requires-clause-moment g c =
     _ c.in-Ok.receipt c.facts.ensures c.args.self.now.kept (c.args.self.now.fits c.in-Some.batch held).alone c.in-Ok.ensures.receipt.names c.in-Ok.ensures.committed.state
     c.in-Ok.ensures.receipt.at c.in-Ok.ensures.receipt.synced
 
-pub returns-in-None-clause-syncs : goal.returns-in-None-clause-syncs
-returns-in-None-clause-syncs g c = record { by_bytes = λ slot segment oldest. omega arith }
-
 -- what is committed
 pub returns-in-None-clause-committed : goal.returns-in-None-clause-committed
 returns-in-None-clause-committed g c =
@@ -166,59 +146,54 @@ returns-in-Err-clause-refused g c =
           (λ full is_open. ⊎_elim (λ freed. inr freed) (λ half. inl half.1) (e.behind (inr is) full is_open));
     }
 
--- why it is refused: it never is a stranger's
-pub returns-in-Err-clause-why : goal.returns-in-Err-clause-why
-returns-in-Err-clause-why g c =
+-- what a crash leaves, what it costs, and when it is refused: never as a stranger's
+pub returns-in-None-clause-writes : goal.returns-in-None-clause-writes
+returns-in-None-clause-writes g c =
+    let none : c.args.self.now.waiting ≡ None = cc in
+    record {
+      goes = goes_not c.args.self.now.store (commands_of (held_in c.args.self.now.waiting));
+      syncs = record { by_bytes = λ slot segment oldest. omega arith };
+      why = tt;
+      few = λ works room few. absurd (no_batch room.0 (held_in c.args.self.now.waiting) (ap held_in none) room.1);
+      faults = faults_none tt refl (ap held_in none);
+    }
+
+pub returns-in-Ok-clause-writes : goal.returns-in-Ok-clause-writes
+returns-in-Ok-clause-writes g c =
+    let held : c.args.self.now.waiting ≡ Some c.in-Some.batch = cc in
+    let same : c.batch.result.now ≡ c.in-Some.batch.commands = cc in
+    let one = ap held_in held ∙ ap (λ (b : List Taken). b ∷ []) (sym same) in
+    let e = c.commit_freeing.ensures in
+    record {
+      goes = goes_batch _ _ c.batch.result.now _ one e.goes;
+      syncs = e.costs.syncs;
+      why = tt;
+      few = λ works room few. absurd
+          (no_error c.in-Ok.receipt StillNeeded (c.in-Ok.ensures.must.few works (no_room_of c.args.self.now c.batch.result.now one room) few));
+      faults = faults_ok c.in-Ok.receipt tt c.in-Ok.ensures.faults;
+    }
+
+pub returns-in-Err-clause-writes : goal.returns-in-Err-clause-writes
+returns-in-Err-clause-writes g c =
     let held : c.args.self.now.waiting ≡ Some c.in-Some.batch = cc in
     let same : c.batch.result.now ≡ c.in-Some.batch.commands = cc in
     let one = ap held_in held ∙ ap (λ (b : List Taken). b ∷ []) (sym same) in
     let still = ap held_in c.fill.ensures.some ∙ ap (λ (b : List Taken). b ∷ []) (sym same) in
     let e = c.in-Err.ensures.refused in
     record {
-      only = no_stranger c.args.self.now.store.state c.batch.result.now c.in-Err.refusal
-          (held_continues g.L.Life.start c.args.self.now.begun c.args.self.now.store.state c.args.self.now.publisher.told c.told.result.now c.args.self.now.publisher.unpublished
-          c.in-Some.batch.commands c.batch.result.now c.goes_on-ordered.result c.facts.ensures c.told.ensures same c.facts-in-Some.ensures c.goes_on-ordered.ensures.next
-          c.args.self.now.kept (c.args.self.now.fits c.in-Some.batch held).alone)
-          e.stranger e.only;
-      full = λ is. ((c.batch.result.now, one, (e.full is).0), (c.batch.result.now, still, (e.full is).1), (e.full is).2);
-      needed = λ is. ((c.batch.result.now, one, (e.needed is).0), (e.needed is).3);
-      used_up = e.spent;
+      goes = goes_batch _ _ c.batch.result.now _ one c.commit_freeing.ensures.goes;
+      syncs = c.commit_freeing.ensures.costs.syncs;
+      why = record {
+        only = no_stranger c.args.self.now.store.state c.batch.result.now c.in-Err.refusal
+            (held_continues g.L.Life.start c.args.self.now.begun c.args.self.now.store.state c.args.self.now.publisher.told c.told.result.now c.args.self.now.publisher.unpublished
+            c.in-Some.batch.commands c.batch.result.now c.goes_on-ordered.result c.facts.ensures c.told.ensures same c.facts-in-Some.ensures c.goes_on-ordered.ensures.next
+            c.args.self.now.kept (c.args.self.now.fits c.in-Some.batch held).alone)
+            e.stranger e.only;
+        full = λ is. ((c.batch.result.now, one, (e.full is).0), (c.batch.result.now, still, (e.full is).1), (e.full is).2);
+        needed = λ is. ((c.batch.result.now, one, (e.needed is).0), (e.needed is).3);
+        used_up = e.spent;
+      };
+      few = λ works room few. same_refusal c.in-Err.refusal StillNeeded
+          (c.in-Err.ensures.must.few works (no_room_of c.args.self.now c.batch.result.now one room) few);
+      faults = faults_err c.in-Err.refusal c.in-Err.ensures.faults;
     }
-
-pub returns-in-None-clause-few : goal.returns-in-None-clause-few
-returns-in-None-clause-few g c works room few =
-    let none : c.args.self.now.waiting ≡ None = cc in
-    absurd (no_batch room.0 (held_in c.args.self.now.waiting) (ap held_in none) room.1)
-
-pub returns-in-Ok-clause-few : goal.returns-in-Ok-clause-few
-returns-in-Ok-clause-few g c works room few =
-    let held : c.args.self.now.waiting ≡ Some c.in-Some.batch = cc in
-    let same : c.batch.result.now ≡ c.in-Some.batch.commands = cc in
-    let none = no_room_of c.args.self.now c.batch.result.now (ap held_in held ∙ ap (λ (b : List Taken). b ∷ []) (sym same)) room in
-    absurd (no_error c.in-Ok.receipt StillNeeded (c.in-Ok.ensures.must.few works none few))
-
-pub returns-in-Err-clause-few : goal.returns-in-Err-clause-few
-returns-in-Err-clause-few g c works room few =
-    let held : c.args.self.now.waiting ≡ Some c.in-Some.batch = cc in
-    let same : c.batch.result.now ≡ c.in-Some.batch.commands = cc in
-    let none = no_room_of c.args.self.now c.batch.result.now (ap held_in held ∙ ap (λ (b : List Taken). b ∷ []) (sym same)) room in
-    same_refusal c.in-Err.refusal StillNeeded (c.in-Err.ensures.must.few works none few)
-
--- how the device fails
-pub returns-in-None-clause-faults : goal.returns-in-None-clause-faults
-returns-in-None-clause-faults g c =
-    let none : c.args.self.now.waiting ≡ None = cc in
-    faults_none tt refl (ap held_in none)
-
-pub returns-in-Ok-clause-faults : goal.returns-in-Ok-clause-faults
-returns-in-Ok-clause-faults g c = faults_ok c.in-Ok.receipt tt c.in-Ok.ensures.faults
-
-pub returns-in-Err-clause-faults : goal.returns-in-Err-clause-faults
-returns-in-Err-clause-faults g c = faults_err c.in-Err.refusal c.in-Err.ensures.faults
-
--- what it costs
-pub returns-in-Ok-clause-syncs : goal.returns-in-Ok-clause-syncs
-returns-in-Ok-clause-syncs g c = c.commit_freeing.ensures.costs.syncs
-
-pub returns-in-Err-clause-syncs : goal.returns-in-Err-clause-syncs
-returns-in-Err-clause-syncs g c = c.commit_freeing.ensures.costs.syncs

@@ -25,12 +25,6 @@ invariant_of-self g c =
 pub returns-in-Err-clause-refused : goal.returns-in-Err-clause-refused
 returns-in-Err-clause-refused g c = unpublished_held c.in-Err.ensures.refused
 
-pub returns-in-Err-clause-few : goal.returns-in-Err-clause-few
-returns-in-Err-clause-few g c works room few = same_refusal c.in-Err.refusal StillNeeded (c.in-Err.ensures.few works room few)
-
-pub returns-in-Err-clause-faults : goal.returns-in-Err-clause-faults
-returns-in-Err-clause-faults g c = faults_refused c.in-Err.refusal c.in-Err.ensures.faults
-
 -- it is committed, and published
 pub returns-in-Ok-clause-published : goal.returns-in-Ok-clause-published
 returns-in-Ok-clause-published g c =
@@ -38,23 +32,42 @@ returns-in-Ok-clause-published g c =
     published_as c.to_settle.result c.in-Ok.published c.to_settle.ensures
     (published_behind c.in-Ok.published c.in_default.ensures.committed refl refl refl e.batch e.told e.shown e.none c.commit_freeing.new.self.few)
 
--- a commit that was Ok had no batch that finds no room where too few slots are open
-pub returns-in-Ok-clause-few : goal.returns-in-Ok-clause-few
-returns-in-Ok-clause-few g c works room few = absurd (no_error c.in_default.field-0 StillNeeded (c.in_default.ensures.few works room few))
-
-pub returns-in-Ok-clause-faults : goal.returns-in-Ok-clause-faults
-returns-in-Ok-clause-faults g c = faults_behind c.in_default.field-0 _ c.in_default.ensures.faults refl (no_error _ _)
-
 -- it is committed, and memory ran out for the publish
 pub returns-in-Err-publish-clause-refused : goal.returns-in-Err-publish-clause-refused
 returns-in-Err-publish-clause-refused g c =
     unpublished_behind c.into.ensures c.in_default.ensures.committed refl refl refl c.in-Err-publish.ensures.unchanged
 
-pub returns-in-Err-publish-clause-why : goal.returns-in-Err-publish-clause-why
-returns-in-Err-publish-clause-why g c = refused_by_memory c.into.ensures
+-- what a crash leaves, and when it is refused
+pub returns-in-Err-clause-writes : goal.returns-in-Err-clause-writes
+returns-in-Err-clause-writes g c =
+    let e = c.in-Err.ensures.writes in
+    record {
+      goes = e.goes;
+      syncs = e.syncs;
+      why = e.why;
+      few = λ works room few. same_refusal c.in-Err.refusal StillNeeded (e.few works room few);
+      faults = faults_refused c.in-Err.refusal e.faults;
+    }
 
-pub returns-in-Err-publish-clause-few : goal.returns-in-Err-publish-clause-few
-returns-in-Err-publish-clause-few g c works room few = absurd (no_error c.in_default.field-0 StillNeeded (c.in_default.ensures.few works room few))
+-- a commit that was Ok had no batch that finds no room where too few slots are open
+pub returns-in-Ok-clause-writes : goal.returns-in-Ok-clause-writes
+returns-in-Ok-clause-writes g c =
+    let e = c.in_default.ensures.writes in
+    record {
+      goes = e.goes;
+      syncs = e.syncs;
+      why = tt;
+      few = λ works room few. absurd (no_error c.in_default.field-0 StillNeeded (e.few works room few));
+      faults = faults_behind c.in_default.field-0 _ e.faults refl (no_error _ _);
+    }
 
-pub returns-in-Err-publish-clause-faults : goal.returns-in-Err-publish-clause-faults
-returns-in-Err-publish-clause-faults g c = faults_behind c.in_default.field-0 _ c.in_default.ensures.faults refl (memory_no_fault c.into.result c.into.ensures)
+pub returns-in-Err-publish-clause-writes : goal.returns-in-Err-publish-clause-writes
+returns-in-Err-publish-clause-writes g c =
+    let e = c.in_default.ensures.writes in
+    record {
+      goes = e.goes;
+      syncs = e.syncs;
+      why = refused_by_memory c.into.ensures;
+      few = λ works room few. absurd (no_error c.in_default.field-0 StillNeeded (e.few works room few));
+      faults = faults_behind c.in_default.field-0 _ e.faults refl (memory_no_fault c.into.result c.into.ensures);
+    }

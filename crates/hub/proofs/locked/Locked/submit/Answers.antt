@@ -1,17 +1,38 @@
-use Rattle.std.proofs.Common.{sym, ap, subst}
-use Rattle.world.specs.Board.{Ticket}
-use Rattle.hub.specs.Given.{GaveTicket}
-use Rattle.hub.specs.Legal.{IsOfRun}
-use Rattle.hub.specs.Placed.{IsPlaced}
+use Rattle.std.proofs.Common.{◌≡◌, sym, ap, subst}
+use Rattle.std.specs.Prelude.{Ok}
+use Rattle.world.specs.Progress.{Ticket}
+use Rattle.hub.specs.Found.{IsGivenAt}
+use Rattle.hub.specs.Legal.{Board}
+use Rattle.hub.specs.Moves.{IsSubmittedTo}
 use Rattle.hub.specs.Waiting.{Locked}
+use Rattle.hub.proofs.Moving.{given_there, refused_at, as_answered, stopped_by}
 use Rattle.hub.proofs.locked.Locked.submit.Goals as goal
+
+-- the board stays as its seat waits
+board_is : (c : goal.After-awaiting) → c.awaiting.new.self.board ≡ c.submit.new.self
+board_is c = ap (λ (k : Locked). k.board) c.awaiting.ensures.kept
+
+pub returns-in-Ok-clause-board : goal.returns-in-Ok-clause-board
+returns-in-Ok-clause-board g c ended =
+    subst (λ (t : Ticket). IsSubmittedTo g.L.Life.start c.self.inside.board c.args.command.now (Ok t) c.awaiting.new.self.board) (sym c.awaiting.ensures.same)
+    (subst (λ (b : Board). IsSubmittedTo g.L.Life.start c.self.inside.board c.args.command.now (Ok c.in-Ok.ticket) b) (sym (board_is c)) c.in-Ok.ensures.submitted)
 
 -- the order is that of the ticket
 pub returns-in-Ok-clause-there : goal.returns-in-Ok-clause-there
 returns-in-Ok-clause-there g c =
-    let order = c.awaiting.new.self.board.board.order in
-    let run : IsOfRun g.L.Life.start c.self.inside.board.board = record { begun = c.in-Ok.ensures.start; history = c.in-Ok.ensures.history } in
-    subst (λ (t : Ticket). GaveTicket g.L.Life.start c.args.command.now t × IsPlaced g.L.Life.start order t) (sym c.awaiting.ensures.same) (
-      (c.self.inside.board.board, run, c.in-Ok.ensures.ticket),
-      subst (λ o. IsPlaced g.L.Life.start o c.in-Ok.ticket) (sym (ap (λ (k : Locked). k.board.board.order) c.awaiting.ensures.kept)) c.in-Ok.ensures.placed,
-    )
+    subst (λ (t : Ticket). IsGivenAt g.L.Life.start c.awaiting.new.self.board.progress.order c.args.command.now (Ok t)) (sym c.awaiting.ensures.same)
+    (subst (λ (b : Board). IsGivenAt g.L.Life.start b.progress.order c.args.command.now (Ok c.in-Ok.ticket)) (sym (board_is c))
+    (given_there g.L.Life.start c.self.inside.board c.args.command.now c.in-Ok.ticket c.submit.new.self c.facts.ensures.run c.in-Ok.ensures.submitted))
+
+-- it was refused
+pub returns-in-Err-clause-there : goal.returns-in-Err-clause-there
+returns-in-Err-clause-there g c =
+    refused_at g.L.Life.start c.self.inside.board c.args.command.now c.in-Err.refusal c.submit.new.self c.in-Err.ensures.submitted c.by_board.result c.facts.ensures.run c.by_board.ensures
+
+pub returns-in-Err-clause-board : goal.returns-in-Err-clause-board
+returns-in-Err-clause-board g c ended =
+    as_answered g.L.Life.start c.self.inside.board c.args.command.now c.in-Err.refusal c.submit.new.self c.in-Err.ensures.submitted c.by_board.result c.by_board.ensures
+
+pub returns-in-Err-clause-failed : goal.returns-in-Err-clause-failed
+returns-in-Err-clause-failed g c failed =
+    stopped_by g.L.Life.start c.self.inside.board c.args.command.now c.in-Err.refusal c.submit.new.self c.in-Err.ensures.submitted c.by_board.result c.by_board.ensures failed

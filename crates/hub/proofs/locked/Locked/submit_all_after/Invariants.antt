@@ -11,5 +11,5 @@ invariant-loop-i g l = record {
   counts : l.seat ≡ counted_all l.fn.seat l.answers.items;
   so_many : vec_len l.answers ≡ l.i;
   room : length l.commands ≤ vec_capacity l.answers;
-  others : l.self ≡ record l.fn.self { board = record l.fn.self.board { board = l.self.board.board }; awaited = l.self.awaited };
+  others : l.self ≡ record l.fn.self { board = record l.fn.self.board { board = l.self.board.progress }; awaited = l.self.awaited };
 }

@@ -6,7 +6,7 @@ use Rattle.hub.proofs.run.Run.by_board.Goals as goal
 
 pub invariant_of-result : goal.invariant_of-result
 invariant_of-result g c =
-    let board = c.args.board.now.board in
+    let board = c.args.board.now.progress in
     let bound = subst (λ n. n ≤ length board.order) c.taken.ensures.taken c.taken.ensures.bound in
     let part = part_of board.order c.args.batch board.taken c.facts.ensures.bound bound c.requires.longest.within c.requires.run in
     subst (λ n. IsPart c.args.batch n c.order.result × AreMadeThere g.L.Life.start c.order.result n c.args.batch c.args.made.items) (sym c.taken.ensures.taken)

@@ -3,7 +3,7 @@ use Rattle.std.specs.Prelude.{if◌then◌else◌}
 use Rattle.revision.specs.Floors.{raised_each}
 use Rattle.revision.specs.Pending.{record_of}
 use Rattle.revision.specs.State.{DocumentRecord, State, all_grow, fold}
-use Rattle.world.specs.Board.{reopened}
+use Rattle.world.specs.Progress.{reopened}
 use Rattle.world.specs.World.{World, takens}
 use Rattle.world.specs.Step.{may_leave, can_open, opened}
 use Rattle.world.specs.Stepping.{empty_store, AreStepped, world_of, recovered, floors_left, are_reached}

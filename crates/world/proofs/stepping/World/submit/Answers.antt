@@ -2,7 +2,7 @@ use Rattle.std.proofs.Common.{◌≡◌, [], ◌∷◌, ◌++◌, refl, sym, ap,
 use Rattle.std.specs.Prelude.{option_to_list}
 use Rattle.revision.specs.Acceptance.{answer}
 use Rattle.world.specs.Event.{Submit}
-use Rattle.world.specs.Board.{submitted}
+use Rattle.world.specs.Progress.{submitted}
 use Rattle.world.specs.World.{World, entry_of, takens}
 use Rattle.world.specs.Step.{running_step}
 use Rattle.world.specs.Stepping.{taken_of, AreStepped, world_of}
@@ -20,7 +20,7 @@ order_is c =
 
 pub invariant_of-self-in-Ok : goal.invariant_of-self-in-Ok
 invariant_of-self-in-Ok c =
-    subst (λ b. AreStepped c.self.inside.limits b c.add.new.order.items c.self.inside.published c.self.inside.without c.self.inside.with_batch) (sym c.in-Ok.ensures.ok)
+    subst (λ b. AreStepped c.self.inside.limits b c.add.new.order.items c.self.inside.published c.self.inside.without c.self.inside.with_batch) (sym c.in-Ok.ensures.moves)
     (subst (λ o. AreStepped c.self.inside.limits (submitted (entry_of c.args.command.now) c.self.inside.board c.args.command.now) o c.self.inside.published c.self.inside.without c.self.inside.with_batch) (sym (order_is c))
     (stepped-submitted c.self.inside.limits c.self.inside.board c.self.inside.order.items c.self.inside.published c.self.inside.without c.self.inside.with_batch c.self.invariant
     c.args.command.now c.facts.ensures.first c.facts.ensures.last))
@@ -38,8 +38,8 @@ sent_are c =
 pub returns-in_ok-push-in-Ok-2-clause-ok : goal.returns-in_ok-push-in-Ok-2-clause-ok
 returns-in_ok-push-in-Ok-2-clause-ok c =
     (λ i. record (world_of c.self.inside) {
-      board = c.in-Ok.ensures.ok i;
-      published = takens (take c.self.inside.published (c.in-Ok.ensures.ok i).order);
+      board = c.in-Ok.ensures.moves i;
+      published = takens (take c.self.inside.published (c.in-Ok.ensures.moves i).order);
       tickets = tickets_are c i;
       sent = sent_are c i;
     })

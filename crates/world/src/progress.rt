@@ -1,10 +1,8 @@
 //! What stands behind the lock: the order of the commands that were taken, the state after them, and how far it is written.
-ghost use Rattle.std.specs.Prelude.{◌≡◌, ◌⊎◌, ◌+◌, ◌≤◌, ◌<◌, ◌^◌, [], true, Some, if◌then◌else◌, length, drop, IfOk, IfErr, IfSome, IsErrOf, OnOk, OnErr};
-ghost use Rattle.revision.specs.Acceptance.{answer, Refuses};
+ghost use Rattle.std.specs.Prelude.{◌≡◌, ◌+◌, ◌≤◌, ◌<◌, ◌^◌, [], true, if◌then◌else◌, length, drop, IfOk, IfSome, OnOk, OnErr};
 ghost use Rattle.revision.specs.Moved.{IsMovedIn};
-ghost use Rattle.revision.specs.Planned.{may_want_memory};
-ghost use Rattle.world.specs.Board.{begun_board, submitted, ticket_of, can_take, taken_more, can_settle, settled_more, can_ack, reopened};
-ghost use Rattle.world.specs.World.{entry_of};
+ghost use Rattle.world.specs.Progress.{begun_progress, submitted, ticket_of, can_take, taken_more, can_settle, settled_more, can_ack, reopened};
+ghost use Rattle.world.specs.Submitting.{IsSubmitted};
 
 use crate::entry::{Entry, Noted};
 use crate::ticket::Ticket;
@@ -18,7 +16,7 @@ use std::snapshot::Snapshot;
 /// written, and how many of those are settled. The start state, and the order as a whole, are there for contracts alone and take
 /// no memory: a command that is settled is let go.
 #[derive(Drop)]
-pub struct Board {
+pub struct Progress {
     start: Snapshot<State>,
     order: Vec<Noted>,
     unsettled: Vec<Entry>,
@@ -27,12 +25,12 @@ pub struct Board {
     settled: usize,
 }
 
-impl Model for Board {
+impl Model for Progress {
     ghost use Rattle.std.specs.Prelude.{◌≡◌, ◌≤◌, length, drop};
-    ghost use Rattle.world.specs.Board as spec;
+    ghost use Rattle.world.specs.Progress as spec;
     ghost use Rattle.world.specs.World.{Entry as Kept};
 
-    ghost Value = { spec.Board Kept };
+    ghost Value = { spec.Progress Kept };
 
     ghost view = { λ b.
         record {
@@ -48,12 +46,12 @@ impl Model for Board {
         × (b.unsettled.items ≡ drop b.settled b.order.items) };
 }
 
-impl Board {
+impl Progress {
     /// The board of a state that a store was opened with: nothing was taken since. It takes no memory.
-    pub fn new(alloc: Global, state: State) -> Board
-        ensures { result ≡ begun_board state }
+    pub fn new(alloc: Global, state: State) -> Progress
+        ensures { result ≡ begun_progress state }
     {
-        Board {
+        Progress {
             start: Snapshot::of(&state),
             order: Vec::new(alloc),
             unsettled: Vec::new(alloc),
@@ -100,34 +98,18 @@ impl Board {
         self.settled
     }
 
-    /// Answers a command by the rule of acceptance. One that is taken is put behind the order, and any other leaves the board
-    /// alone. The ticket has the reply and the length of the order after it, which has to be settled before the reply may be
-    /// given, for a retry too. Refused as `State::plan` refuses it, and then nothing has changed.
-    pub fn submit(&mut self, alloc: Global, command: &Command) -> Result<Ticket, Refusal>
-        ensures ok { OnOk result (self.new ≡ submitted (entry_of command.now) self.old command.now) }
-        ensures ticket { IfOk result (λ ticket. Some ticket ≡ ticket_of self.old command.now) }
-        ensures refused { IfErr result (λ e. (e ≡ Refusal.NoMemory) ⊎ (answer self.old.state command.now ≡ Refuses e)) }
-        ensures memory { IsErrOf result Refusal.NoMemory
-            → may_want_memory command.now.action (answer self.old.state command.now) ≡ true }
-        ensures unchanged { OnErr result (self.new ≡ self.old) }
-    {
-        self.submit_moved(alloc, command, None)
-    }
-
-    /// The same, by an edit that may have been moved on already, as `State::plan_moved` takes it.
-    pub fn submit_moved(
+    /// Answers a command by the rule of acceptance, where it is an edit by one that may have been moved on already (`State::plan_moved`). One
+    /// that is taken is put behind the order, and any other leaves all as it stands. The ticket has the reply and the length of the order
+    /// after it, which has to be settled before the reply may be given, for a retry too. Refused as `State::plan` refuses it, and then nothing
+    /// has changed.
+    pub fn submit(
         &mut self,
         alloc: Global,
         command: &Command,
         moved: Option<&MovedEdit>,
     ) -> Result<Ticket, Refusal>
         requires moved { IfSome moved (λ m. IsMovedIn self.old.state m.now) }
-        ensures ok { OnOk result (self.new ≡ submitted (entry_of command.now) self.old command.now) }
-        ensures ticket { IfOk result (λ ticket. Some ticket ≡ ticket_of self.old command.now) }
-        ensures refused { IfErr result (λ e. (e ≡ Refusal.NoMemory) ⊎ (answer self.old.state command.now ≡ Refuses e)) }
-        ensures memory { IsErrOf result Refusal.NoMemory
-            → may_want_memory command.now.action (answer self.old.state command.now) ≡ true }
-        ensures unchanged { OnErr result (self.new ≡ self.old) }
+        ensures { IsSubmitted self.old command.now result self.new }
     {
         let ahead = self.order.len();
         let taken = match self.state.plan_moved(alloc, command, moved) {
@@ -149,7 +131,7 @@ impl Board {
     /// the order has.
     pub fn take(&mut self, count: usize) -> bool
         ensures taken { result ≡ can_take self.old count }
-        ensures board { self.new ≡ (if can_take self.old count then taken_more self.old count else self.old) }
+        ensures progress { self.new ≡ (if can_take self.old count then taken_more self.old count else self.old) }
     {
         let can = 0 < count && count <= self.order.len() - self.taken;
         if can {
@@ -177,7 +159,7 @@ impl Board {
     /// settled is let go.
     pub fn settle(&mut self, count: usize, told: usize) -> bool
         ensures settled { result ≡ can_settle self.old count told }
-        ensures board { self.new ≡ (if can_settle self.old count told then settled_more self.old count else self.old) }
+        ensures progress { self.new ≡ (if can_settle self.old count told then settled_more self.old count else self.old) }
     {
         let can = 0 < count && count <= self.taken - self.settled && told == self.settled + count;
         if can {

@@ -30,33 +30,33 @@ impl<L: Life> Ledger for OfSettled<L> {
 /// Both ledgers of a run, in which nothing is counted: their books, and all the shares of them. There is one of it in a run, so who has parted
 /// it knows that the share of each ledger has what its book has.
 #[derive(Drop)]
-pub struct Counts<L: Life> {
+pub struct Ledgers<L: Life> {
     takes: Book<OfTaken<L>>,
     settles: Book<OfSettled<L>>,
     taken: Share<OfTaken<L>>,
     settled: Share<OfSettled<L>>,
 }
 
-impl<L: Life> Model for Counts<L> {
+impl<L: Life> Model for Ledgers<L> {
     ghost use Rattle.std.specs.Prelude.{◌≡◌};
 
     ghost Value = { Unit {0} };
 
-    ghost view = { λ c. tt };
+    ghost view = { λ l. tt };
 
-    ghost invariant = { λ c. (c.takes.total ≡ 0) × (c.settles.total ≡ 0) × (c.taken.parts ≡ 1) × (c.settled.parts ≡ 1)
-        × (c.taken.amount ≡ 0) × (c.settled.amount ≡ 0) };
+    ghost invariant = { λ l. (l.takes.total ≡ 0) × (l.settles.total ≡ 0) × (l.taken.parts ≡ 1) × (l.settled.parts ≡ 1)
+        × (l.taken.amount ≡ 0) × (l.settled.amount ≡ 0) };
 }
 
-impl<L: Life> Counts<L> {
+impl<L: Life> Ledgers<L> {
     // The ledgers of a run by its name.
-    pub(crate) fn of(takes: Blank, settles: Blank) -> Counts<L>
+    pub(crate) fn of(takes: Blank, settles: Blank) -> Ledgers<L>
         requires takes { (takes.name ≡ L.book.takes) × (takes.parts ≡ 1) }
         requires settles { (settles.name ≡ L.book.settles) × (settles.parts ≡ 1) }
     {
         let (takes, taken) = takes.open::<OfTaken<L>>();
         let (settles, settled) = settles.open::<OfSettled<L>>();
-        Counts {
+        Ledgers {
             takes,
             settles,
             taken,
@@ -75,7 +75,7 @@ impl<L: Life> Counts<L> {
         ensures parts { (result.1.0.parts ≡ 1) × (result.1.1.parts ≡ 1) }
         ensures amounts { (result.1.0.amount ≡ 0) × (result.1.1.amount ≡ 0) }
     {
-        let Counts {
+        let Ledgers {
             takes,
             settles,
             taken,
@@ -88,14 +88,14 @@ impl<L: Life> Counts<L> {
     pub fn joined(
         books: (Book<OfTaken<L>>, Book<OfSettled<L>>),
         shares: (Share<OfTaken<L>>, Share<OfSettled<L>>),
-    ) -> Counts<L>
+    ) -> Ledgers<L>
         requires totals { (books.0.total ≡ 0) × (books.1.total ≡ 0) }
         requires parts { (shares.0.parts ≡ 1) × (shares.1.parts ≡ 1) }
         requires amounts { (shares.0.amount ≡ 0) × (shares.1.amount ≡ 0) }
     {
         let (takes, settles) = books;
         let (taken, settled) = shares;
-        Counts {
+        Ledgers {
             takes,
             settles,
             taken,

@@ -6,7 +6,7 @@ use Rattle.revision.specs.Acceptance.{Answer, Takes, Repeats, Refuses, Reply, Ta
 
 -- The state that the order begins with; the order of what was taken since; the state with all of it; and of the order how many
 -- commands were taken off to be written, and how many of these are settled. `E` is what is kept of a command.
-pub record Board (E : Type 0) : Type 0 where
+pub record Progress (E : Type 0) : Type 0 where
   pub start : State
   pub order : List E
   pub state : State
@@ -20,52 +20,52 @@ pub record Ticket : Type 0 where
   pub length : ℕ
 
 -- Submit: a command that is taken is put behind the order, and any other leaves the board alone.
-abbrev pub submitted_by : {E : Type 0} → (Taken → E) → Board E → Answer → Board E
+abbrev pub submitted_by : {E : Type 0} → (Taken → E) → Progress E → Answer → Progress E
 submitted_by entry board (Takes taken) = record board { order = board.order ++ entry taken ∷ []; state = grown board.state taken }
 submitted_by entry board (Repeats revision) = board
 submitted_by entry board (Refuses refusal) = board
 
-abbrev pub submitted : {E : Type 0} → (Taken → E) → Board E → Command → Board E
+abbrev pub submitted : {E : Type 0} → (Taken → E) → Progress E → Command → Progress E
 submitted entry board command = submitted_by entry board (answer board.state command)
 
 -- its ticket: a retry waits for all that is in the order, since its edit may be anywhere in it; a refusal has none
-abbrev pub ticket_by : {E : Type 0} → Board E → Command → Answer → Option Ticket
+abbrev pub ticket_by : {E : Type 0} → Progress E → Command → Answer → Option Ticket
 ticket_by board command (Takes taken) = Some (record { command = command; reply = TakenAt taken.revision; length = length board.order + 1 })
 ticket_by board command (Repeats revision) = Some (record { command = command; reply = AgainAt revision; length = length board.order })
 ticket_by board command (Refuses refusal) = None
 
-abbrev pub ticket_of : {E : Type 0} → Board E → Command → Option Ticket
+abbrev pub ticket_of : {E : Type 0} → Progress E → Command → Option Ticket
 ticket_of board command = ticket_by board command (answer board.state command)
 
 -- Take: so many of the next commands, at least one, are marked as taken off.
-abbrev pub can_take : {E : Type 0} → Board E → ℕ → Bool
+abbrev pub can_take : {E : Type 0} → Progress E → ℕ → Bool
 can_take board count = nat_lt 0 count && nat_le (board.taken + count) (length board.order)
 
-abbrev pub next_run : {E : Type 0} → Board E → ℕ → List E
+abbrev pub next_run : {E : Type 0} → Progress E → ℕ → List E
 next_run board count = take count (drop board.taken board.order)
 
-abbrev pub taken_more : {E : Type 0} → Board E → ℕ → Board E
+abbrev pub taken_more : {E : Type 0} → Progress E → ℕ → Progress E
 taken_more board count = record board { taken = board.taken + count }
 
 -- Settle: so many of what is taken off, where what was told to be published ends with them.
-abbrev pub can_settle : {E : Type 0} → Board E → ℕ → ℕ → Bool
+abbrev pub can_settle : {E : Type 0} → Progress E → ℕ → ℕ → Bool
 can_settle board count told = nat_lt 0 count && nat_le (board.settled + count) board.taken && (told == board.settled + count)
 
-abbrev pub settled_more : {E : Type 0} → Board E → ℕ → Board E
+abbrev pub settled_more : {E : Type 0} → Progress E → ℕ → Progress E
 settled_more board count = record board { settled = board.settled + count }
 
 -- Publish: what is taken off beyond what is shown.
-abbrev pub taken_beyond : {E : Type 0} → Board E → ℕ → List E
+abbrev pub taken_beyond : {E : Type 0} → Progress E → ℕ → List E
 taken_beyond board shown = drop shown (take board.taken board.order)
 
 -- Ack: the ticket's length is settled.
-abbrev pub can_ack : {E : Type 0} → Board E → Ticket → Bool
+abbrev pub can_ack : {E : Type 0} → Progress E → Ticket → Bool
 can_ack board ticket = nat_le ticket.length board.settled
 
 -- a board with nothing taken yet
-abbrev pub begun_board : {E : Type 0} → State → Board E
-begun_board start = record { start = start; order = []; state = start; taken = 0; settled = 0 }
+abbrev pub begun_progress : {E : Type 0} → State → Progress E
+begun_progress start = record { start = start; order = []; state = start; taken = 0; settled = 0 }
 
 -- Open: the order ends after so many commands, all of them taken off and settled, and the state is the one that was recovered.
-abbrev pub reopened : {E : Type 0} → Board E → State → ℕ → Board E
+abbrev pub reopened : {E : Type 0} → Progress E → State → ℕ → Progress E
 reopened board state kept = record board { order = take kept board.order; state = state; taken = kept; settled = kept }

@@ -5,11 +5,11 @@ use Rattle.std.proofs.lemmas.List.{length-map, map-append, take-map, drop-map}
 use Rattle.revision.specs.Command.{Taken, Command}
 use Rattle.revision.specs.State.{State, grown, fold}
 use Rattle.revision.specs.Acceptance.{Answer, Takes, Repeats, Refuses, TakenAt, AgainAt, answer}
-use Rattle.world.specs.Board.{Board, submitted_by, ticket_by}
+use Rattle.world.specs.Progress.{Progress, submitted_by, ticket_by}
 use Rattle.world.specs.World.{Entry, entry_of}
-use Rattle.world.specs.Boards.{board_of, SameBoard, BatchGoesOn}
+use Rattle.world.specs.Alike.{progress_of, SameProgress, BatchGoesOn}
 
-answered : (board : Board Entry) (command : Command) (answer : Answer) → submitted_by (λ (t : Taken). t) (board_of board) answer ≡ board_of (submitted_by (entry_of command) board answer)
+answered : (board : Progress Entry) (command : Command) (answer : Answer) → submitted_by (λ (t : Taken). t) (progress_of board) answer ≡ progress_of (submitted_by (entry_of command) board answer)
 answered board command (Takes taken) = λ i. record {
   start = board.start;
   order = sym (map-append (λ (e : Entry). e.taken) board.order (entry_of command taken ∷ [])) i;
@@ -20,13 +20,13 @@ answered board command (Takes taken) = λ i. record {
 answered board command (Repeats revision) = refl
 answered board command (Refuses refusal) = refl
 
-ticketed : (board : Board Entry) (command : Command) (answer : Answer) → ticket_by (board_of board) command answer ≡ ticket_by board command answer
+ticketed : (board : Progress Entry) (command : Command) (answer : Answer) → ticket_by (progress_of board) command answer ≡ ticket_by board command answer
 ticketed board command (Takes taken) = λ i. Some (record { command = command; reply = TakenAt taken.revision; length = length-map board.order (λ (e : Entry). e.taken) i + 1 })
 ticketed board command (Repeats revision) = λ i. Some (record { command = command; reply = AgainAt revision; length = length-map board.order (λ (e : Entry). e.taken) i })
 ticketed board command (Refuses refusal) = refl
 
-pub same_board : SameBoard
-same_board board = record {
+pub same_progress : SameProgress
+same_progress board = record {
   command = λ c. answered board c (answer board.state c);
   ticket = λ c. ticketed board c (answer board.state c);
   may_take = λ count. ap (λ n. nat_lt 0 count && nat_le (board.taken + count) n) (length-map board.order (λ (e : Entry). e.taken));
