@@ -1,6 +1,6 @@
 -- What a board's calls come to behind the lock, and what a session and the writer get of them.
-use Rattle.std.proofs.Common.{◌≡◌, ◌×◌, ℕ, List, refl, sym, ap, subst, ◌∙◌}
-use Rattle.std.specs.Prelude.{true, false, Some, Result, Ok, Err, Bool, length}
+use Rattle.std.proofs.Common.{◌≡◌, ℕ, List, refl, sym, ap, subst, ◌∙◌}
+use Rattle.std.specs.Prelude.{true, false, Result, Ok, Err, Bool, length}
 use Rattle.std.proofs.lemmas.Bool.{false≢true}
 use Rattle.refusal.specs.declared.Refusal.{Refusal}
 use Rattle.refusal.specs.declared.Refusal.TheVariants.{StoreFailed}
@@ -9,13 +9,13 @@ use Rattle.revision.specs.State.{State, fold}
 use Rattle.world.specs.Progress.{Progress, Ticket}
 use Rattle.world.specs.Submitting.{IsRefusedIn, IsSubmitted}
 use Rattle.world.specs.World.{Entry, takens}
+use Rattle.published.specs.Order.{IsLegal}
 use Rattle.hub.specs.declared.submit_error.SubmitError.{SubmitError}
 use Rattle.hub.specs.declared.submit_error.SubmitError.TheVariants.{Stopped, ByBoard}
 use Rattle.hub.specs.Found.{IsGivenAt, IsRefusedAfter}
-use Rattle.hub.specs.Given.{GaveTicket, IsStopped, WasBy, as_board, refusal_of}
+use Rattle.hub.specs.Given.{IsStopped, WasBy, WasGiven, as_board, refusal_of}
 use Rattle.hub.specs.Legal.{Board, IsOfRun}
 use Rattle.hub.specs.Moves.{ComesOff, IsSubmittedTo, IsTakenOff}
-use Rattle.hub.specs.Placed.{IsPlaced}
 use Rattle.hub.specs.Runs.{Run, Writer, counts_taken}
 use Rattle.hub.proofs.Fitting.{longest_fits}
 use Rattle.hub.proofs.Settling.{counts_stay}
@@ -31,9 +31,9 @@ counts_kept start old command (Err refusal) new is =
     (ap (λ (b : Board). b.progress.taken) is.unchanged, ap (λ (b : Board). b.progress.settled) is.unchanged)
 
 -- a ticket is of the order behind its command
-pub given_there : {L : Type 0} (start : State) (old : Board) (command : Command) (ticket : Ticket) (new : Board) → IsOfRun start old.progress
+pub given_there : (L : Type 0) (start : State) (old : Board) (command : Command) (ticket : Ticket) (new : Board) → IsOfRun start old.progress
     → IsSubmittedTo start old command (Ok ticket) new → IsGivenAt {L = L} start new.progress.order command (Ok ticket)
-given_there start old command ticket new run is = ((old.progress, run, (is.answered is.works).ticket), is.placed)
+given_there L start old command ticket new run is = ((old.progress, run, (is.answered is.works).ticket), is.placed)
 
 -- a refusal is by the order that was found
 refused_there : (start : State) (old : Board) (command : Command) (refusal : Refusal) (new : Board) → IsOfRun start old.progress → old.failed ≡ false
@@ -43,33 +43,52 @@ refused_there start old command refusal new run works is =
     run.history.state ∙ ap (λ s. fold s (takens old.progress.order)) run.begun ∙ ap (λ (b : Board). fold start (takens b.progress.order)) (sym is.unchanged) in
     subst (λ s. IsRefusedIn s command refusal) state (is.answered works).refused
 
-module _ {L : Type 0} (start : State) (old : Board) (command : Command) (refusal : Refusal) (new : Board) (is : IsSubmittedTo start old command (Err refusal) new) where
-  before : (b : Bool) → new.failed ≡ b → old.failed ≡ b
-  before b then = ap (λ (k : Board). k.failed) (sym is.unchanged) ∙ then
+before : (start : State) (old : Board) (command : Command) (refusal : Refusal) (new : Board) → IsSubmittedTo start old command (Err refusal) new
+    → (b : Bool) → new.failed ≡ b → old.failed ≡ b
+before start old command refusal new is b then = ap (λ (k : Board). k.failed) (sym is.unchanged) ∙ then
 
+module _ {L : Type 0} where
   -- why nothing was submitted
-  pub refused_at : (why : SubmitError L) → IsOfRun start old.progress → WasBy new.failed refusal why → IsGivenAt start new.progress.order command (Err why)
-  refused_at (Stopped token) run failed = tt
-  refused_at (ByBoard other) run (works, same) =
-      subst (IsRefusedAfter start new.progress.order command) (sym same) (refused_there start old command refusal new run (before false works) is)
+  pub refused_at : (start : State) (old : Board) (command : Command) (refusal : Refusal) (new : Board) → IsSubmittedTo start old command (Err refusal) new
+      → (why : SubmitError L) → IsOfRun start old.progress → WasBy new.failed refusal why → IsGivenAt start new.progress.order command (Err why)
+  refused_at start old command refusal new is (Stopped token) run failed = tt
+  refused_at start old command refusal new is (ByBoard other) run (works, same) =
+      subst (IsRefusedAfter start new.progress.order command) (sym same)
+      (refused_there start old command refusal new run (before start old command refusal new is false works) is)
 
-  named : (why : SubmitError L) → WasBy new.failed refusal why → refusal ≡ refusal_of why
-  named (Stopped token) failed = cc (is.failed (before true failed))
-  named (ByBoard other) (works, same) = sym same
+  named : (start : State) (old : Board) (command : Command) (refusal : Refusal) (new : Board) → IsSubmittedTo start old command (Err refusal) new
+      → (why : SubmitError L) → WasBy new.failed refusal why → refusal ≡ refusal_of why
+  named start old command refusal new is (Stopped token) failed = cc (is.failed (before start old command refusal new is true failed))
+  named start old command refusal new is (ByBoard other) (works, same) = sym same
 
   -- and what the board answered
-  pub as_answered : (why : SubmitError L) → WasBy new.failed refusal why → IsSubmittedTo start old command (as_board (Err why)) new
-  as_answered why was = subst (λ (r : Refusal). IsSubmittedTo start old command (Err r) new) (named why was) is
+  pub as_answered : (start : State) (old : Board) (command : Command) (refusal : Refusal) (new : Board) → IsSubmittedTo start old command (Err refusal) new
+      → (why : SubmitError L) → WasBy new.failed refusal why → IsSubmittedTo start old command (as_board (Err why)) new
+  as_answered start old command refusal new is why was =
+      subst (λ (r : Refusal). IsSubmittedTo start old command (Err r) new) (named start old command refusal new is why was) is
 
-  pub stopped_by : (why : SubmitError L) → WasBy new.failed refusal why → old.failed ≡ true → IsStopped (Err why)
-  stopped_by (Stopped token) was failed = tt
-  stopped_by (ByBoard other) (works, same) failed = absurd (false≢true (sym (before false works) ∙ failed))
+  pub stopped_by : (start : State) (old : Board) (command : Command) (refusal : Refusal) (new : Board) → IsSubmittedTo start old command (Err refusal) new
+      → (why : SubmitError L) → WasBy new.failed refusal why → old.failed ≡ true → IsStopped (Err why)
+  stopped_by start old command refusal new is (Stopped token) was failed = tt
+  stopped_by start old command refusal new is (ByBoard other) (works, same) failed =
+      absurd (false≢true (sym (before start old command refusal new is false works) ∙ failed))
+
+  -- what comes of a command at an order that is a legal history some board of the run gave
+  pub was_given : (start : State) (order : List Entry) (command : Command) (answer : Result Ticket (SubmitError L)) → IsLegal start order
+      → IsGivenAt start order command answer → WasGiven start command answer
+  was_given start order command (Ok ticket) legal given = given.0
+  was_given start order command (Err (Stopped token)) legal given = tt
+  was_given start order command (Err (ByBoard refusal)) legal given = (
+    record { start = start; order = order; state = fold start (takens order); taken = 0; settled = 0 },
+    record { begun = refl; history = record { legal = legal; state = refl } },
+    given,
+  )
 
 -- a run that is taken off a board comes next for the writer, who counts what the board counts
-pub comes_off : (old : Board) (writer : Writer) (cap : ℕ) (run : Run) (new : Board) (after : Writer) → writer.taken ≡ old.progress.taken → IsTakenOff old cap run new
-    → after ≡ counts_taken writer (length run.commands) → ComesOff writer cap run after
-comes_off old writer cap run new after taken off counts = record {
-  fits = longest_fits old.progress cap run.commands off.longest off.next;
+pub comes_off : (old : Board) (writer : Writer) (bytes : ℕ) (run : Run) (new : Board) (after : Writer) → writer.taken ≡ old.progress.taken → IsTakenOff old bytes run new
+    → after ≡ counts_taken writer (length run.commands) → ComesOff writer bytes run after
+comes_off old writer bytes run new after taken off counts = record {
+  fits = longest_fits old.progress bytes run.commands off.longest off.next;
   cap = off.cap;
   place = off.place ∙ sym taken;
   counts = counts;

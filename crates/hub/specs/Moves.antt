@@ -25,17 +25,17 @@ pub record IsSubmittedTo (start : State) (old : Board) (command : Command) (give
   pub unchanged : OnErr given (new ≡ old)
 
 -- A run was taken off: the longest one of the next commands whose batch has at most so many bytes.
-pub record IsTakenOff (old : Board) (cap : ℕ) (run : Run) (new : Board) : Type 0 where
-  pub longest : IsLongest cap (untaken old.progress) (length run.commands)
+pub record IsTakenOff (old : Board) (bytes : ℕ) (run : Run) (new : Board) : Type 0 where
+  pub longest : IsLongest bytes (untaken old.progress) (length run.commands)
   pub next : run.commands ≡ takens (next_run old.progress (length run.commands))
-  pub cap : run.cap ≡ cap
+  pub cap : run.cap ≡ bytes
   pub place : run.place ≡ old.progress.taken
   pub moves : new ≡ record old { progress = taken_more old.progress (length run.commands) }
 
 -- A run was taken off that comes next after what a writer has taken off, and the writer counts it.
-pub record ComesOff (old : Writer) (cap : ℕ) (run : Run) (new : Writer) : Type 0 where
-  pub fits : (run.commands ≡ []) ⊎ (batch_width run.commands ≤ cap)
-  pub cap : run.cap ≡ cap
+pub record ComesOff (old : Writer) (bytes : ℕ) (run : Run) (new : Writer) : Type 0 where
+  pub fits : (run.commands ≡ []) ⊎ (batch_width run.commands ≤ bytes)
+  pub cap : run.cap ≡ bytes
   pub place : run.place ≡ old.taken
   pub counts : new ≡ counts_taken old (length run.commands)
 
@@ -54,8 +54,8 @@ pub record IsSettledOn (old : Board) (batch : List Taken) (told : List (List Tak
   pub unchanged : OnErr answer (new ≡ old)
 
 -- The batch that comes next was settled, with all that was published up to it, and the writer counts it.
-pub record IsSettledNext (old : Writer) (batch : List Taken) (told settled : List (List Taken)) (new : Writer) : Type 0 where
-  pub settled : settled ≡ told
+pub record IsSettledNext (old : Writer) (batch : List Taken) (told token : List (List Taken)) (new : Writer) : Type 0 where
+  pub settled : token ≡ told
   pub counts : new ≡ counts_settled old (length batch)
 
 module _ {E : Type 0} where

@@ -139,7 +139,9 @@ impl<D, L: Life> Hub<D, L> {
         let place = seat.place();
         let mut kept = self.held(rt);
         let was_idle = kept.board().is_idle();
-        let answer = kept.submit(alloc, seat, command);
+        let told = kept.board().told().copy();
+        let mut found = Found::new();
+        let answer = kept.submit_after(alloc, seat, command, &told, &mut found);
         let begins = was_idle && !kept.board().is_idle();
         let settled = kept.told_of(&answer, None);
         drop(kept);

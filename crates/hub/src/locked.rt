@@ -202,7 +202,7 @@ impl<D, L: Life> Locked<D, L> {
 
     // submits a command to the board, unless the end was called, and notes that its seat waits
     #[tactic(auto, using(crate::proofs::Moving::counts_kept))]
-    pub(crate) fn submit(
+    fn submit(
         &mut self,
         alloc: Global,
         seat: &mut Seat<L>,

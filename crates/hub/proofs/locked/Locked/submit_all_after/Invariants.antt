@@ -1,6 +1,7 @@
 use Rattle.std.proofs.Common.{◌≡◌, ◌≤◌, take, length, vec_len, vec_capacity}
 use Rattle.hub.specs.Found.{AreSubmittedAfter}
 use Rattle.hub.specs.Submitted.{counted_all}
+use Rattle.hub.specs.Waiting.{OrdersAlone}
 use Rattle.hub.proofs.Submitting.{lent}
 use Rattle.hub.proofs.locked.Locked.submit_all_after.Given as goal
 
@@ -11,5 +12,5 @@ invariant-loop-i g l = record {
   counts : l.seat ≡ counted_all l.fn.seat l.answers.items;
   so_many : vec_len l.answers ≡ l.i;
   room : length l.commands ≤ vec_capacity l.answers;
-  others : l.self ≡ record l.fn.self { board = record l.fn.self.board { board = l.self.board.progress }; awaited = l.self.awaited };
+  others : OrdersAlone l.fn.self l.self;
 }

@@ -1,3 +1,0 @@
-use Rattle.std.proofs.Common.{rules}
-use Rattle.hub.proofs.Moving.{comes_off}
-use Rattle.hub.proofs.locked.Locked.take.Goals as goal
