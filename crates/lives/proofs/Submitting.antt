@@ -6,15 +6,13 @@ use Rattle.revision.specs.Command.{Taken, Command}
 use Rattle.revision.specs.State.{State}
 use Rattle.recovery.specs.Found.{commands_of}
 use Rattle.recovery.specs.declared.store.Store.{Store}
-use Rattle.world.specs.Progress.{Progress, Ticket, can_ack, submitted}
+use Rattle.world.specs.Progress.{Progress, Ticket, can_ack, submitted, ticket_of}
 use Rattle.world.specs.World.{Entry, entry_of, takens}
 use Rattle.published.proofs.CallerLemmas.{takens_long}
 use Rattle.hub.specs.Legal.{Board, counted}
 use Rattle.hub.specs.Placed.{StandsFirst}
 use Rattle.hub.specs.Moves.{IsAcked, IsSubmittedTo, StandsAt}
-use Rattle.lives.specs.declared.calls.Call.TheVariants.{Submit}
-use Rattle.lives.specs.declared.calls.Answer.TheVariants.{Submitted}
-use Rattle.lives.specs.Driving.{AckGives, Gives}
+use Rattle.lives.specs.Driving.{AckGives}
 use Rattle.lives.proofs.Counting.{counts_more}
 
 -- a ticket whose order is a prefix of commands is no longer than these
@@ -44,9 +42,10 @@ module _ (start : State) (old new : Board) (command : Command) (works : old.fail
   counts_given before after ticket given counts =
       counts_more before after old.progress new.progress command ticket (step_given ticket given) (given.answered works).ticket counts
 
-  module _ {D L : Type 0} {disk : Ghosts D} (cap : ℕ) (store : Store D disk) (tickets out : List Ticket) where
+  module _ {D : Type 0} {disk : Ghosts D} (store : Store D disk) (tickets out : List Ticket) where
+    -- as `Gives` says it
     pub gives_ticket : (ticket : Ticket) (at : ℕ) → IsSubmittedTo start old command (Ok ticket) new → at ≡ length tickets → out ≡ tickets ++ ticket ∷ []
-        → Gives {D = D} {L = L} cap (record { board = old; tickets = tickets; store = store }) (Submit command) (Submitted at)
-        (record { board = new; tickets = out; store = store })
+        → (new ≡ record old { progress = submitted (entry_of command) old.progress command }) × (at ≡ length tickets)
+        × ((t : Ticket) × (Some t ≡ ticket_of old.progress command) × (out ≡ tickets ++ t ∷ [])) × (store ≡ store)
     gives_ticket ticket at given place more =
         (given.others ∙ ap (λ (p : Progress Entry). record old { progress = p }) (step_given ticket given), place, (ticket, (given.answered works).ticket, more), refl)

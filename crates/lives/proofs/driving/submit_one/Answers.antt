@@ -8,7 +8,7 @@ returns-in_ok-push-in-Ok-clause-gives g c = λ cap store.
     let place : c.len-at.result ≡ length c.args.tickets.now.items = search rules in
     let more : c.push.new.self.items ≡ c.args.tickets.now.items ++ c.in-Ok.ticket ∷ [] =
     c.in_ok-push-in-Ok.ensures.items ∙ ap (λ (l : List Ticket). l ++ c.in-Ok.ticket ∷ []) c.in_ok-reserve.ensures.items in
-    gives_ticket g.L.Life.start c.args.board.now c.submit.new.self c.args.command.now c.requires.works cap store c.args.tickets.now.items c.push.new.self.items c.in-Ok.ticket c.len-at.result
+    gives_ticket g.L.Life.start c.args.board.now c.submit.new.self c.args.command.now c.requires.works store c.args.tickets.now.items c.push.new.self.items c.in-Ok.ticket c.len-at.result
     c.in-Ok.ensures.submitted place more
 
 pub returns-in_ok-push-in-Ok-clause-step : goal.returns-in_ok-push-in-Ok-clause-step
