@@ -115,8 +115,9 @@ fn serve_run<
         watch,
     };
     match hold_at(&shared, server, streams) {
-        Ok((past, (streams, answer))) => {
+        Ok((past, held)) => {
             let (store, written) = end(rt, hub, past);
+            let (streams, answer) = held;
             streams.back(store, first_failure(answer, written))
         }
         Err((flusher, streams)) => streams.back(flusher.end(rt), refused),

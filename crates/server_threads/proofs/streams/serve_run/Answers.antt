@@ -16,8 +16,8 @@ use Rattle.server_threads.proofs.streams.serve_run.Goals as goal
 pub returns-in-Ok-hold_at-clause-served : goal.returns-in-Ok-hold_at-clause-served
 returns-in-Ok-hold_at-clause-served g c =
     let past = c.in-Ok-hold_at.past in
-    let after = c.in-Ok-hold_at.streams in
-    let answer = c.in-Ok-hold_at.answer in
+    let after = c.in-Ok-hold_at.held.0 in
+    let answer = c.in-Ok-hold_at.held.1 in
     let old = c.in-Ok.begun.1.flusher in
     let written = c.end-store.result.1 in
     let ends : Result (Unit {0}) ServingError → Desk → Type 0 = λ r. EndsAtHub r g.L.Life.start (g.I.Input.remaining c.args.streams.input) (g.I.Input.remaining after.input)
@@ -41,14 +41,14 @@ returns-in-Ok-hold_at-clause-served g c =
 
 pub returns-in-Ok-hold_at-clause-no_memory : goal.returns-in-Ok-hold_at-clause-no_memory
 returns-in-Ok-hold_at-clause-no_memory g c =
-    λ is. absurd (with_memory c.in-Ok-hold_at.answer c.end-store.result.1 c.in-Ok-hold_at.ensures.only
+    λ is. absurd (with_memory c.in-Ok-hold_at.held.1 c.end-store.result.1 c.in-Ok-hold_at.ensures.only
     (sym c.first_failure.ensures ∙ (sym (ap (λ b. b.served) c.back-in-Ok-hold_at.ensures) ∙ is)))
 
 pub returns-in-Ok-hold_at-clause-works : goal.returns-in-Ok-hold_at-clause-works
 returns-in-Ok-hold_at-clause-works g c =
     let past = c.in-Ok-hold_at.past in
-    let after = c.in-Ok-hold_at.streams in
-    let answer = c.in-Ok-hold_at.answer in
+    let after = c.in-Ok-hold_at.held.0 in
+    let answer = c.in-Ok-hold_at.held.1 in
     let old = c.in-Ok.begun.1.flusher in
     let ends : Desk → Type 0 = EndsAtHub answer g.L.Life.start (g.I.Input.remaining c.args.streams.input) (g.I.Input.remaining after.input)
     (g.O.Output.contents c.args.streams.output) (g.O.Output.contents after.output) (g.I.Input.has_failed after.input) (g.O.Output.has_failed after.output) in
