@@ -306,6 +306,7 @@ impl<D, L: Life, C> Board<D, L, C> {
     ) -> Result<Ticket<L>, Refusal>
         ensures submitted { IsSubmittedTo L.start self.old command.now result self.new }
         ensures counts { seat.new ≡ counted_by seat.old result }
+        ensures run { IsOfRun L.start self.old.progress }
     {
         if self.failed {
             return Err(Refusal::StoreFailed);
