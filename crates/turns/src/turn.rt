@@ -57,7 +57,8 @@ pub fn flush_turn<D: Disk, L: Life, R: Wait, G: Gate>(
     ensures nothing { OnOk result ((committed_of flusher.new ≡ []) × (waiting_of flusher.new ≡ [])) }
     ensures unpublished { IsErrOf result Refusal.NoMemory → told_of flusher.new ≡ told_of flusher.old }
 
-    // When each refusal comes: a failure of the device is `Fault`, and nothing else is.
+    // When each refusal comes: a failure of the device is `Fault`, and nothing else is, whether it comes in this turn or came before it.
+    ensures failed { has_failed (store_of flusher.old) ≡ true → IsErrOf result Refusal.Fault }
     ensures fails { has_failed (store_of flusher.old) ≡ false
         → (has_failed (store_of flusher.new) ≡ true ↔ IsErrOf result Refusal.Fault) }
     ensures causes { IfErr result (λ e. e ≢ Refusal.NoMemory → e ≢ Refusal.Fault
@@ -85,6 +86,7 @@ fn try_turn<D: Disk, L: Life, R: Wait, G: Gate>(
     ensures turned { IfOk result (λ answer. HasTurned flusher.old answer flusher.new) }
     ensures nothing { OnOk result ((committed_of flusher.new ≡ []) × (waiting_of flusher.new ≡ [])) }
     ensures unpublished { IsErrOf result Refusal.NoMemory → told_of flusher.new ≡ told_of flusher.old }
+    ensures failed { has_failed (store_of flusher.old) ≡ true → IsErrOf result Refusal.Fault }
     ensures fails { has_failed (store_of flusher.old) ≡ false
         → (has_failed (store_of flusher.new) ≡ true ↔ IsErrOf result Refusal.Fault) }
     ensures causes { IfErr result (λ e. e ≢ Refusal.NoMemory → e ≢ Refusal.Fault
