@@ -23,7 +23,6 @@ from sources import CRATES, code, crate_of, functions_of, is_shown
 # What nobody calls, and why it is there.
 ALLOWED = {
     "Ticket::order": "tells who has a ticket where its command stands in the order",
-    "Told::moments": "its contract says that the token has the moment of each batch's commit, as that of a law does",
     "Flusher::covers_moments": "its contract says which moments a token at hand has, as that of a law does",
     "Publisher::covers_moments": "`Flusher::covers_moments` calls it",
     "Log::covers_moments": "`Publisher::covers_moments` calls it",
