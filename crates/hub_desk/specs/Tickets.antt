@@ -1,11 +1,15 @@
 -- What a desk answers by what was submitted.
-use Rattle.std.specs.Prelude.{ℕ, true, List, [], ◌∷◌, Result, Ok, Err}
+use Rattle.std.specs.Prelude.{◌≡◌, ℕ, true, List, [], ◌∷◌, Result, Ok, Err, OnOk, IfErr}
+use mathlib.Core.List.{IsPrefix}
 use Rattle.refusal.specs.declared.Refusal.{Refusal}
+use Rattle.refusal.specs.declared.Refusal.TheVariants.{StoreFailed}
 use Rattle.revision.specs.Command.{Command}
 use Rattle.revision.specs.State.{State}
+use Rattle.recovery.specs.Found.{commands_of}
 use Rattle.world.specs.Progress.{Ticket}
 use Rattle.world.specs.World.{Entry}
 use Rattle.hub.specs.Found.{AreSubmittedAfter, IsSubmittedAfter}
+use Rattle.hub.specs.Placed.{StandsFirst}
 use Rattle.hub.specs.Submitted.{counted_all, counted_by}
 use Rattle.hub.specs.declared.submit_error.SubmitError.{SubmitError}
 use Rattle.hub.specs.declared.submit_error.SubmitError.TheVariants.{Stopped, ByBoard}
@@ -17,6 +21,14 @@ use Rattle.hub_desk.specs.AtHub.{Desk, PassesAtHub}
 -- a desk whose seat has counted so many commands, and whose commands have found that much of the order
 abbrev pub with_seat : Desk → ℕ → List Entry → Desk
 with_seat desk count found = record desk { counted = count; found = found }
+
+-- A ticket was waited for: the desk was perhaps told of more, and at `Ok` the ticket's order is a prefix of that. Refused with `StoreFailed` alone,
+-- and then the desk has the hub's token.
+pub record IsAwaited (start : State) (old : Desk) (ticket : Ticket) (result : Result (Unit {0}) Refusal) (new : Desk) : Type 0 where
+  pub kept : IsPrefix old.told new.told
+  pub others : new ≡ record old { told = new.told; stopped = new.stopped }
+  pub stands : OnOk result (StandsFirst start ticket (commands_of new.told))
+  pub only : IfErr result (λ e. (e ≡ StoreFailed) × (new.stopped ≡ true))
 
 module _ {L : Type 0} where
   -- the last ticket of them, or this one where there is none

@@ -1,5 +1,5 @@
 //! A desk at a hub.
-ghost use Rattle.std.specs.Prelude.{◌≡◌, IsTrue, true, false, [], length, map, Ok, IfErr, IfOk, IfSome, OnOk, OnErr};
+ghost use Rattle.std.specs.Prelude.{◌≡◌, IsTrue, true, false, [], length, map, Ok, IfOk, IfSome, OnErr};
 ghost use Rattle.std.specs.Vec.{vec_len};
 ghost use mathlib.Core.List.{IsPrefix};
 ghost use Rattle.recovery.specs.Found.{commands_of};
@@ -14,7 +14,7 @@ ghost use Rattle.session.specs.Ahead as ahead;
 ghost use Rattle.session.specs.Replies.{Asks};
 ghost use Rattle.hub_desk.specs.AtHub as at_hub;
 ghost use Rattle.hub_desk.specs.AtHub.{PassesAtHub};
-ghost use Rattle.hub_desk.specs.Tickets.{AnswersFor, AnswersForAll, last_by, last_of, noted, with_seat};
+ghost use Rattle.hub_desk.specs.Tickets.{AnswersFor, AnswersForAll, IsAwaited, last_by, last_of, noted, with_seat};
 
 use crate::counters::Counters;
 use hub::{Ahead, Found, Hub, Seat, Stopped, SubmitError, Ticket};
@@ -154,10 +154,7 @@ impl<D, L: Life, R: Wait> HubDesk<'_, D, L, R> {
 
     // Waits until a ticket is settled, and tells the viewer. Refused with `StoreFailed` alone, and then the desk has the hub's token.
     fn await_ticket(&mut self, ticket: &Ticket<L>) -> Result<(), Refusal>
-        ensures kept { IsPrefix self.old.told self.new.told }
-        ensures others { self.new ≡ record self.old { told = self.new.told; stopped = self.new.stopped } }
-        ensures stands { OnOk result (StandsFirst L.start ticket.now (commands_of self.new.told)) }
-        ensures only { IfErr result (λ e. (e ≡ Refusal.StoreFailed) × (self.new.stopped ≡ true)) }
+        ensures { IsAwaited L.start self.old ticket.now result self.new }
     {
         match self.hub.wait_ack(self.rt, ticket) {
             Ok(told) => {
@@ -254,10 +251,7 @@ impl<D, L: Life, R: Wait> HubDesk<'_, D, L, R> {
         ticket: &Ticket<L>,
         tickets: &[Result<Ticket<L>, SubmitError<L>>],
     ) -> Result<(), Refusal>
-        ensures kept { IsPrefix self.old.told self.new.told }
-        ensures others { self.new ≡ record self.old { told = self.new.told; stopped = self.new.stopped } }
-        ensures stands { OnOk result (StandsFirst L.start ticket.now (commands_of self.new.told)) }
-        ensures only { IfErr result (λ e. (e ≡ Refusal.StoreFailed) × (self.new.stopped ≡ true)) }
+        ensures { IsAwaited L.start self.old ticket.now result self.new }
     {
         if self.holds(ticket) {
             return Ok(());

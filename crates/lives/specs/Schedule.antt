@@ -77,9 +77,9 @@ module _ {D L : Type 0} where
   acked tickets (call ∷ calls) (reply ∷ answers) = acked_by tickets call reply ++ acked tickets calls answers
 
 -- Nothing that was taken off is left to be settled, and that lies in the order.
-pub record IsAllSettled (board : Progress Entry) : Type 0 where
-  pub taken : board.taken ≡ board.settled
-  pub within : board.settled ≤ length board.order
+pub record IsAllSettled (progress : Progress Entry) : Type 0 where
+  pub taken : progress.taken ≡ progress.settled
+  pub within : progress.settled ≤ length progress.order
 
 module _ {D L : Type 0} {disk : Ghosts D} where
   -- A run from one such moment to another: the events that its calls and answers are, behind all that happened before, make of the world

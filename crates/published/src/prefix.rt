@@ -1,9 +1,9 @@
 //! A prefix of what was published.
-ghost use Rattle.std.specs.Prelude.{◌≡◌, ◌↔◌, length, IsTrue, MatchBool};
+ghost use Rattle.std.specs.Prelude.{◌≡◌, ◌↔◌, length, IsTrue};
 ghost use mathlib.Core.List.{IsPrefix};
 ghost use Rattle.recovery.specs.Found.{commands_of};
 ghost use Rattle.world.specs.World.{takens};
-ghost use Rattle.published.specs.Batches.{IsShorter};
+ghost use Rattle.published.specs.Batches.{TellsBegins};
 ghost use Rattle.published.specs.Moments.{AreMoments};
 
 use crate::batch::BatchItem;
@@ -64,7 +64,7 @@ impl<L: Life> PublishedPrefix<L> {
 
     /// Whether the other one begins with this one: of two prefixes of a run one begins the other. It takes no memory.
     pub fn begins(&self, other: &PublishedPrefix<L>) -> bool
-        ensures { MatchBool result (IsPrefix self.now other.now) (IsShorter other.now self.now) }
+        ensures { TellsBegins result self.now other.now }
     {
         self.log.meets(&other.log);
         self.batches <= other.batches

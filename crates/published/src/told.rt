@@ -1,11 +1,11 @@
 //! The token of what was published.
-ghost use Rattle.std.specs.Prelude.{◌≡◌, ◌≤◌, ◌<◌, ◌+◌, ◌^◌, ◌∷◌, ◌++◌, [], ◌↔◌, length, IsTrue, MatchBool};
+ghost use Rattle.std.specs.Prelude.{◌≡◌, ◌≤◌, ◌<◌, ◌+◌, ◌^◌, ◌∷◌, ◌++◌, [], ◌↔◌, length, IsTrue};
 ghost use mathlib.Core.List.{IsPrefix};
 ghost use Rattle.revision.specs.State.{fold};
 ghost use Rattle.recovery.specs.Found.{commands_of};
 ghost use Rattle.recovery.specs.Moment.{IsMomentOf, moment_of};
 ghost use Rattle.world.specs.World.{takens};
-ghost use Rattle.published.specs.Batches.{IsShorter, IsTheLonger};
+ghost use Rattle.published.specs.Batches.{IsTheLonger, TellsBegins};
 ghost use Rattle.published.specs.Moments.{AreMoments};
 
 use crate::life::Life;
@@ -51,7 +51,7 @@ impl<D, L: Life> Told<D, L> {
 
     /// Whether the other token begins with this one: of two tokens of a run one begins the other. It takes no memory.
     pub fn begins(&self, other: &Told<D, L>) -> bool
-        ensures { MatchBool result (IsPrefix self.now other.now) (IsShorter other.now self.now) }
+        ensures { TellsBegins result self.now other.now }
     {
         self.prefix.begins(&other.prefix)
     }

@@ -1,6 +1,6 @@
 -- What a flusher's thread writes is what the life of a server leaves.
 use Rattle.std.proofs.Common.{◌≡◌, ◌≤◌, ◌⊎◌, ◌↔◌, inl, inr, ℕ, true, false, List, [], ◌∷◌, ◌++◌, length, length-append, append_assoc, append-nil, refl, sym, ◌∙◌, ap, subst, arith, Ok}
-use Rattle.std.specs.Prelude.{◌<◌, Bool, Result, Err, OnOk, IsErrOf, is_ok, All, sum_by}
+use Rattle.std.specs.Prelude.{◌<◌, ◌≢◌, Bool, Result, Err, IfErr, OnOk, IsErrOf, is_ok, All, sum_by}
 use Rattle.std.proofs.lemmas.Bool.{false≢true, cases_lt}
 use Rattle.std.proofs.lemmas.List.Elements.{All-nil, All-cons, All-weaker}
 use mathlib.Core.List.{IsPrefix}
@@ -22,14 +22,16 @@ use Rattle.flusher.specs.declared.flusher.Flusher.{Flusher}
 use Rattle.flusher.specs.Batches.{IsBeginning}
 use Rattle.flusher.specs.Holding.{LastsSince, store_of, told_of, committed_of, waiting_of, moments_of, opened_of, given_to}
 use Rattle.flusher.specs.Lasting.{Surely}
-use Rattle.turns.specs.Writing.{WasAt, Writes, told_count}
+use Rattle.flusher.proofs.CallerLemmas.{no_error, same_refusal}
+use Rattle.turns.specs.Turning.{HasWritten}
+use Rattle.turns.specs.Writing.{IsEndedBy, WasAt, Writes, told_count}
 use Rattle.hub.specs.Legal.{IsOfRun}
 use Rattle.world.specs.Progress.{Progress}
 use Rattle.hub_desk.specs.AtHub.{Desk}
 use Rattle.server_threads.specs.Answers.{first_desk}
 use Rattle.server_threads.specs.Held.{HasHeld, IsCounted, IsKept, IsTallied}
 use Rattle.server_threads.specs.Served.{AreLasting, IsWritten, IsWhole, KeepsAnswers, WasServed, HasLived, IsStarted}
-use Rattle.server_threads.specs.Written.{HasWritten, HasRun, StartedOverWrites}
+use Rattle.server_threads.specs.Written.{HasRun, StartedOverWrites}
 use Rattle.server_threads.proofs.Answered.{found_whole, keeps_answers}
 use Rattle.server_threads.proofs.AtCommits.{all_kept, none_kept}
 
@@ -177,14 +179,30 @@ module _ {D L : Type 0} {disk : Ghosts D} where
           writes = writes_nothing start here started kept;
           nothing = (started.none, started.idle);
           fails = λ works. (λ failed. absurd (false≢true (sym works ∙ failed)), λ is. absurd cc);
+          causes = tt;
         };
     unbegun = λ not_begun. refl;
   }
 
-  pub has_written : (start : State) (old new : Flusher D L disk) (answer : Result (Unit {0}) Refusal) → Writes start old new
-      → OnOk answer ((committed_of new ≡ []) × (waiting_of new ≡ []))
-      → (has_failed (store_of old) ≡ false → (has_failed (store_of new) ≡ true ↔ IsErrOf answer Fault)) → HasWritten start old new answer
-  has_written start old new answer writes nothing fails = record { writes = writes; nothing = nothing; fails = fails }
+  -- how the hub's tokens say that it ended, without the tokens
+  pub written_well : {A : Type 0} (start : State) (old new : Flusher D L disk) (token : A) → HasWritten start old new (Ok token) → HasWritten start old new (Ok tt)
+  written_well start old new token wrote = record {
+    writes = wrote.writes;
+    nothing = wrote.nothing;
+    fails = λ works. (λ failed. absurd (no_error token Fault ((wrote.fails works).0 failed)), λ is. absurd (no_error tt Fault is));
+    causes = tt;
+  }
+
+  pub written_ill : {A B : Type 0} (start : State) (old new : Flusher D L disk) (token refusal : Refusal) → refusal ≡ token → HasWritten {A = A} start old new (Err token)
+      → HasWritten {A = B} start old new (Err refusal)
+  written_ill {A} {B} start old new token refusal is wrote =
+      subst (λ (r : Refusal). HasWritten {A = B} start old new (Err r)) (sym is)
+      (record {
+        writes = wrote.writes;
+        nothing = tt;
+        fails = λ works. (λ failed. same_refusal token Fault ((wrote.fails works).0 failed), λ told. (wrote.fails works).1 (same_refusal token Fault told));
+        causes = wrote.causes;
+      })
 
   pub ended_run : (start : State) (old new : Flusher D L disk) (answer : Result (Unit {0}) Refusal) (begun : Bool) → HasWritten start old new answer
       → begun ≡ true → HasRun start old new answer begun
@@ -222,6 +240,14 @@ module _ {D L : Type 0} {disk : Ghosts D} where
           subst (λ (s : Store D disk). WasAt start (length (commands_of told)) first (given_to new) s (store_of new)) store
           (subst (λ (t : List (List Taken)). WasAt start (length (commands_of t)) first (given_to new) (store_of here) (store_of new)) same was)
 
+  -- and the same ended it
+  same_causes : {A : Type 0} (start : State) (here old new : Flusher D L disk) (answer : Result A Refusal) → IsStarted here → IsStarted old → store_of here ≡ store_of old
+      → IfErr answer (λ e. e ≢ Fault → IsEndedBy start here e new) → IfErr answer (λ e. e ≢ Fault → IsEndedBy start old e new)
+  same_causes start here old new (Ok token) begun started store causes = tt
+  same_causes start here old new (Err refusal) begun started store causes = λ no_fault.
+      let ended = causes no_fault in
+      record { last = ended.last; before = same_writes start here old ended.last begun started store ended.before; failed = ended.failed }
+
   pub any_started : (start : State) (here new : Flusher D L disk) (store : Store D disk) (answer : Result (Unit {0}) Refusal) → IsStarted here
       → store ≡ store_of here → HasWritten start here new answer → StartedOverWrites start store new answer
   any_started start here new store answer begun is wrote old started over =
@@ -230,6 +256,7 @@ module _ {D L : Type 0} {disk : Ghosts D} where
         writes = same_writes start here old new begun started same wrote.writes;
         nothing = wrote.nothing;
         fails = subst (λ (s : Store D disk). has_failed s ≡ false → (has_failed (store_of new) ≡ true ↔ IsErrOf answer Fault)) same wrote.fails;
+        causes = same_causes start here old new answer begun started same wrote.causes;
       }
 
 -- an order at the end of a life: it is a legal history, and a token has a prefix of it
@@ -339,14 +366,14 @@ module _ {D L : Type 0} {disk : Ghosts D} where
       → HasHeld Sessions start old ordered published counted written new → IsCounted start ordered published counted written answer
       → HasLived Sessions answer (store_of old) store
   lived_from Sessions start old ordered published counted written answer new store is started held counts =
-      lived_by Sessions start counts.board.order held.desks old held.last written answer store (is ∙ held.tallied.store) started held.before.state held.tallied.kept.state held.tallied.lasts
-      held.tallied.few_committed held.tallied.few_waiting held.wrote (order_legal start counts.board counts.run)
-      (order_begins (commands_of (told_of held.last ++ (committed_of held.last ++ waiting_of held.last))) ordered counts.board.order held.tallied.begins counts.begins)
+      lived_by Sessions start counts.progress.order held.desks old held.last written answer store (is ∙ held.tallied.store) started held.before.state held.tallied.kept.state held.tallied.lasts
+      held.tallied.few_committed held.tallied.few_waiting held.wrote (order_legal start counts.progress counts.run)
+      (order_begins (commands_of (told_of held.last ++ (committed_of held.last ++ waiting_of held.last))) ordered counts.progress.order held.tallied.begins counts.begins)
       held.tallied.told
-      (All-weaker (λ (desk : Desk). IsPrefix desk.found ordered) (λ (desk : Desk). IsPrefix desk.found counts.board.order)
-      (λ desk first. prefix_trans desk.found ordered counts.board.order first counts.begins) held.desks held.tallied.found)
+      (All-weaker (λ (desk : Desk). IsPrefix desk.found ordered) (λ (desk : Desk). IsPrefix desk.found counts.progress.order)
+      (λ desk first. prefix_trans desk.found ordered counts.progress.order first counts.begins) held.desks held.tallied.found)
       (counts.counts ∙ held.tallied.counts)
-      (subst (λ (n : ℕ). OnOk answer ((written ≡ Ok tt) × (length counts.board.order ≡ n))) held.tallied.so_many counts.all) counts.fault held.sessions
+      (subst (λ (n : ℕ). OnOk answer ((written ≡ Ok tt) × (length counts.progress.order ≡ n))) held.tallied.so_many counts.all) counts.fault held.sessions
 
 module _ {D : Type 0} {disk : Ghosts D} where
   -- a store that nothing was written to

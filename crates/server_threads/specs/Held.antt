@@ -13,12 +13,12 @@ use Rattle.world.specs.World.{Entry, takens}
 use Rattle.flusher.specs.declared.flusher.Flusher.{Flusher}
 use Rattle.flusher.specs.Holding.{LastsSince, store_of, told_of, committed_of, waiting_of, opened_of}
 use Rattle.flusher.specs.Lasting.{Surely}
+use Rattle.turns.specs.Turning.{HasWritten}
 use Rattle.published.specs.Books.{Books}
 use Rattle.hub.specs.Legal.{IsOfRun, Tally}
 use Rattle.hub_desk.specs.AtHub.{Desk}
 use Rattle.server_threads.specs.Answers.{first_desk}
 use Rattle.server_threads.specs.Served.{IsStarted}
-use Rattle.server_threads.specs.Written.{HasWritten}
 
 -- so many desks at most, and one at least, each at its beginning
 pub record AreFirst (count : ℕ) (desks : List Desk) : Type 0 where
@@ -74,9 +74,9 @@ module _ {D L : Type 0} {disk : Ghosts D} where
 -- There was a board of this run, whose order begins with this and is as long as what the seats have counted; and the writing ended well only
 -- where as many commands are published.
 pub record IsCounted (start : State) (ordered : List Entry) (published counted : ℕ) (written answer : Result (Unit {0}) Refusal) : Type 0 where
-  pub board : world.Progress Entry
-  pub run : IsOfRun start board
-  pub begins : IsPrefix ordered board.order
-  pub counts : length board.order ≡ counted
-  pub all : OnOk answer ((written ≡ Ok tt) × (length board.order ≡ published))
+  pub progress : world.Progress Entry
+  pub run : IsOfRun start progress
+  pub begins : IsPrefix ordered progress.order
+  pub counts : length progress.order ≡ counted
+  pub all : OnOk answer ((written ≡ Ok tt) × (length progress.order ≡ published))
   pub fault : IsErrOf answer Fault ↔ IsErrOf written Fault

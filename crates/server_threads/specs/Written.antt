@@ -1,25 +1,16 @@
 -- What comes of the thread that writes.
-use Rattle.std.specs.Prelude.{◌≡◌, ◌↔◌, true, false, Bool, [], Result, OnOk, IsErrOf}
+use Rattle.std.specs.Prelude.{◌≡◌, false, Bool, Result}
 use Rattle.disk.specs.declared.device.Disk.{Ghosts}
 use Rattle.refusal.specs.declared.Refusal.{Refusal}
-use Rattle.refusal.specs.declared.Refusal.TheVariants.{Fault}
 use Rattle.revision.specs.State.{State}
 use Rattle.recovery.specs.declared.store.Store.{Store}
-use Rattle.recovery.specs.Open.{has_failed}
 use Rattle.flusher.specs.declared.flusher.Flusher.{Flusher}
-use Rattle.flusher.specs.Holding.{store_of, committed_of, waiting_of}
-use Rattle.turns.specs.Writing.{Writes}
+use Rattle.flusher.specs.Holding.{store_of}
+use Rattle.turns.specs.Turning.{HasWritten}
 use Rattle.server_threads.specs.Served.{IsStarted}
 
 module _ {D L : Type 0} {disk : Ghosts D} where
-  -- A flusher wrote until the hub was ended, or until a turn failed. Where it says `Ok` it has nothing left to write or to publish, and it fails only
-  -- with the device.
-  pub record HasWritten (start : State) (old new : Flusher D L disk) (answer : Result (Unit {0}) Refusal) : Type 0 where
-    pub writes : Writes start old new
-    pub nothing : OnOk answer ((committed_of new ≡ []) × (waiting_of new ≡ []))
-    pub fails : has_failed (store_of old) ≡ false → (has_failed (store_of new) ≡ true ↔ IsErrOf answer Fault)
-
-  -- and one that wasn't begun left the flusher unchanged
+  -- A flusher wrote until the hub was ended, or until a turn failed; one that wasn't begun is unchanged.
   pub record HasRun (start : State) (old new : Flusher D L disk) (answer : Result (Unit {0}) Refusal) (begun : Bool) : Type 0 where
     pub wrote : HasWritten start old new answer
     pub unbegun : begun ≡ false → new ≡ old

@@ -2,7 +2,8 @@
 ghost use Rattle.std.specs.Prelude.{◌≡◌, IfOk, IfErr};
 ghost use Rattle.flusher.specs.Holding.{store_of};
 ghost use Rattle.server_threads.specs.Served.{IsStarted};
-ghost use Rattle.server_threads.specs.Written.{HasRun, HasWritten};
+ghost use Rattle.server_threads.specs.Written.{HasRun};
+ghost use Rattle.turns.specs.Turning.{HasWritten};
 
 use crate::life::{Ready, Rights};
 use crate::watch::Watch;

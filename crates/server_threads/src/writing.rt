@@ -1,10 +1,7 @@
 //! The thread that writes.
-ghost use Rattle.std.specs.Prelude.{◌≡◌, ◌↔◌, [], true, false, OnOk, IsErrOf};
-ghost use Rattle.recovery.specs.Open.{has_failed};
-ghost use Rattle.flusher.specs.Holding.{store_of, committed_of, waiting_of};
+ghost use Rattle.std.specs.Prelude.{◌≡◌, true};
 ghost use Rattle.turns.specs.Counting.{IsAt};
-ghost use Rattle.turns.specs.Writing.{Writes};
-ghost use Rattle.server_threads.specs.Written.{HasWritten};
+ghost use Rattle.turns.specs.Turning.{HasWritten};
 
 use crate::moments::Moments;
 use crate::watch::Watch;
@@ -82,7 +79,6 @@ impl<'a, D: Disk + Drop, L: Life, R: Threads + Wait + Sync, W: Watch<D>> Writing
     }
 
     // Makes turns until the hub is ended.
-    #[tactic(auto, using(crate::proofs::Served::has_written))]
     fn write(self, composers: Option<Composers>) -> Written<'a, D, L, R>
         ensures written { HasWritten L.start self.entry.flusher result.flusher result.answer }
         ensures begun { result.is_begun ≡ true }
@@ -133,6 +129,7 @@ fn write_beside<'a, D: Disk + Drop, L: Life, R: Threads + Wait + Sync, W: Watch<
 }
 
 // Makes turns until the hub is ended. Where the store fails the watch is told.
+#[tactic(auto, using(crate::proofs::Served::written_well, crate::proofs::Served::written_ill))]
 fn write_all<L: Life, R: Wait, D: Disk, W: Watch<D>>(
     shared: &Shared<'_, D, L, R, W>,
     flusher: &mut Flusher<D, L>,
@@ -140,10 +137,7 @@ fn write_all<L: Life, R: Wait, D: Disk, W: Watch<D>>(
     composers: Option<Composers>,
 ) -> Result<(), Refusal>
     requires at { IsAt writer.old flusher.old }
-    ensures writes { Writes L.start flusher.old flusher.new }
-    ensures nothing { OnOk result ((committed_of flusher.new ≡ []) × (waiting_of flusher.new ≡ [])) }
-    ensures fails { has_failed (store_of flusher.old) ≡ false
-        → (has_failed (store_of flusher.new) ≡ true ↔ IsErrOf result Refusal.Fault) }
+    ensures { HasWritten L.start flusher.old flusher.new result }
 {
     let mut moments: Moments<'_, D, W> = Moments::new(shared.watch);
     match flush_all(

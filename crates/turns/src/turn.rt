@@ -9,8 +9,8 @@ ghost use Rattle.hub.specs.Moves.{ComesOff};
 ghost use Rattle.hub.specs.Runs.{counts_taken};
 ghost use Rattle.flusher.specs.Writing.{IsFullForGood};
 ghost use Rattle.turns.specs.Counting.{IsAt};
-ghost use Rattle.turns.specs.Writing.{Writes, IsTurnFailed, IsEndedBy};
-ghost use Rattle.turns.specs.Turning.{HasTurned};
+ghost use Rattle.turns.specs.Writing.{Writes, IsTurnFailed};
+ghost use Rattle.turns.specs.Turning.{HasWritten, IsTurn};
 
 use crate::turn_error::{Stop, TurnError, stopped};
 use crate::turned::Turned;
@@ -50,19 +50,10 @@ pub fn flush_turn<D: Disk, L: Life, R: Wait, G: Gate>(
     requires at { IsAt writer.old flusher.old }
     // What the writer counts is what the flusher has.
     ensures at { IsAt writer.new flusher.new }
-
-    // What a crash leaves, and what is published and held after it.
-    ensures writes { Writes L.start flusher.old flusher.new }
-    ensures turned { IfOk result (λ answer. HasTurned flusher.old answer flusher.new) }
-    ensures nothing { OnOk result ((committed_of flusher.new ≡ []) × (waiting_of flusher.new ≡ [])) }
-    ensures unpublished { IsErrOf result Refusal.NoMemory → told_of flusher.new ≡ told_of flusher.old }
-
-    // When each refusal comes: a failure of the device is `Fault`, and nothing else is, whether it comes in this turn or came before it.
+    // What a crash leaves, what is published and held after it, and when each refusal comes.
+    ensures turn { IsTurn L.start flusher.old result flusher.new }
+    // A failure of the device that came before is `Fault` too.
     ensures failed { has_failed (store_of flusher.old) ≡ true → IsErrOf result Refusal.Fault }
-    ensures fails { has_failed (store_of flusher.old) ≡ false
-        → (has_failed (store_of flusher.new) ≡ true ↔ IsErrOf result Refusal.Fault) }
-    ensures causes { IfErr result (λ e. e ≢ Refusal.NoMemory → e ≢ Refusal.Fault
-        → IsTurnFailed flusher.old e flusher.new) }
 {
     match try_turn(rt, alloc, flusher, hub, writer, upkeep, gate) {
         Ok(turned) => Ok(turned),
@@ -82,15 +73,8 @@ fn try_turn<D: Disk, L: Life, R: Wait, G: Gate>(
 ) -> Result<Turned<D, L>, Stop<L>>
     requires at { IsAt writer.old flusher.old }
     ensures at { IsAt writer.new flusher.new }
-    ensures writes { Writes L.start flusher.old flusher.new }
-    ensures turned { IfOk result (λ answer. HasTurned flusher.old answer flusher.new) }
-    ensures nothing { OnOk result ((committed_of flusher.new ≡ []) × (waiting_of flusher.new ≡ [])) }
-    ensures unpublished { IsErrOf result Refusal.NoMemory → told_of flusher.new ≡ told_of flusher.old }
+    ensures turn { IsTurn L.start flusher.old result flusher.new }
     ensures failed { has_failed (store_of flusher.old) ≡ true → IsErrOf result Refusal.Fault }
-    ensures fails { has_failed (store_of flusher.old) ≡ false
-        → (has_failed (store_of flusher.new) ≡ true ↔ IsErrOf result Refusal.Fault) }
-    ensures causes { IfErr result (λ e. e ≢ Refusal.NoMemory → e ≢ Refusal.Fault
-        → IsTurnFailed flusher.old e flusher.new) }
 {
     flusher.kept();
     if flusher.has_failed() {
@@ -184,14 +168,7 @@ fn write_held<D: Disk, L: Life, R: Wait, G: Gate>(
     requires works { has_failed (store_of flusher.old) ≡ false }
     requires held { committed_of flusher.old ++ waiting_of flusher.old ≢ [] }
     ensures at { IsAt writer.new flusher.new }
-    ensures writes { Writes L.start flusher.old flusher.new }
-    ensures turned { IfOk result (λ answer. HasTurned flusher.old answer flusher.new) }
-    ensures nothing { OnOk result ((committed_of flusher.new ≡ []) × (waiting_of flusher.new ≡ [])) }
-    ensures unpublished { IsErrOf result Refusal.NoMemory → told_of flusher.new ≡ told_of flusher.old }
-    ensures fails { has_failed (store_of flusher.old) ≡ false
-        → (has_failed (store_of flusher.new) ≡ true ↔ IsErrOf result Refusal.Fault) }
-    ensures causes { IfErr result (λ e. e ≢ Refusal.NoMemory → e ≢ Refusal.Fault
-        → IsTurnFailed flusher.old e flusher.new) }
+    ensures turn { IsTurn L.start flusher.old result flusher.new }
 {
     flusher.kept();
     let then = flusher.snapshot();
@@ -251,11 +228,7 @@ pub fn flush_all<D: Disk, L: Life, R: Wait, G: Gate>(
 ) -> Result<Idle<L>, Failed<L>>
     requires at { IsAt writer.old flusher.old }
     ensures at { IsAt writer.new flusher.new }
-    ensures writes { Writes L.start flusher.old flusher.new }
-    ensures nothing { OnOk result ((committed_of flusher.new ≡ []) × (waiting_of flusher.new ≡ [])) }
-    ensures fails { has_failed (store_of flusher.old) ≡ false
-        → (has_failed (store_of flusher.new) ≡ true ↔ IsErrOf result Refusal.Fault) }
-    ensures causes { IfErr result (λ e. e ≢ Refusal.Fault → IsEndedBy L.start flusher.old e flusher.new) }
+    ensures written { HasWritten L.start flusher.old flusher.new result }
 {
     flusher.kept();
     let mut upkeep = Upkeep::new(alloc, every, composers, flusher.state());

@@ -1,8 +1,10 @@
 -- What a call that publishes answers, and what a reader has read and learned.
-use Rattle.std.specs.Prelude.{◌≡◌, true, List, [], ◌∷◌, ◌++◌, Option, Result, IfOk, IfSome, IfNone, OnErr}
+use Rattle.std.specs.Prelude.{◌≡◌, true, List, [], ◌∷◌, ◌++◌, Option, Result, IfOk, IfErr, IfSome, IfNone, OnErr}
 use mathlib.Core.List.{IsPrefix}
+use Rattle.refusal.specs.declared.Refusal.{Refusal}
+use Rattle.refusal.specs.declared.Refusal.TheVariants.{StoreFailed}
 use Rattle.revision.specs.Command.{Taken}
-use Rattle.revision.specs.State.{State, all_grow}
+use Rattle.revision.specs.State.{State, all_grow, fold}
 use Rattle.recovery.specs.Found.{commands_of}
 use Rattle.recovery.specs.Moment.{Moment, Receipt}
 use Rattle.view.specs.Published.{Published}
@@ -29,3 +31,10 @@ module _ {D E : Type 0} where
 pub record ReadsOn (start : State) (old new : List (List Taken)) : Type 0 where
   pub kept : IsPrefix old new
   pub grows : all_grow start (commands_of new) ≡ true
+
+-- The state that some published batches make, which go on from those that a reader has seen, was lent to a function; `seen` tells these batches by
+-- what came of it, and `Returns` what the function gives of a state. Refused with `StoreFailed` alone.
+pub record IsLent {A : Type 0} (start : State) (old : List (List Taken)) (result : Result A Refusal) (seen : A → List (List Taken)) (Returns : State → A → Type 0) : Type 0 where
+  pub seen : IfOk result (λ a. ReadsOn start old (seen a))
+  pub answer : IfOk result (λ a. (s : State) × (s ≡ fold start (commands_of (seen a))) × Returns s a)
+  pub only : IfErr result (λ e. e ≡ StoreFailed)

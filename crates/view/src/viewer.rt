@@ -6,7 +6,7 @@ ghost use Rattle.revision.specs.State as state;
 ghost use Rattle.revision.specs.Readings.{document_at, taken_since, read_as};
 ghost use Rattle.recovery.specs.Found.{commands_of};
 ghost use Rattle.published.specs.Batches.{IsTheLonger};
-ghost use Rattle.view.specs.Publishing.{ReadsOn};
+ghost use Rattle.view.specs.Publishing.{IsLent};
 
 use crate::shown::{InLog, Sees, Shown};
 use delta::Delta;
@@ -64,10 +64,7 @@ impl<D, L: Life> Viewer<D, L> {
     /// alone, where the view has ended; nothing is lent then, and the viewer is unchanged. It waits for nobody, and takes no memory.
     pub fn read<A, F: FnOnce(&State) -> A + Drop>(&mut self, f: F) -> Result<A, Refusal>
         requires { F.IsAlwaysCallable f }
-        ensures seen { OnOk result (ReadsOn L.start self.old self.new) }
-        ensures answer { IfOk result (λ a. (s : state.State) × (s ≡ state.fold L.start (commands_of self.new))
-            × FnOnceReturnsAt F.FnOnce f s a) }
-        ensures only { IfErr result (λ e. e ≡ Refusal.StoreFailed) }
+        ensures lent { IsLent L.start self.old result (λ _. self.new) (λ s a. FnOnceReturnsAt F.FnOnce f s a) }
         ensures unchanged { OnErr result (self.new ≡ self.old) }
     {
         let (answer, seen) = self.peek(f)?;
@@ -82,10 +79,7 @@ impl<D, L: Life> Viewer<D, L> {
         f: F,
     ) -> Result<(A, Told<D, L>), Refusal>
         requires { F.IsAlwaysCallable f }
-        ensures seen { IfOk result (λ r. ReadsOn L.start self.old r.1) }
-        ensures answer { IfOk result (λ r. (s : state.State) × (s ≡ state.fold L.start (commands_of r.1))
-            × FnOnceReturnsAt F.FnOnce f s r.0) }
-        ensures only { IfErr result (λ e. e ≡ Refusal.StoreFailed) }
+        ensures lent { IsLent L.start self.old result (λ r. r.1) (λ s r. FnOnceReturnsAt F.FnOnce f s r.0) }
         ensures unchanged { self.new ≡ self.old }
     {
         let reader = match self.reader.take() {

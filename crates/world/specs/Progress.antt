@@ -19,53 +19,53 @@ pub record Ticket : Type 0 where
   pub reply : Reply
   pub length : ℕ
 
--- Submit: a command that is taken is put behind the order, and any other leaves the board alone.
+-- Submit: a command that is taken is put behind the order, and any other leaves all as it stands.
 abbrev pub submitted_by : {E : Type 0} → (Taken → E) → Progress E → Answer → Progress E
-submitted_by entry board (Takes taken) = record board { order = board.order ++ entry taken ∷ []; state = grown board.state taken }
-submitted_by entry board (Repeats revision) = board
-submitted_by entry board (Refuses refusal) = board
+submitted_by entry progress (Takes taken) = record progress { order = progress.order ++ entry taken ∷ []; state = grown progress.state taken }
+submitted_by entry progress (Repeats revision) = progress
+submitted_by entry progress (Refuses refusal) = progress
 
 abbrev pub submitted : {E : Type 0} → (Taken → E) → Progress E → Command → Progress E
-submitted entry board command = submitted_by entry board (answer board.state command)
+submitted entry progress command = submitted_by entry progress (answer progress.state command)
 
 -- its ticket: a retry waits for all that is in the order, since its edit may be anywhere in it; a refusal has none
 abbrev pub ticket_by : {E : Type 0} → Progress E → Command → Answer → Option Ticket
-ticket_by board command (Takes taken) = Some (record { command = command; reply = TakenAt taken.revision; length = length board.order + 1 })
-ticket_by board command (Repeats revision) = Some (record { command = command; reply = AgainAt revision; length = length board.order })
-ticket_by board command (Refuses refusal) = None
+ticket_by progress command (Takes taken) = Some (record { command = command; reply = TakenAt taken.revision; length = length progress.order + 1 })
+ticket_by progress command (Repeats revision) = Some (record { command = command; reply = AgainAt revision; length = length progress.order })
+ticket_by progress command (Refuses refusal) = None
 
 abbrev pub ticket_of : {E : Type 0} → Progress E → Command → Option Ticket
-ticket_of board command = ticket_by board command (answer board.state command)
+ticket_of progress command = ticket_by progress command (answer progress.state command)
 
 -- Take: so many of the next commands, at least one, are marked as taken off.
 abbrev pub can_take : {E : Type 0} → Progress E → ℕ → Bool
-can_take board count = nat_lt 0 count && nat_le (board.taken + count) (length board.order)
+can_take progress count = nat_lt 0 count && nat_le (progress.taken + count) (length progress.order)
 
 abbrev pub next_run : {E : Type 0} → Progress E → ℕ → List E
-next_run board count = take count (drop board.taken board.order)
+next_run progress count = take count (drop progress.taken progress.order)
 
 abbrev pub taken_more : {E : Type 0} → Progress E → ℕ → Progress E
-taken_more board count = record board { taken = board.taken + count }
+taken_more progress count = record progress { taken = progress.taken + count }
 
 -- Settle: so many of what is taken off, where what was told to be published ends with them.
 abbrev pub can_settle : {E : Type 0} → Progress E → ℕ → ℕ → Bool
-can_settle board count told = nat_lt 0 count && nat_le (board.settled + count) board.taken && (told == board.settled + count)
+can_settle progress count told = nat_lt 0 count && nat_le (progress.settled + count) progress.taken && (told == progress.settled + count)
 
 abbrev pub settled_more : {E : Type 0} → Progress E → ℕ → Progress E
-settled_more board count = record board { settled = board.settled + count }
+settled_more progress count = record progress { settled = progress.settled + count }
 
 -- Publish: what is taken off beyond what is shown.
 abbrev pub taken_beyond : {E : Type 0} → Progress E → ℕ → List E
-taken_beyond board shown = drop shown (take board.taken board.order)
+taken_beyond progress shown = drop shown (take progress.taken progress.order)
 
 -- Ack: the ticket's length is settled.
 abbrev pub can_ack : {E : Type 0} → Progress E → Ticket → Bool
-can_ack board ticket = nat_le ticket.length board.settled
+can_ack progress ticket = nat_le ticket.length progress.settled
 
--- a board with nothing taken yet
+-- where nothing is taken yet
 abbrev pub begun_progress : {E : Type 0} → State → Progress E
 begun_progress start = record { start = start; order = []; state = start; taken = 0; settled = 0 }
 
 -- Open: the order ends after so many commands, all of them taken off and settled, and the state is the one that was recovered.
 abbrev pub reopened : {E : Type 0} → Progress E → State → ℕ → Progress E
-reopened board state kept = record board { order = take kept board.order; state = state; taken = kept; settled = kept }
+reopened progress state kept = record progress { order = take kept progress.order; state = state; taken = kept; settled = kept }

@@ -40,16 +40,16 @@ taken_of command (Repeats revision) = []
 taken_of command (Refuses refusal) = []
 
 -- It began with a store without documents; all lengths are within what is taken off; each command of the order continues what
--- those before it make, with which the state agrees; and the order is kept as a whole, where the board lets go what is settled.
-pub record AreStepped (limits : Limits) (board : Progress Entry) (order : List Entry) (shown without with_batch : ℕ) : Type 0 where
-  pub start : board.start ≡ empty_store limits
-  pub shown_taken : shown ≤ board.taken
-  pub without_taken : without ≤ board.taken
-  pub with_taken : with_batch ≤ board.taken
-  pub taken_long : board.taken ≤ length board.order
-  pub grow : all_grow (empty_store limits) (takens board.order) ≡ true
-  pub agree : Agree board.state (fold (empty_store limits) (takens board.order))
-  pub kept : order ≡ board.order
+-- those before it make, with which the state agrees; and the order is kept as a whole, where the program lets go what is settled.
+pub record AreStepped (limits : Limits) (progress : Progress Entry) (order : List Entry) (shown without with_batch : ℕ) : Type 0 where
+  pub start : progress.start ≡ empty_store limits
+  pub shown_taken : shown ≤ progress.taken
+  pub without_taken : without ≤ progress.taken
+  pub with_taken : with_batch ≤ progress.taken
+  pub taken_long : progress.taken ≤ length progress.order
+  pub grow : all_grow (empty_store limits) (takens progress.order) ≡ true
+  pub agree : Agree progress.state (fold (empty_store limits) (takens progress.order))
+  pub kept : order ≡ progress.order
 
 abbrev pub IsStepped : Inside → Type 0
 IsStepped w = AreStepped w.limits w.board w.order.items w.published w.without w.with_batch

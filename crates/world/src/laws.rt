@@ -26,7 +26,7 @@ pub fn follower_follows()
     ensures { Follows }
 {}
 
-/// A board that keeps of each command only what was taken of it moves as the board of a world does.
+/// Progress that keeps of each command only what was taken of it moves as that of a world does.
 pub fn same_progress()
     ensures { SameProgress }
 {}

@@ -32,22 +32,22 @@ impl Model for Progress {
 
     ghost Value = { spec.Progress Kept };
 
-    ghost view = { λ b.
+    ghost view = { λ p.
         record {
-          start = b.start.value;
-          order = b.order.items;
-          state = b.state;
-          taken = b.taken;
+          start = p.start.value;
+          order = p.order.items;
+          state = p.state;
+          taken = p.taken;
           settled =
-              b.settled;
+              p.settled;
         } };
 
-    ghost invariant = { λ b. (b.settled ≤ b.taken) × (b.taken ≤ length b.order.items)
-        × (b.unsettled.items ≡ drop b.settled b.order.items) };
+    ghost invariant = { λ p. (p.settled ≤ p.taken) × (p.taken ≤ length p.order.items)
+        × (p.unsettled.items ≡ drop p.settled p.order.items) };
 }
 
 impl Progress {
-    /// The board of a state that a store was opened with: nothing was taken since. It takes no memory.
+    /// That of a state that a store was opened with: nothing was taken since. It takes no memory.
     pub fn new(alloc: Global, state: State) -> Progress
         ensures { result ≡ begun_progress state }
     {
@@ -75,7 +75,7 @@ impl Progress {
         self.order.len()
     }
 
-    /// What each board keeps, for the prover. It does nothing.
+    /// What its type keeps, for the prover. It does nothing.
     pub fn facts(&self)
         ensures { length self.now.order < 2 ^ 64 }
     {
@@ -176,7 +176,8 @@ impl Progress {
         ticket.length() <= self.settled
     }
 
-    /// Opens the board anew with so many commands of the order, and with the state that a store gave: the order ends there, and all of it is taken off and settled. The start state stays.
+    /// Begins anew with so many commands of the order, and with the state that a store gave: the order ends there, and all of it is taken off and
+    /// settled. The start state stays.
     pub fn reopen(&mut self, state: State, kept: usize)
         requires { kept ≤ length self.old.order }
         ensures { self.new ≡ reopened self.old state kept }

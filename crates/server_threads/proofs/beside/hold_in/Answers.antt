@@ -2,7 +2,8 @@ use mir.Syntax.{named}
 use denote.Param.{param}
 use denote.Param.Send.{param_send, arg_send, recorded_send, struct_send}
 use Rattle.std.proofs.Common.{sym, subst, rules}
-use Rattle.server_threads.specs.Written.{HasWritten, HasRun, StartedOverWrites}
+use Rattle.turns.specs.Turning.{HasWritten}
+use Rattle.server_threads.specs.Written.{HasRun, StartedOverWrites}
 use Rattle.server_threads.proofs.FlusherCrossing.{writing_send, written_send}
 use Rattle.server_threads.proofs.Served.{any_started}
 use Rattle.server_threads.proofs.beside.hold_in.Goals as goal

@@ -5,7 +5,7 @@ use Rattle.server_threads.proofs.life.end.Goals as goal
 -- the board that came back, and its order
 pub returns-clause-counted : goal.returns-clause-counted
 returns-clause-counted g c = record {
-  board = c.into_board-board.result.progress;
+  progress = c.into_board-board.result.progress;
   run = c.end-count.ensures.run;
   begins = c.end-count.ensures.begins;
   counts = c.end-count.ensures.counts;

@@ -17,4 +17,4 @@ pub returns-clause-holds : goal.returns-clause-holds
 returns-clause-holds g c =
     let flusher = c.flush_all-ended.new.flusher in
     all_published c.flush_all-ended.result g.L.Life.start (state_of (store_of flusher)) (told_of flusher) (committed_of flusher) (waiting_of flusher) c.kept.ensures
-    c.flush_all-ended.ensures.nothing
+    c.flush_all-ended.ensures.written.nothing

@@ -12,12 +12,12 @@ pub returns-in-Some-clause-fails : goal.returns-in-Some-clause-fails
 returns-in-Some-clause-fails g c =
     let old = has_failed (store_of c.args.flusher.now) in
     let new = has_failed (store_of c.flush_turn.new.flusher) in
-    fails_same c.in-Some.failed c.in-Err.stop old new c.in-Some.ensures.some.0 c.in-Err.ensures.fails
+    fails_same c.in-Some.failed c.in-Err.stop old new c.in-Some.ensures.some.0 c.in-Err.ensures.turn.fails
 
 pub returns-in-Some-clause-causes : goal.returns-in-Some-clause-causes
 returns-in-Some-clause-causes g c no_fault =
     let e = c.in-Some.ensures.some in
-    subst (λ r. r ≢ NoMemory → r ≢ Fault → IsTurnFailed c.args.flusher.now r c.flush_turn.new.flusher) (sym e.0) c.in-Err.ensures.causes e.1 no_fault
+    subst (λ r. r ≢ NoMemory → r ≢ Fault → IsTurnFailed c.args.flusher.now r c.flush_turn.new.flusher) (sym e.0) c.in-Err.ensures.turn.causes e.1 no_fault
 
 -- memory ran out, or it was made
 pub returns-clause-fails : goal.returns-clause-fails
@@ -27,8 +27,8 @@ returns-clause-fails g c =
     elim c.match-flush_turn.branch [
       | in-Err+in_default-into_failed w ↦
           let memory : w.in-Err.stop ≡ NoMemory = w.in_default-into_failed.ensures.none in
-          fails_ok tt old new (works_refused w.in-Err.stop old new w.in-Err.ensures.fails (memory_not_fault w.in-Err.stop memory))
-      | in_default+in-Ok+in-Settled-1 w ↦ fails_ok tt old new (works_after w.in_default.field-0 old new w.in_default.ensures.fails)
-      | in_default+in-Ok+in-Nothing-1 w ↦ fails_ok tt old new (works_after w.in_default.field-0 old new w.in_default.ensures.fails)
-      | in_default+in-Err-1 w ↦ fails_ok tt old new (works_after w.in_default.field-0 old new w.in_default.ensures.fails)
+          fails_ok tt old new (works_refused w.in-Err.stop old new w.in-Err.ensures.turn.fails (memory_not_fault w.in-Err.stop memory))
+      | in_default+in-Ok+in-Settled-1 w ↦ fails_ok tt old new (works_after w.in_default.field-0 old new w.in_default.ensures.turn.fails)
+      | in_default+in-Ok+in-Nothing-1 w ↦ fails_ok tt old new (works_after w.in_default.field-0 old new w.in_default.ensures.turn.fails)
+      | in_default+in-Err-1 w ↦ fails_ok tt old new (works_after w.in_default.field-0 old new w.in_default.ensures.turn.fails)
     ]

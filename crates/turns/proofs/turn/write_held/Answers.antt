@@ -10,20 +10,18 @@ use Rattle.turns.specs.declared.turned.Turned.TheVariants.{Settled}
 use Rattle.turns.proofs.turn.write_held.Goals as goal
 
 -- the write is refused
-pub returns-in-Err-clause-writes : goal.returns-in-Err-clause-writes
-returns-in-Err-clause-writes g c =
+pub returns-in-Err-clause-turn : goal.returns-in-Err-clause-turn
+returns-in-Err-clause-turn g c =
     let e = c.in-Err.ensures in
-    writes_refused g.L.Life.start c.args.flusher.now c.write.new.self c.in-Err.refusal c.kept.ensures c.write.ensures.writes.goes c.kept-in-Err.ensures e.refused e.writes.why e.writes.faults.fails
-
-pub returns-in-Err-clause-fails : goal.returns-in-Err-clause-fails
-returns-in-Err-clause-fails g c =
-    fails_same c.stop_for.result c.in-Err.refusal (has_failed (store_of c.args.flusher.now)) (has_failed (store_of c.write.new.self)) c.stop_for.ensures c.in-Err.ensures.writes.faults.fails
-
-pub returns-in-Err-clause-causes : goal.returns-in-Err-clause-causes
-returns-in-Err-clause-causes g c =
-    let e = c.in-Err.ensures in
-    subst (λ r. r ≢ NoMemory → r ≢ Fault → IsTurnFailed c.args.flusher.now r c.write.new.self) (sym c.stop_for.ensures)
-    (turn_failed c.args.flusher.now c.write.new.self c.in-Err.refusal e.refused e.writes.why)
+    record {
+      writes = writes_refused g.L.Life.start c.args.flusher.now c.write.new.self c.in-Err.refusal c.kept.ensures c.write.ensures.writes.goes c.kept-in-Err.ensures e.refused e.writes.why e.writes.faults.fails;
+      turned = tt;
+      nothing = tt;
+      unpublished = λ is. e.refused.told;
+      fails = fails_same c.stop_for.result c.in-Err.refusal (has_failed (store_of c.args.flusher.now)) (has_failed (store_of c.write.new.self)) c.stop_for.ensures e.writes.faults.fails;
+      causes = subst (λ r. r ≢ NoMemory → r ≢ Fault → IsTurnFailed c.args.flusher.now r c.write.new.self) (sym c.stop_for.ensures)
+          (turn_failed c.args.flusher.now c.write.new.self c.in-Err.refusal e.refused e.writes.why);
+    }
 
 pub stop_for-requires-clause-full : goal.stop_for-requires-clause-full
 stop_for-requires-clause-full g c =
@@ -36,22 +34,21 @@ pub unreachable-requires : goal.unreachable-requires
 unreachable-requires g c = c.requires.held (rw c.in-None.is at c.in-Ok.ensures.published).none.0
 
 -- it is written, and settled
-pub returns-clause-writes : goal.returns-clause-writes
-returns-clause-writes g c =
+pub returns-clause-turn : goal.returns-clause-turn
+returns-clause-turn g c =
     let e = c.in-Ok.ensures in
-    writes_written g.L.Life.start c.args.flusher.now c.write.new.self c.in-Some.both c.kept.ensures c.kept-in-Some.ensures c.write.ensures.writes.goes
-    (works_after c.in-Ok.written (has_failed (store_of c.args.flusher.now)) (has_failed (store_of c.write.new.self)) e.writes.faults.fails) (rw c.in-Some.is at e.published)
-
-pub returns-clause-turned : goal.returns-clause-turned
-returns-clause-turned g c =
-    let done = rw c.in-Some.is at c.in-Ok.ensures.published in
-    (one_written c.args.flusher.now c.write.new.self c.in-Some.both done, c.settle-receipt.ensures.settled.settled ∙ done.some.token_is)
-
-pub returns-clause-fails : goal.returns-clause-fails
-returns-clause-fails g c =
     let old = has_failed (store_of c.args.flusher.now) in
     let new = has_failed (store_of c.write.new.self) in
-    fails_ok (Settled _) old new (works_after c.in-Ok.written old new c.in-Ok.ensures.writes.faults.fails)
+    let done = rw c.in-Some.is at e.published in
+    let works = works_after c.in-Ok.written old new e.writes.faults.fails in
+    record {
+      writes = writes_written g.L.Life.start c.args.flusher.now c.write.new.self c.in-Some.both c.kept.ensures c.kept-in-Some.ensures c.write.ensures.writes.goes works done;
+      turned = (one_written c.args.flusher.now c.write.new.self c.in-Some.both done, c.settle-receipt.ensures.settled.settled ∙ done.some.token_is);
+      nothing = (done.committed, done.waiting);
+      unpublished = λ is. absurd cc;
+      fails = fails_ok (Settled _) old new works;
+      causes = tt;
+    }
 
 pub settle-receipt-requires : goal.settle-receipt-requires
 settle-receipt-requires g c =

@@ -7,7 +7,7 @@ use Rattle.hub_desk.proofs.desk.HubDesk.moved_on.Goals as goal
 -- what is late in the state that was lent is moved in it, and that state is what the token's batches make
 pub of-requires : goal.of-requires
 of-requires g c =
-    let answer = c.in-Ok.ensures.answer in
+    let answer = c.in-Ok.ensures.lent.answer in
     let read = answer.2 in
     let late = subst (λ (o : Option LateEdit). IfSome o (λ l. IsLateIn read.0.now l)) c.in_ok-late.was read.1 in
     subst (λ (s : State). IsMovedIn s c.in-Ok-moved.moved) (read.2 ∙ answer.1)

@@ -12,7 +12,7 @@ use Rattle.hub_desk.proofs.desk.HubDeskDesk.view.Goals as goal
 -- what is shown is what the batches make that are told of then, and those begin with what was told of before
 pub returns-clause-shown : goal.returns-clause-shown
 returns-clause-shown g c =
-    let read = c.in_ok-answer.ensures in
+    let read = c.in_ok-answer.ensures.lent in
     let answer = read.answer in
     let state = answer.0 in (
       Some state,
@@ -25,7 +25,7 @@ returns-clause-shown g c =
 -- and so it is later than what was shown before
 pub returns-clause-later : goal.returns-clause-later
 returns-clause-later g c =
-    let read = c.in_ok-answer.ensures in
+    let read = c.in_ok-answer.ensures.lent in
     let start = g.L.Life.start in
     subst (λ (l : List (List Taken)). IsLater (fold start (commands_of l)) (fold start (commands_of c.told.result))) (ap (λ (d : Desk). d.shown) c.self.view_is)
     (subst (λ (l : List (List Taken)). IsLater (fold start (commands_of c.self.inside.shown)) (fold start (commands_of l))) (sym c.told.ensures)
