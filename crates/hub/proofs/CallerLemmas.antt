@@ -16,6 +16,7 @@ use Rattle.hub.specs.contracts.ahead.Ahead as ahead
 use Rattle.hub.specs.contracts.found.Found as found
 use Rattle.hub.specs.contracts.hub.Hub as hub
 use Rattle.hub.specs.contracts.seat.Seat as seat
+use Rattle.hub.specs.contracts.seat.Tally as tally
 use Rattle.hub.specs.contracts.locked.Closer as closer
 use Rattle.hub.specs.contracts.locked.Writer as writer
 pub use Rattle.hub.proofs.Histories.{fold-more}
@@ -40,6 +41,9 @@ pub seat_send : (T : RattleType) (s : life.Ghosts T.Denot) (l : ledger.Ghosts T.
 seat_send T s l a =
     let edits = ahead_send T s l a in
     search (share.the_send, sendable, crosses) depth 60 fits 20000
+
+pub tally_send : (T : RattleType) (s : life.Ghosts T.Denot) (l : ledger.Ghosts T.Denot) → IsSend T → IsSend (tally.the_row T s l)
+tally_send T s l a = search (share.the_send, sendable, crosses) depth 60 fits 20000
 
 pub writer_send : (T : RattleType) (s : life.Ghosts T.Denot) (l : ledger.Ghosts T.Denot) → IsSend T → IsSend (writer.the_row T s l)
 writer_send T s l a = search (share.the_send, sendable, crosses) depth 60 fits 20000

@@ -8,8 +8,8 @@ ghost use Rattle.published.specs.Order.{IsLegal};
 use published::{Life, Order, Ordered, Told};
 use std::marker::Model;
 
-/// A prefix of the order: what the commands of one who submits have found of it, and nothing at first. A hub alone makes it longer.
-/// Contracts see it as its entries. It takes no memory.
+/// A prefix of the order: what the commands of one who submits have found of it, and nothing at first, or what a token has. A hub alone
+/// makes it longer. Contracts see it as its entries. It takes no memory.
 #[derive(Drop)]
 pub struct Found<L: Life> {
     order: Option<Ordered<L>>,
@@ -31,6 +31,15 @@ impl<L: Life> Found<L> {
         ensures { result ≡ [] }
     {
         Found { order: None }
+    }
+
+    /// What a token of the order has is found.
+    pub fn of(ordered: Ordered<L>) -> Found<L>
+        ensures { result ≡ ordered }
+    {
+        Found {
+            order: Some(ordered),
+        }
     }
 
     // Finds the whole order, which begins with what was found of it before, and with what was told of it.

@@ -38,7 +38,7 @@
 //!
 //! Who waits relies on others to go on: on the flusher to settle or fail what it took off, and on the thread that has settled, failed or
 //! submitted to get to its wake or notification.
-ghost use Rattle.std.specs.Prelude.{◌≡◌, ◌<◌, length, map, IfOk, IfErr, OnErr};
+ghost use Rattle.std.specs.Prelude.{◌≡◌, ◌<◌, ◌+◌, length, map, IfOk, IfErr, OnErr};
 ghost use Rattle.std.specs.Vec.{vec_len};
 ghost use mathlib.Core.List.{IsPrefix};
 ghost use Rattle.recovery.specs.Found.{commands_of};
@@ -56,7 +56,7 @@ use crate::found::Found;
 use crate::locked::{Closer, Locked, Writer};
 use crate::place::Place;
 use crate::run::Run;
-use crate::seat::{Seat, Ticket};
+use crate::seat::{Seat, Tally, Ticket};
 use crate::submit_error::SubmitError;
 use crate::tokens::{Ended, Failed, Idle, Settled, Stopped, Work};
 use crate::waiting::Woken;
@@ -78,7 +78,7 @@ const YIELDS: u32 = 200;
 
 /// A board that threads share, behind one lock. A session's threads submit and wait; the flusher's thread takes, settles and waits
 /// for work, and says where the store has failed: these calls ask for the hub's `Writer`, which that thread alone has. Who ends the hub
-/// has its `Closer`. A command takes the lock once. Who waits for a ticket looks at its place, which the flusher tells what is settled, and
+/// has its `Closer`, and the tally of all its seats. A command takes the lock once. Who waits for a ticket looks at its place, which the flusher tells what is settled, and
 /// sleeps until the batch with its command is settled, which wakes all who wait for that batch at once. All calls by `&self` may wait.
 /// What a call does to the board under the lock is the board's own contract; here stands what the caller gets.
 #[derive(Drop)]
@@ -330,10 +330,12 @@ impl<D, L: Life> Hub<D, L> {
         unreachable!()
     }
 
-    /// Tells the flusher that nothing more will be submitted, and answers with the token of that. From then on `submit` is refused with
-    /// `StoreFailed`, so that nobody waits for a turn that doesn't come.
-    pub fn end<R: Wait>(&self, rt: &R, closer: &mut Closer<L>) -> Ended<L> {
-        let ended = self.held(rt).end(closer);
+    /// Tells the flusher that nothing more will be submitted, and answers with the token of that. All seats of the life are tallied then, so
+    /// nobody has one to submit by. From then on `submit` is refused with `StoreFailed`, so that nobody waits for a turn that doesn't come.
+    pub fn end<R: Wait>(&self, rt: &R, closer: &mut Closer<L>, tally: &Tally<L>) -> Ended<L>
+        requires all { tally.now.seats + 1 ≡ L.parts }
+    {
+        let ended = self.held(rt).end(closer, tally);
         self.work.notify_all();
         ended
     }

@@ -24,7 +24,8 @@
 //! held, the commands from there on have none, until all before them are taken off.
 //!
 //! What is the flusher's, to take, to settle, to wait for work and to fail, asks for a hub's `Writer`, and to end it or to give its seats
-//! out for its `Closer`: `Hub::new` gives one of each, which can't be copied, so that no session's desk can do any of it. To fail
+//! out for its `Closer`: `Hub::new` gives one of each, which can't be copied, so that no session's desk can do any of it. To end a hub
+//! its caller shows besides that all seats of the life are tallied (`Tally`): so it ends only where nobody can submit any more. To fail
 //! a board a `Cause` is used up besides, which only who has the life's log of what is published makes, of a store that has failed or is full for
 //! good: that is the life's flusher. The hub's own calls
 //! can't either: what lies under the lock stands in a module of its own (src/locked.rt), which lends the board for reading alone, and asks for

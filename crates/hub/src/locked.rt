@@ -15,7 +15,7 @@ use crate::board::Board;
 use crate::cause::Cause;
 use crate::found::Found;
 use crate::run::Run;
-use crate::seat::{Seat, Ticket};
+use crate::seat::{Seat, Tally, Ticket};
 use crate::submit_error::SubmitError;
 use crate::tokens::{Ended, Failed, Settled, Stopped};
 use crate::waiting::{Awaited, Turns, Woken, covered};
@@ -150,11 +150,13 @@ impl<D, L: Life> Locked<D, L> {
         Failed::by_board(&self.board, refusal)
     }
 
-    // notes that the end was called
-    pub(crate) fn end(&mut self, closer: &mut Closer<L>) -> Ended<L>
+    // notes that the end was called, where all seats are tallied
+    pub(crate) fn end(&mut self, closer: &mut Closer<L>, tally: &Tally<L>) -> Ended<L>
+        requires all { tally.now.seats + 1 ≡ L.parts }
         ensures { self.new ≡ record self.old { ended = true } }
     {
         let _ = closer;
+        let _ = tally;
         self.ended = true;
         Ended::by_locked(self)
     }

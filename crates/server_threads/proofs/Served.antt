@@ -29,7 +29,7 @@ use Rattle.hub.specs.Legal.{IsOfRun}
 use Rattle.world.specs.Progress.{Progress}
 use Rattle.hub_desk.specs.AtHub.{Desk}
 use Rattle.server_threads.specs.Answers.{first_desk}
-use Rattle.server_threads.specs.Held.{HasHeld, IsCounted, IsKept, IsTallied}
+use Rattle.server_threads.specs.Held.{AreTallied, HasHeld, HaveEnded, IsCounted, IsKept, IsTallied}
 use Rattle.server_threads.specs.Served.{AreLasting, IsWritten, IsWhole, KeepsAnswers, WasServed, HasLived, IsStarted}
 use Rattle.server_threads.specs.Written.{HasRun, StartedOverWrites}
 use Rattle.server_threads.proofs.Answered.{found_whole, keeps_answers}
@@ -345,19 +345,20 @@ module _ {D L : Type 0} {disk : Ghosts D} where
           whole_by order old new is_written none.0 none.1 same
 
 module _ {D L : Type 0} {disk : Ghosts D} where
-  -- what sessions that were held left, beside a flusher that is the one that was just started
-  pub has_held : (Sessions : List Desk → Type 0) (start : State) (old begun last : Flusher D L disk) (desks : List Desk) (ordered : List Entry) (published counted : ℕ)
-      (answer written : Result (Unit {0}) Refusal) (new : Store D disk) → begun ≡ old → IsKept start begun → HasWritten start begun last answer → written ≡ answer
-      → IsTallied start desks last ordered published counted new → Sessions desks → HasHeld Sessions start old ordered published counted written new
-  has_held Sessions start old begun last desks ordered published counted answer written new same kept wrote told tallied sessions = record {
+  -- what sessions that have ended left, beside a flusher that is the one that was just started
+  pub has_held : (Sessions : List Desk → Type 0) (start : State) (old begun last : Flusher D L disk) (longest : List (List Taken)) (found ordered : List Entry)
+      (published tallied counted : ℕ) (answer written : Result (Unit {0}) Refusal) (new : Store D disk) → begun ≡ old → IsKept start begun → HasWritten start begun last answer
+      → written ≡ answer → ((desks : List Desk) → AreTallied desks longest found tallied → IsTallied start desks last ordered published counted new)
+      → HaveEnded Sessions longest found tallied → HasHeld Sessions start old ordered published counted written new
+  has_held Sessions start old begun last longest found ordered published tallied counted answer written new same kept wrote told are_tallied ended = record {
     last = last;
-    desks = desks;
+    desks = ended.desks;
     before = subst (λ (f : Flusher D L disk). IsKept start f) same kept;
     wrote =
         subst (λ (f : Flusher D L disk). HasWritten start f last written) same
         (subst (λ (w : Result (Unit {0}) Refusal). HasWritten start begun last w) (sym told) wrote);
-    tallied = tallied;
-    sessions = sessions;
+    tallied = are_tallied ended.desks ended.tallied;
+    sessions = ended.sessions;
   }
 
   -- the life of a flusher that was just started, of the sessions that were held beside it, and of the board that ended

@@ -23,17 +23,28 @@ one_count_more before at after desks desk so_far more =
     sum_by-append (λ (d : Desk). d.counted) desks (desk ∷ []) in
     omega (arith, so_far, more, joined)
 
--- one desk more was told of no more than is there
-pub one_told_more : (there : List (List Taken)) (desks : List Desk) (desk : Desk) → All (λ (d : Desk). IsPrefix d.told there) desks → IsPrefix desk.told there
-    → All (λ (d : Desk). IsPrefix d.told there) (desks ++ desk ∷ [])
-one_told_more there desks desk so_far told = All-push (λ (d : Desk). IsPrefix d.told there) desks desk so_far told
+-- what desks were told of, and what they found, also begins what is longer
+pub told_longer : (before after : List (List Taken)) (desks : List Desk) → IsPrefix before after → All (λ (d : Desk). IsPrefix d.told before) desks
+    → All (λ (d : Desk). IsPrefix d.told after) desks
+told_longer before after desks longer =
+    All-weaker (λ (d : Desk). IsPrefix d.told before) (λ (d : Desk). IsPrefix d.told after) (λ d first. prefix_trans d.told before after first longer) desks
+
+pub found_longer : (before after : List Entry) (desks : List Desk) → IsPrefix before after → All (λ (d : Desk). IsPrefix d.found before) desks
+    → All (λ (d : Desk). IsPrefix d.found after) desks
+found_longer before after desks longer =
+    All-weaker (λ (d : Desk). IsPrefix d.found before) (λ (d : Desk). IsPrefix d.found after) (λ d first. prefix_trans d.found before after first longer) desks
+
+-- one desk more was told of no more than a token has, which has no less than before
+pub one_told_more : (before after : List (List Taken)) (desks : List Desk) (desk : Desk) → All (λ (d : Desk). IsPrefix d.told before) desks → IsPrefix before after
+    → IsPrefix desk.told after → All (λ (d : Desk). IsPrefix d.told after) (desks ++ desk ∷ [])
+one_told_more before after desks desk so_far longer told =
+    All-push (λ (d : Desk). IsPrefix d.told after) desks desk (told_longer before after desks longer so_far) told
 
 -- one desk more found no more of the order than a token has, which has no less than before
 pub one_found_more : (before after : List Entry) (desks : List Desk) (desk : Desk) → All (λ (d : Desk). IsPrefix d.found before) desks → IsPrefix before after
     → IsPrefix desk.found after → All (λ (d : Desk). IsPrefix d.found after) (desks ++ desk ∷ [])
 one_found_more before after desks desk so_far longer found =
-    All-push (λ (d : Desk). IsPrefix d.found after) desks desk
-    (All-weaker (λ (d : Desk). IsPrefix d.found before) (λ (d : Desk). IsPrefix d.found after) (λ d first. prefix_trans d.found before after first longer) desks so_far) found
+    All-push (λ (d : Desk). IsPrefix d.found after) desks desk (found_longer before after desks longer so_far) found
 
 -- what holds of all desks that were yielded holds of all, where none is left
 pub all_yielded : {A : Type 0} (P : A → Type 0) (yielded rest all : List A) → yielded ++ rest ≡ all → rest ≡ [] → All P yielded → All P all

@@ -1,9 +1,10 @@
 -- What a life begins with, and what is left of sessions that have ended, and of the thread that wrote beside them.
-use Rattle.std.specs.Prelude.{◌≡◌, ◌≤◌, ◌↔◌, ℕ, List, ◌++◌, length, All, sum_by, Result, Ok, OnOk, IsErrOf}
+use Rattle.std.specs.Prelude.{◌≡◌, ◌≤◌, ◌↔◌, ◌+◌, ℕ, List, ◌++◌, length, All, sum_by, Result, Ok, OnOk, IsErrOf}
 use mathlib.Core.List.{IsPrefix}
 use Rattle.disk.specs.declared.device.Disk.{Ghosts}
 use Rattle.refusal.specs.declared.Refusal.{Refusal}
 use Rattle.refusal.specs.declared.Refusal.TheVariants.{Fault}
+use Rattle.revision.specs.Command.{Taken}
 use Rattle.revision.specs.State.{State, fold}
 use Rattle.recovery.specs.declared.store.Store.{Store}
 use Rattle.recovery.specs.Found.{commands_of}
@@ -20,11 +21,25 @@ use Rattle.hub_desk.specs.AtHub.{Desk}
 use Rattle.server_threads.specs.Answers.{first_desk}
 use Rattle.server_threads.specs.Served.{IsStarted}
 
--- so many desks at most, and one at least, each at its beginning
-pub record AreFirst (count : ℕ) (desks : List Desk) : Type 0 where
+-- desks at their beginning, one at least, where all other seats are tallied and have counted nothing
+pub record AreSeated (parts : ℕ) (desks : List Desk) (tally : Tally) : Type 0 where
   pub first : All (λ (desk : Desk). desk ≡ first_desk) desks
   pub some : 1 ≤ length desks
-  pub few : length desks ≤ count
+  pub all : tally.seats + length desks + 1 ≡ parts
+  pub none : tally.counted ≡ 0
+
+-- Desks are tallied: none was told of more than this token of what is published has, nor found more than that of the order has, and the seats' count
+-- is that of the desks.
+pub record AreTallied (desks : List Desk) (longest : List (List Taken)) (ordered : List Entry) (counted : ℕ) : Type 0 where
+  pub told : All (λ (desk : Desk). IsPrefix desk.told longest) desks
+  pub found : All (λ (desk : Desk). IsPrefix desk.found ordered) desks
+  pub counts : counted ≡ sum_by (λ (desk : Desk). desk.counted) desks
+
+-- sessions have ended, the desks that they left are tallied, and this is so of the desks
+pub record HaveEnded (Sessions : List Desk → Type 0) (longest : List (List Taken)) (ordered : List Entry) (counted : ℕ) : Type 0 where
+  pub desks : List Desk
+  pub tallied : AreTallied desks longest ordered counted
+  pub sessions : Sessions desks
 
 module _ {D : Type 0} {disk : Ghosts D} where
   -- A life is named by the logs and the blank ledger of one that hasn't begun, and by the state that its store holds.
@@ -35,11 +50,13 @@ module _ {D : Type 0} {disk : Ghosts D} where
     pub state : state_of store ≡ start
 
 module _ {D L : Type 0} {disk : Ghosts D} where
-  -- A server serves nobody yet: its flusher was just started over the store that it holds, no seat has counted anything, and none is tallied.
-  pub record IsNewServer (held : Store D disk) (flusher : Flusher D L disk) (seats : List ℕ) (tally : Tally) : Type 0 where
+  -- A server serves nobody yet: its flusher was just started over the store that it holds, all seats of the life are there, none has counted anything,
+  -- and none is tallied.
+  pub record IsNewServer (parts : ℕ) (held : Store D disk) (flusher : Flusher D L disk) (seats : List ℕ) (tally : Tally) : Type 0 where
     pub store : held ≡ store_of flusher
     pub started : IsStarted flusher
     pub new : All (λ (seat : ℕ). seat ≡ 0) seats
+    pub all : length seats + 1 ≡ parts
     pub none : tally ≡ record { seats = 0; counted = 0 }
 
   -- what its type keeps of a flusher: its store holds what is published and committed

@@ -5,13 +5,13 @@ ghost use Rattle.server_threads.specs.Served.{IsStarted};
 ghost use Rattle.server_threads.specs.Written.{HasRun};
 ghost use Rattle.turns.specs.Turning.{HasWritten};
 
-use crate::life::{Ready, Rights};
+use crate::life::Ready;
 use crate::watch::Watch;
 use crate::writing::{Shared, Writing};
 use crate::written::{Written, WrittenBy};
 use disk::Disk;
 use flusher::Flusher;
-use hub::Closer;
+use hub::Writer;
 use published::Life;
 use refusal::Refusal;
 use std::marker::PhantomData;
@@ -19,72 +19,41 @@ use std::sync::Wait;
 use std::sync::atomic::{AtomicBool, Ordering};
 use std::thread::{self, Scope, Threads};
 
-// The sessions, their desks and how they are held at these, with the right to end the hub.
-#[derive(Drop)]
-struct Holding<'s, 'a, S, K, F, D, L: Life, R, W> {
-    shared: &'s Shared<'a, D, L, R, W>,
-    closer: Closer<L>,
-    sessions: S,
-    desks: Vec<K>,
-    hold: F,
-}
-
-impl<S: Drop, K: Drop, F: Drop, D: Drop, L: Life, R, W> Holding<'_, '_, S, K, F, D, L, R, W> {
-    ghost use Rattle.std.specs.Prelude.{◌≡◌};
-
-    // The sessions, where they aren't held.
-    fn into_sessions(self) -> S
-        ensures { result ≡ self.entry.sessions }
-    {
-        let Holding {
-            shared: _,
-            closer: _closer,
-            sessions,
-            desks: _desks,
-            hold: _hold,
-        } = self;
-        sessions
-    }
-}
-
-/// What came of both: the flusher, how its writing ended, the rights to the hub, what the sessions answered, and their desks.
-pub(crate) struct Both<A, K, D: Disk, L: Life> {
+/// What came of both: the flusher, how its writing ended, its right to write, and what the sessions left.
+pub(crate) struct Both<B, D: Disk, L: Life> {
     pub(crate) flusher: Flusher<D, L>,
     pub(crate) written: Result<(), Refusal>,
-    pub(crate) rights: Rights<L>,
-    pub(crate) held: (A, Vec<K>),
+    pub(crate) writer: Writer<L>,
+    pub(crate) left: B,
 }
 
-/// Holds sessions in this thread, as `hold` does, while another thread writes until they have ended. Where the system gives no thread nobody is
-/// held, and the flusher and the sessions are given back unchanged.
+/// Holds sessions in this thread, as `hold` does, while another thread writes until the hub is ended, which `hold` is to do once they have
+/// ended. Where the system gives no thread nobody is held, and the flusher and the sessions are given back unchanged.
 pub(crate) fn hold_beside<
-    A: Drop,
     S: Drop,
-    K: Drop,
-    F: FnOnce(S, Vec<K>) -> (A, Vec<K>),
+    B: Drop,
+    F: FnOnce(S) -> B,
     L: Life + Sync + Send,
     R: Threads + Wait + Sync,
     D: Disk + Send + Drop,
     W: Watch<D>,
 >(
     shared: &Shared<'_, D, L, R, W>,
-    ready: Ready<K, D, L>,
+    ready: Ready<D, L>,
     sessions: S,
     hold: F,
-) -> Result<Both<A, K, D, L>, (Flusher<D, L>, S)>
+) -> Result<Both<B, D, L>, (Flusher<D, L>, S)>
     requires held { ready.held.value ≡ store_of ready.flusher }
     requires started { IsStarted ready.flusher }
-    requires callable { F.pre hold sessions ready.desks }
+    requires callable { F.pre hold sessions }
     ensures written { IfOk result (λ both. HasWritten L.start ready.flusher both.flusher both.written) }
-    ensures held { IfOk result (λ both. F.post hold sessions ready.desks both.held) }
+    ensures held { IfOk result (λ both. F.post hold sessions both.left) }
     ensures refused { IfErr result (λ back. (back.0 ≡ ready.flusher) × (back.1 ≡ sessions)) }
 {
     let Ready {
         held,
         flusher,
         writer,
-        closer,
-        desks,
     } = ready;
     let written_by = WrittenBy {
         store: held,
@@ -98,23 +67,15 @@ pub(crate) fn hold_beside<
         flusher,
         writer,
     };
-    let holding = Holding {
-        shared: &*shared,
-        closer,
-        sessions,
-        desks,
-        hold,
-    };
     thread::scope(
         thread::scope_env(),
         shared.rt,
-        |scope| -> Result<Both<A, K, D, L>, (Flusher<D, L>, S)>
-            requires { (written_by.store.value ≡ store_of writing.flusher) × IsStarted writing.flusher
-                × F.pre holding.hold holding.sessions holding.desks }
+        |scope| -> Result<Both<B, D, L>, (Flusher<D, L>, S)>
+            requires { (written_by.store.value ≡ store_of writing.flusher) × IsStarted writing.flusher × F.pre hold sessions }
             ensures written { IfOk result (λ both. HasWritten L.start writing.entry.flusher both.flusher both.written) }
-            ensures held { IfOk result (λ both. F.post holding.entry.hold holding.entry.sessions holding.entry.desks both.held) }
-            ensures refused { IfErr result (λ back. (back.0 ≡ writing.entry.flusher) × (back.1 ≡ holding.entry.sessions)) }
-        { hold_in(scope, written_by, writing, holding) },
+            ensures held { IfOk result (λ both. F.post hold.entry sessions.entry both.left) }
+            ensures refused { IfErr result (λ back. (back.0 ≡ writing.entry.flusher) × (back.1 ≡ sessions.entry)) }
+        { hold_in(scope, written_by, writing, sessions, hold) },
     )
 }
 
@@ -122,10 +83,9 @@ pub(crate) fn hold_beside<
 fn hold_in<
     's,
     E,
-    A: Drop,
     S: Drop,
-    K: Drop,
-    F: FnOnce(S, Vec<K>) -> (A, Vec<K>),
+    B: Drop,
+    F: FnOnce(S) -> B,
     L: Life + Sync + Send,
     R: Threads + Wait + Sync,
     D: Disk + Send + Drop,
@@ -134,14 +94,15 @@ fn hold_in<
     scope: &Scope<'s, E>,
     written_by: WrittenBy<D, L>,
     writing: Writing<'s, D, L, R, W>,
-    holding: Holding<'_, '_, S, K, F, D, L, R, W>,
-) -> Result<Both<A, K, D, L>, (Flusher<D, L>, S)>
+    sessions: S,
+    hold: F,
+) -> Result<Both<B, D, L>, (Flusher<D, L>, S)>
     requires held { written_by.store.value ≡ store_of writing.flusher }
     requires started { IsStarted writing.flusher }
-    requires callable { F.pre holding.hold holding.sessions holding.desks }
+    requires callable { F.pre hold sessions }
     ensures written { IfOk result (λ both. HasWritten L.start writing.entry.flusher both.flusher both.written) }
-    ensures held { IfOk result (λ both. F.post holding.entry.hold holding.entry.sessions holding.entry.desks both.held) }
-    ensures refused { IfErr result (λ back. (back.0 ≡ writing.entry.flusher) × (back.1 ≡ holding.entry.sessions)) }
+    ensures held { IfOk result (λ both. F.post hold sessions both.left) }
+    ensures refused { IfErr result (λ back. (back.0 ≡ writing.entry.flusher) × (back.1 ≡ sessions)) }
 {
     let rt = writing.shared.rt;
     let has_thread = writing.has_thread;
@@ -154,13 +115,13 @@ fn hold_in<
     );
     match spawned {
         Ok(thread) => {
-            let (held, closer) = hold_all(holding);
+            let left = hold(sessions);
             let (flusher, written, writer) = thread.join(rt).into_parts();
             Ok(Both {
                 flusher,
                 written,
-                rights: Rights { writer, closer },
-                held,
+                writer,
+                left,
             })
         }
         Err(refused) => {
@@ -169,43 +130,16 @@ fn hold_in<
             let is_begun = run.is_begun;
             let (flusher, written, writer) = run.into_parts();
             if !is_begun {
-                return Err((flusher, holding.into_sessions()));
+                return Err((flusher, sessions));
             }
             // Never reached: without a thread no run begins. No clause says what an atomic holds, so the sessions are held here too.
-            let (held, closer) = hold_all(holding);
+            let left = hold(sessions);
             Ok(Both {
                 flusher,
                 written,
-                rights: Rights { writer, closer },
-                held,
+                writer,
+                left,
             })
         }
     }
-}
-
-// Holds the sessions, and ends the hub once each of them has ended. It gives the right to that back.
-fn hold_all<
-    A: Drop,
-    S: Drop,
-    K: Drop,
-    F: FnOnce(S, Vec<K>) -> (A, Vec<K>),
-    L: Life + Sync + Send,
-    R: Threads + Wait + Sync,
-    D: Send + Drop,
-    W: Sync,
->(holding: Holding<'_, '_, S, K, F, D, L, R, W>) -> ((A, Vec<K>), Closer<L>)
-    requires callable { F.pre holding.hold holding.sessions holding.desks }
-    ensures held { F.post holding.entry.hold holding.entry.sessions holding.entry.desks result.0 }
-{
-    let Holding {
-        shared,
-        closer,
-        sessions,
-        desks,
-        hold,
-    } = holding;
-    let mut closer = closer;
-    let held = hold(sessions, desks);
-    let _ended = shared.hub.end(shared.rt, &mut closer);
-    (held, closer)
 }

@@ -1,15 +1,16 @@
 //! A store over connections.
-ghost use Rattle.std.specs.Prelude.{◌≡◌, ◌↔◌, true, false, Ok, Err, All, IfOk, IfErr, OnOk, IsErrOf, is_ok, length};
+ghost use Rattle.std.specs.Prelude.{◌≡◌, ◌↔◌, ◌+◌, true, false, Ok, Err, All, IfOk, IfErr, OnOk, IsErrOf, is_ok, length};
 ghost use Rattle.sockets.specs.Attendance.{visits_of, IsAttended, IsOfNobody};
 ghost use Rattle.recovery.specs.Open.{state_of, has_failed};
 ghost use Rattle.flusher.specs.Holding.{store_of};
 ghost use Rattle.server_threads.specs.Answers.{first_desk};
 ghost use Rattle.server_threads.specs.Connections.{EachHasServed};
-ghost use Rattle.server_threads.specs.Held.{HasHeld, IsNamed, IsNewServer};
+ghost use Rattle.server_threads.specs.Held.{AreSeated, HasHeld, HaveEnded, IsNamed, IsNewServer};
 ghost use Rattle.server_threads.specs.Served.{WasServed};
 
 use crate::beside::hold_beside;
-use crate::life::{Ending, Named, Server, begin, end, make_ready, tally_all};
+use crate::desks::{Closing, Desks};
+use crate::life::{Ending, Named, Server, begin, end, ending_of, make_ready};
 use crate::seated::Seated;
 use crate::watch::Watch;
 use crate::writing::Shared;
@@ -160,36 +161,62 @@ fn hold_at<
     listener: N,
     idle: u32,
 ) -> Result<(Ending<D, L>, Heard<N>), (Flusher<D, L>, N)>
-    requires ready { IsNewServer server.held.value server.flusher server.seats.items server.tally }
+    requires ready { IsNewServer L.parts server.held.value server.flusher server.seats.items server.tally }
     ensures held { IfOk result (λ both. HasHeld (EachHasServed L.start (visits_of both.1.attendance)) L.start server.flusher both.0.ordered
         both.0.published both.0.tally.counted both.0.written (store_of both.0.flusher)) }
     ensures attended { IfOk result (λ both. IsAttended (N.arrivals listener) (N.arrivals both.1.listener) both.1.attendance) }
     ensures complete { IfOk result (λ both. OnOk both.1.answer (both.1.attendance.is_complete ≡ true)) }
-    ensures seats { IfOk result (λ both. both.0.tally.seats ≡ length server.seats.items) }
+    ensures seats { IfOk result (λ both. both.0.tally.seats + 1 ≡ L.parts) }
     ensures refused { IfErr result (λ back. (back.0 ≡ server.flusher) × (back.1 ≡ listener)) }
 {
-    let (ready, tally) = match make_ready(shared, server) {
+    let (ready, seated) = match make_ready(shared, server) {
         Ok(both) => both,
         Err(flusher) => return Err((flusher, listener)),
     };
-    let rt = shared.rt;
-    let alloc = shared.alloc;
-    let watch = shared.watch;
     match hold_beside(
         shared,
         ready,
-        listener,
-        |listener, desks| -> (Heard<N>, Vec<HubDesk<'_, D, L, R>>)
-            requires { All (λ desk. desk ≡ first_desk) desks.items }
-            ensures served { EachHasServed L.start (visits_of result.0.attendance) result.1.items }
-            ensures attended { IsAttended (N.arrivals listener) (N.arrivals result.0.listener) result.0.attendance }
+        (listener, seated),
+        |sessions| -> (Heard<N>, Closing<D, L>)
+            requires { AreSeated L.parts sessions.1.desks.items sessions.1.closing.tally }
+            ensures ended { HaveEnded (EachHasServed L.start (visits_of result.0.attendance)) result.1.told result.1.ordered
+                result.1.tally.counted }
+            ensures seats { result.1.tally.seats + 1 ≡ L.parts }
+            ensures attended { IsAttended (N.arrivals sessions.0) (N.arrivals result.0.listener) result.0.attendance }
             ensures complete { OnOk result.0.answer (result.0.attendance.is_complete ≡ true) }
-            ensures as_many { length result.1.items ≡ length desks.entry.items }
-        { serve_all(rt, alloc, desks, listener, idle, watch) },
+        { hold_all(shared, sessions.0, sessions.1, idle) },
     ) {
-        Ok(both) => Ok(tally_all(both, tally)),
-        Err(back) => Err(back),
+        Ok(both) => Ok(ending_of(shared, both)),
+        Err((flusher, sessions)) => {
+            let (listener, _seated) = sessions;
+            Err((flusher, listener))
+        }
     }
+}
+
+// Serves until the listener ends, and ends the hub once each session has ended.
+fn hold_all<
+    L: Life + Sync + Send,
+    R: Threads + Wait + Clock + Sync,
+    N: Listen,
+    D: Send + Drop,
+    W: Watch<D>,
+>(
+    shared: &Shared<'_, D, L, R, W>,
+    listener: N,
+    seated: Desks<'_, D, L, R>,
+    idle: u32,
+) -> (Heard<N>, Closing<D, L>)
+    requires seated { AreSeated L.parts seated.desks.items seated.closing.tally }
+    ensures ended { HaveEnded (EachHasServed L.start (visits_of result.0.attendance)) result.1.told result.1.ordered result.1.tally.counted }
+    ensures seats { result.1.tally.seats + 1 ≡ L.parts }
+    ensures attended { IsAttended (N.arrivals listener) (N.arrivals result.0.listener) result.0.attendance }
+    ensures complete { OnOk result.0.answer (result.0.attendance.is_complete ≡ true) }
+{
+    let Desks { desks, mut closing } = seated;
+    let (heard, desks) = serve_all(shared.rt, shared.alloc, desks, listener, idle, shared.watch);
+    closing.close(shared.rt, shared.hub, desks);
+    (heard, closing)
 }
 
 // What ended the writing, or else what kept it from serving.

@@ -1,14 +1,14 @@
 //! Seats and desks: before sessions are held at them, and after.
-ghost use Rattle.std.specs.Prelude.{◌≡◌, ◌≤◌, ◌+◌, ◌++◌, [], All, length, sum_by, IfOk};
+ghost use Rattle.std.specs.Prelude.{◌≡◌, ◌≤◌, ◌+◌, [], All, length, sum_by, IfOk};
 ghost use mathlib.Core.List.{IsPrefix};
-ghost use Rattle.flusher.specs.Holding.{store_of, told_of, committed_of};
+ghost use Rattle.flusher.specs.Holding.{told_of};
 ghost use Rattle.server_threads.specs.Answers.{first_desk};
 
 use disk::Disk;
 use flusher::Flusher;
-use hub::{Board, Hub, Seat, Tally};
+use hub::{Board, Closer, Hub, Seat, Tally};
 use hub_desk::{Counters, HubDesk};
-use published::{Life, Ordered};
+use published::{Life, Ordered, Told};
 use std::alloc::{AllocError, Global};
 use std::sync::Wait;
 
@@ -63,25 +63,61 @@ pub(crate) fn desks_at<'a, L: Life, R: Wait, D: Disk + Drop>(
     Ok(desks)
 }
 
-/// Tallies the seats of desks that are used no longer, where each was told of a prefix of the batches that are published and
-/// committed. What they found is a prefix of the order, and of what the token has after it. It takes no memory.
-pub(crate) fn tally_desks<L: Life, R: Wait, D: Disk>(
-    flusher: &mut Flusher<D, L>,
+/// Tallies the seats of desks that are used no longer: what each was told of is a prefix of what the one token has after it, and what it found of
+/// what the other one has. It takes no memory.
+fn tally_desks<L: Life, R: Wait, D>(
     desks: Vec<HubDesk<'_, D, L, R>>,
     tally: &mut Tally<L>,
+    told: &mut Told<D, L>,
     ordered: &mut Ordered<L>,
 )
     ensures seats { tally.new.seats ≡ tally.old.seats + length desks.entry.items }
     ensures counted { tally.new.counted ≡ tally.old.counted + sum_by (λ desk. desk.counted) desks.entry.items }
-    ensures told { All (λ desk. IsPrefix desk.told (told_of flusher.old ++ committed_of flusher.old)) desks.entry.items }
-    ensures store { store_of flusher.new ≡ store_of flusher.old }
-    ensures before { IsPrefix ordered.old ordered.new }
+    ensures told { All (λ desk. IsPrefix desk.told told.new) desks.entry.items }
     ensures found { All (λ desk. IsPrefix desk.found ordered.new) desks.entry.items }
 {
     for desk in desks {
         desk.join(ordered);
         let (seat, viewer) = desk.into_parts();
-        flusher.covers(&viewer.told());
+        told.learn(&viewer.told());
         tally.add(seat);
+    }
+}
+
+/// Desks at which sessions can be held, and what closes the hub behind them.
+#[derive(Drop)]
+pub(crate) struct Desks<'a, D, L: Life, R> {
+    pub(crate) desks: Vec<HubDesk<'a, D, L, R>>,
+    pub(crate) closing: Closing<D, L>,
+}
+
+/// What ends a hub: the right to, and the tally of the seats. Beside it a token of what is published and one of the order, in which desks that are
+/// tallied have all that they were told of and found.
+#[derive(Drop)]
+pub(crate) struct Closing<D, L: Life> {
+    pub(crate) closer: Closer<L>,
+    pub(crate) tally: Tally<L>,
+    pub(crate) told: Told<D, L>,
+    pub(crate) ordered: Ordered<L>,
+}
+
+impl<D, L: Life> Closing<D, L> {
+    ghost use Rattle.std.specs.Prelude.{◌≡◌, ◌+◌, length};
+    ghost use Rattle.server_threads.specs.Held.{AreTallied};
+
+    /// Tallies the seats of all desks that there are, and then ends the hub. It takes no memory.
+    pub(crate) fn close<R: Wait>(
+        &mut self,
+        rt: &R,
+        hub: &Hub<D, L>,
+        desks: Vec<HubDesk<'_, D, L, R>>,
+    )
+        requires all { self.old.tally.seats + length desks.items + 1 ≡ L.parts }
+        requires none { self.old.tally.counted ≡ 0 }
+        ensures all { self.new.tally.seats + 1 ≡ L.parts }
+        ensures tallied { AreTallied desks.entry.items self.new.told self.new.ordered self.new.tally.counted }
+    {
+        tally_desks(desks, &mut self.tally, &mut self.told, &mut self.ordered);
+        hub.end(rt, &mut self.closer, &self.tally);
     }
 }

@@ -1,18 +1,18 @@
 //! The life of a server: how it begins, and how it ends.
-ghost use Rattle.std.specs.Prelude.{◌≡◌, ◌+◌, ◌↔◌, Ok, IfOk, IfSome, IfErr, OnOk, IsErrOf, length};
+ghost use Rattle.std.specs.Prelude.{◌≡◌, ◌+◌, ◌↔◌, Ok, IfOk, IfSome, IfErr, OnOk, IsErrOf, List};
 ghost use Rattle.flusher.specs.Holding.{store_of};
 ghost use Rattle.turns.specs.Counting.{IsAt};
-ghost use Rattle.server_threads.specs.Held.{AreFirst, IsCounted, IsKept, IsNamed, IsNewServer, IsTallied};
+ghost use Rattle.hub_desk.specs.AtHub.{Desk};
+ghost use Rattle.server_threads.specs.Held.{AreSeated, AreTallied, IsCounted, IsKept, IsNamed, IsNewServer, IsTallied};
 ghost use Rattle.server_threads.specs.Served.{IsStarted};
 
 use crate::beside::Both;
-use crate::desks::{desks_at, seats_of, tally_desks};
+use crate::desks::{Closing, Desks, desks_at, seats_of};
 use crate::watch::Watch;
 use crate::writing::Shared;
 use disk::Disk;
 use flusher::{Flusher, StartError, start};
-use hub::{Closer, Hub, Seat, Tally, Writer};
-use hub_desk::HubDesk;
+use hub::{Closer, Found, Hub, Seat, Tally, Writer};
 use published::{Life, Opened, Ordered};
 use recovery::Store;
 use refusal::Refusal;
@@ -87,9 +87,8 @@ pub(crate) fn begin<L: Life, R: Wait, D: Disk + Drop>(
 ) -> Result<(Hub<D, L>, Server<D, L>), Store<D>>
     requires named { IsNamed L.book L.name L.parts L.start named.opened named.blank.name named.blank.parts store }
     requires count { L.parts ≡ count + 1 }
-    ensures ready { IfOk result (λ begun. IsNewServer begun.1.held.value begun.1.flusher begun.1.seats.items begun.1.tally) }
+    ensures ready { IfOk result (λ begun. IsNewServer L.parts begun.1.held.value begun.1.flusher begun.1.seats.items begun.1.tally) }
     ensures store { IfOk result (λ begun. store_of begun.1.flusher ≡ store) }
-    ensures all { IfOk result (λ begun. length begun.1.seats.items ≡ count) }
     ensures refused { IfErr result (λ back. back ≡ store) }
 {
     let Named { opened, blank } = named;
@@ -116,13 +115,11 @@ pub(crate) fn begin<L: Life, R: Wait, D: Disk + Drop>(
     Ok((hub, server))
 }
 
-/// A server that sessions can be held at: its desks are there.
-pub(crate) struct Ready<K, D: Disk, L: Life> {
+/// A server that sessions can be held at, but for its desks.
+pub(crate) struct Ready<D: Disk, L: Life> {
     pub(crate) held: Snapshot<Store<D>>,
     pub(crate) flusher: Flusher<D, L>,
     pub(crate) writer: Writer<L>,
-    pub(crate) closer: Closer<L>,
-    pub(crate) desks: Vec<K>,
     ghost at: { IsAt writer flusher },
 }
 
@@ -131,15 +128,13 @@ pub(crate) struct Ready<K, D: Disk, L: Life> {
 pub(crate) fn make_ready<'a, L: Life, R: Wait, D: Disk + Drop, W: Watch<D>>(
     shared: &Shared<'a, D, L, R, W>,
     server: Server<D, L>,
-) -> Result<(Ready<HubDesk<'a, D, L, R>, D, L>, Tally<L>), Flusher<D, L>>
-    requires ready { IsNewServer server.held.value server.flusher server.seats.items server.tally }
+) -> Result<(Ready<D, L>, Desks<'a, D, L, R>), Flusher<D, L>>
+    requires ready { IsNewServer L.parts server.held.value server.flusher server.seats.items server.tally }
     ensures flusher { IfOk result (λ both. both.0.flusher ≡ server.flusher) }
     ensures held { IfOk result (λ both. both.0.held.value ≡ store_of both.0.flusher) }
     ensures started { IfOk result (λ both. IsStarted both.0.flusher) }
     ensures kept { IfOk result (λ both. IsKept L.start both.0.flusher) }
-    ensures desks { IfOk result (λ both. AreFirst (length server.seats.items) both.0.desks.items) }
-    ensures all { IfOk result (λ both. length both.0.desks.items + both.1.seats ≡ length server.seats.items) }
-    ensures none { IfOk result (λ both. both.1.counted ≡ 0) }
+    ensures seated { IfOk result (λ both. AreSeated L.parts both.1.desks.items both.1.closing.tally) }
     ensures refused { IfErr result (λ back. back ≡ server.flusher) }
 {
     let Server {
@@ -164,14 +159,18 @@ pub(crate) fn make_ready<'a, L: Life, R: Wait, D: Disk + Drop, W: Watch<D>>(
         return Err(flusher);
     };
     flusher.kept();
+    let closing = Closing {
+        closer,
+        tally,
+        told: flusher.told().copy(),
+        ordered: flusher.ordered(),
+    };
     let ready = Ready {
         held,
         flusher,
         writer,
-        closer,
-        desks,
     };
-    Ok((ready, tally))
+    Ok((ready, Desks { desks, closing }))
 }
 
 /// What is left where all sessions have ended: the flusher and how its writing ended, the rights to the hub, a token of the order, how many
@@ -185,37 +184,43 @@ pub(crate) struct Ending<D: Disk, L: Life> {
     pub(crate) tally: Tally<L>,
 }
 
-/// Tallies the seats of desks that are used no longer, and gives what the sessions answered. It takes no memory.
-pub(crate) fn tally_all<A, L: Life, R: Wait, D: Disk>(
-    both: Both<A, HubDesk<'_, D, L, R>, D, L>,
-    tally: Tally<L>,
+/// What is left where the sessions' desks are tallied and the writing has ended, with what the sessions answered. Each desk was told of no more than
+/// is committed, and one token of the order has what they found and what was written. It takes no memory.
+pub(crate) fn ending_of<A, L: Life, R: Wait, D: Disk, W>(
+    shared: &Shared<'_, D, L, R, W>,
+    both: Both<(A, Closing<D, L>), D, L>,
 ) -> (Ending<D, L>, A)
-    requires none { tally.counted ≡ 0 }
-    ensures tallied { IsTallied L.start both.entry.held.1.items both.entry.flusher result.0.ordered result.0.published result.0.tally.counted
-        (store_of result.0.flusher) }
+    ensures tallied { (desks : List Desk) → AreTallied desks both.entry.left.1.told both.entry.left.1.ordered both.entry.left.1.tally.counted
+        → IsTallied L.start desks both.entry.flusher result.0.ordered result.0.published result.0.tally.counted (store_of result.0.flusher) }
     ensures written { result.0.written ≡ both.entry.written }
-    ensures seats { result.0.tally.seats ≡ tally.seats + length both.entry.held.1.items }
-    ensures answer { result.1 ≡ both.entry.held.0 }
+    ensures seats { result.0.tally ≡ both.entry.left.1.tally }
+    ensures answer { result.1 ≡ both.entry.left.0 }
 {
     let Both {
         flusher,
         written,
-        rights,
-        held,
+        writer,
+        left,
     } = both;
-    let (answer, desks) = held;
+    let (answer, closing) = left;
+    let Closing {
+        closer,
+        tally,
+        told,
+        ordered: found,
+    } = closing;
     let mut flusher = flusher;
-    let mut tally = tally;
     flusher.kept();
     flusher.lasts();
     flusher.few();
     let mut ordered = flusher.ordered();
     let published = flusher.told().len();
-    tally_desks(&mut flusher, desks, &mut tally, &mut ordered);
+    shared.hub.join(shared.rt, &Found::of(found), &mut ordered);
+    flusher.covers(&told);
     let past = Ending {
         flusher,
         written,
-        rights,
+        rights: Rights { writer, closer },
         ordered,
         published,
         tally,

@@ -1,15 +1,16 @@
 //! A store over a pair of streams.
-ghost use Rattle.std.specs.Prelude.{◌≡◌, false, [], All, IfOk, OnOk, IfErr, IsErrOf, is_ok, length};
+ghost use Rattle.std.specs.Prelude.{◌≡◌, ◌+◌, false, [], All, IfOk, OnOk, IfErr, IsErrOf, is_ok, length};
 ghost use Rattle.recovery.specs.Open.{state_of, has_failed};
 ghost use Rattle.serving.specs.Serving.{beginning};
 ghost use Rattle.flusher.specs.Holding.{store_of};
 ghost use Rattle.server_threads.specs.Answers.{first_desk};
-ghost use Rattle.server_threads.specs.Held.{HasHeld, IsNamed, IsNewServer};
+ghost use Rattle.server_threads.specs.Held.{AreSeated, HasHeld, HaveEnded, IsNamed, IsNewServer};
 ghost use Rattle.server_threads.specs.Served.{WasServed};
 ghost use Rattle.server_threads.specs.Streams.{ByOne, EndsAtHub, first_of};
 
 use crate::beside::hold_beside;
-use crate::life::{Ending, Named, Server, begin, end, make_ready, tally_all};
+use crate::desks::{Closing, Desks};
+use crate::life::{Ending, Named, Server, begin, end, ending_of, make_ready};
 use crate::watch::Watch;
 use crate::writing::Shared;
 use disk::Disk;
@@ -141,17 +142,16 @@ fn hold_at<
     (Ending<D, L>, (OverStreams<I, O>, Result<(), ServingError>)),
     (Flusher<D, L>, OverStreams<I, O>),
 >
-    requires ready { IsNewServer server.held.value server.flusher server.seats.items server.tally }
-    requires one { length server.seats.items ≡ 1 }
+    requires ready { IsNewServer L.parts server.held.value server.flusher server.seats.items server.tally }
+    requires one { L.parts ≡ 2 }
     ensures held { IfOk result (λ all. HasHeld (ByOne (EndsAtHub all.1.1 L.start
         (I.remaining streams.input) (I.remaining all.1.0.input) (O.contents streams.output) (O.contents all.1.0.output)
         (I.has_failed all.1.0.input) (O.has_failed all.1.0.output))) L.start server.flusher all.0.ordered all.0.published all.0.tally.counted
         all.0.written (store_of all.0.flusher)) }
-    ensures seats { IfOk result (λ all. all.0.tally.seats ≡ 1) }
+    ensures seats { IfOk result (λ all. all.0.tally.seats + 1 ≡ L.parts) }
     ensures only { IfOk result (λ all. IfErr all.1.1 (λ e. e ≡ ServingError.Stream)) }
     ensures refused { IfErr result (λ back. (back.0 ≡ server.flusher) × (back.1 ≡ streams)) }
 {
-    let rt = shared.rt;
     let alloc = shared.alloc;
     let Ok(session) = Session::new(alloc) else {
         return Err((server.into_flusher(), streams));
@@ -159,29 +159,54 @@ fn hold_at<
     let Ok(shelf) = Shelf::new(alloc) else {
         return Err((server.into_flusher(), streams));
     };
-    let (ready, tally) = match make_ready(shared, server) {
+    let (ready, seated) = match make_ready(shared, server) {
         Ok(both) => both,
         Err(flusher) => return Err((flusher, streams)),
     };
     match hold_beside(
         shared,
         ready,
-        streams,
-        |streams, desks| -> (
-            (OverStreams<I, O>, Result<(), ServingError>),
-            Vec<HubDesk<'_, D, L, R>>,
-        )
-            requires { (session ≡ beginning) × (shelf ≡ []) × (length desks.items ≡ 1)
-                × All (λ desk. desk ≡ first_desk) desks.items }
-            ensures ends { ByOne (EndsAtHub result.0.1 L.start
-                (I.remaining streams.input) (I.remaining result.0.0.input) (O.contents streams.output) (O.contents result.0.0.output)
-                (I.has_failed result.0.0.input) (O.has_failed result.0.0.output)) result.1.items }
+        (streams, seated),
+        |sessions| -> ((OverStreams<I, O>, Result<(), ServingError>), Closing<D, L>)
+            requires { (session ≡ beginning) × (shelf ≡ []) × (length sessions.1.desks.items ≡ 1)
+                × AreSeated L.parts sessions.1.desks.items sessions.1.closing.tally }
+            ensures ended { HaveEnded (ByOne (EndsAtHub result.0.1 L.start
+                (I.remaining sessions.0.input) (I.remaining result.0.0.input) (O.contents sessions.0.output) (O.contents result.0.0.output)
+                (I.has_failed result.0.0.input) (O.has_failed result.0.0.output))) result.1.told result.1.ordered result.1.tally.counted }
+            ensures seats { result.1.tally.seats + 1 ≡ L.parts }
             ensures only { IfErr result.0.1 (λ e. e ≡ ServingError.Stream) }
-        { serve_one(rt, alloc, session, shelf, streams, desks) },
+        { hold_one(shared, session, shelf, sessions.0, sessions.1) },
     ) {
-        Ok(both) => Ok(tally_all(both, tally)),
-        Err(back) => Err(back),
+        Ok(both) => Ok(ending_of(shared, both)),
+        Err((flusher, sessions)) => {
+            let (streams, _seated) = sessions;
+            Err((flusher, streams))
+        }
     }
+}
+
+// Serves the session, and ends the hub once it has ended.
+fn hold_one<L: Life, R: Wait, I: Input + Drop, O: Output + Drop, D, W>(
+    shared: &Shared<'_, D, L, R, W>,
+    session: Session,
+    shelf: Shelf,
+    streams: OverStreams<I, O>,
+    seated: Desks<'_, D, L, R>,
+) -> ((OverStreams<I, O>, Result<(), ServingError>), Closing<D, L>)
+    requires session { session ≡ beginning }
+    requires shelf { shelf ≡ [] }
+    requires one { length seated.desks.items ≡ 1 }
+    requires seated { AreSeated L.parts seated.desks.items seated.closing.tally }
+    ensures ended { HaveEnded (ByOne (EndsAtHub result.0.1 L.start
+        (I.remaining streams.input) (I.remaining result.0.0.input) (O.contents streams.output) (O.contents result.0.0.output)
+        (I.has_failed result.0.0.input) (O.has_failed result.0.0.output))) result.1.told result.1.ordered result.1.tally.counted }
+    ensures seats { result.1.tally.seats + 1 ≡ L.parts }
+    ensures only { IfErr result.0.1 (λ e. e ≡ ServingError.Stream) }
+{
+    let Desks { desks, mut closing } = seated;
+    let (after, desks) = serve_one(shared.rt, shared.alloc, session, shelf, streams, desks);
+    closing.close(shared.rt, shared.hub, desks);
+    (after, closing)
 }
 
 // What ended the session, or else that the store failed.

@@ -6,7 +6,7 @@ ghost use Rattle.turns.specs.Counting.{IsAt};
 
 use disk::MemDisk;
 use flusher::{Flusher, start};
-use hub::{Closer, Hub, Seat, Ticket, Writer};
+use hub::{Closer, Hub, Seat, Tally, Ticket, Writer};
 use published::{Life, Opened, Told};
 use recovery::Store;
 use revision::Command;
@@ -30,12 +30,40 @@ pub fn started<L: Life>(
     ensures at { IsAt result.2 result.0 }
     ensures nothing { (committed_of result.0 ≡ []) × (waiting_of result.0 ≡ []) }
 {
+    let (flusher, hub, writer, (closer, _tally)) = started_to_end(rt, store, opened, blank, seats);
+    (flusher, hub, writer, closer)
+}
+
+/// And with the tally of its seats, by which the hub can be ended.
+pub fn started_to_end<L: Life>(
+    rt: &(impl Abort + AllocGlobal),
+    store: Store<MemDisk>,
+    opened: Opened,
+    blank: Blank,
+    seats: u32,
+) -> (
+    Flusher<MemDisk, L>,
+    Hub<MemDisk, L>,
+    Writer<L>,
+    (Closer<L>, Tally<L>),
+)
+    requires book { opened ≡ L.book }
+    requires name { blank.name ≡ L.name }
+    requires parts { blank.parts ≡ L.parts }
+    requires seats { blank.parts ≡ seats + 1 }
+    requires begin { state_of store ≡ L.start }
+    ensures at { IsAt result.2 result.0 }
+    ensures nothing { (committed_of result.0 ≡ []) × (waiting_of result.0 ≡ []) }
+    ensures none { result.3.1.seats ≡ 0 }
+{
     let (flusher, board) = match start::<_, L>(rt.alloc(), store, opened, blank, seats) {
         Ok(both) => both,
         Err(fault) => panic!(rt; "{}", fault.refusal),
     };
+    let mut board = board;
+    let tally = board.tally();
     let (hub, writer, closer) = Hub::new(board);
-    (flusher, hub, writer, closer)
+    (flusher, hub, writer, (closer, tally))
 }
 
 /// A command that is taken.

@@ -4,10 +4,10 @@ ghost use Rattle.turns.specs.Counting.{IsAt};
 ghost use Rattle.recovery.specs.Open.{state_of};
 
 use crate::rows::SHAPE;
-use crate::seats::{acknowledged, started, submitted as ordered};
+use crate::seats::{acknowledged, started_to_end, submitted as ordered};
 use disk::MemDisk;
 use flusher::{Flusher, Gate, Moment};
-use hub::{Closer, Hub, Seat, Writer};
+use hub::{Closer, Hub, Seat, Tally, Writer};
 use published::{Life, Opened};
 use recovery::Store;
 use refusal::Refusal;
@@ -79,17 +79,25 @@ fn submitted<L: Life, R: Wait + Abort + AllocGlobal>(
     acknowledged(rt, hub, &last).len()
 }
 
-// Submits both, and then ends the hub.
+// Submits both, tallies both seats, and then ends the hub.
 fn submitted_all<L: Life, R: Wait + Abort + AllocGlobal>(
     rt: &R,
     hub: &Hub<MemDisk, L>,
-    closer: &mut Closer<L>,
-    one: &mut Seat<L>,
-    other: &mut Seat<L>,
+    rights: (Closer<L>, Tally<L>),
+    one: Seat<L>,
+    other: Seat<L>,
     reached: &AtomicBool,
-) -> u64 {
-    let held = submitted(rt, hub, one, other, reached);
-    hub.end(rt, closer);
+) -> u64
+    requires none { rights.1.seats ≡ 0 }
+    requires two { L.parts ≡ 3 }
+{
+    let (mut closer, mut tally) = rights;
+    let mut one = one;
+    let mut other = other;
+    let held = submitted(rt, hub, &mut one, &mut other, reached);
+    tally.add(one);
+    tally.add(other);
+    hub.end(rt, &mut closer, &tally);
     held
 }
 
@@ -130,13 +138,18 @@ fn beside<L: Life + Send + Sync, R: Threads + Wait + Abort + AllocGlobal + Sync>
     requires begin { state_of store ≡ L.start }
 {
     let alloc = rt.alloc();
-    let (mut flusher, hub, mut writer, mut closer) = started::<L>(rt, store, opened, blank, 2);
-    let mut one = hub.seat(rt, &mut closer).expect(rt, "a seat");
-    let mut other = hub.seat(rt, &mut closer).expect(rt, "a seat");
+    let (mut flusher, hub, mut writer, mut rights) = started_to_end::<L>(
+        rt, store, opened, blank, 2,
+    );
+    let one = hub.seat(rt, &mut rights.0).expect(rt, "a seat");
+    let other = hub.seat(rt, &mut rights.0).expect(rt, "a seat");
     let reached = AtomicBool::new(false);
     let (held, saw) = join(
         rt,
-        || submitted_all(rt, &hub, &mut closer, &mut one, &mut other, &reached),
+        ||
+            requires none { rights.1.seats ≡ 0 }
+            requires two { L.parts ≡ 3 }
+        { submitted_all(rt, &hub, rights, one, other, &reached) },
         ||
             requires { IsAt writer flusher }
         { flushed(rt, alloc, &mut flusher, &hub, &mut writer, &reached) },

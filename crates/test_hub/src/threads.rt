@@ -8,7 +8,7 @@ use crate::publishing::Publishing;
 use crate::rows::{CAP, SHAPE};
 use crate::stores::{NEVER, fails_second, store_by};
 use disk::FaultDisk;
-use hub::{Board, Cause, Closer, Hub, Seat, Ticket, Writer};
+use hub::{Board, Cause, Closer, Hub, Seat, Tally, Ticket, Writer};
 use published::{Life, Opened};
 use recovery::{Receipt, Shape, Store};
 use refusal::Refusal;
@@ -71,17 +71,24 @@ fn submitted<L: Life, R: Wait>(
     Ok(held)
 }
 
-// Submits them, and then ends the hub.
+// Submits them by the only seat, tallies it, and then ends the hub.
 fn submitted_all<L: Life, R: Wait>(
     rt: &R,
     alloc: Global,
     hub: &Hub<FaultDisk, L>,
     closer: &mut Closer<L>,
-    seat: &mut Seat<L>,
+    tally: Tally<L>,
+    seat: Seat<L>,
     edits: &[(u64, u32)],
-) -> Result<u64, Refusal> {
-    let answer = submitted(rt, alloc, hub, seat, edits);
-    hub.end(rt, closer);
+) -> Result<u64, Refusal>
+    requires none { tally.seats ≡ 0 }
+    requires one { L.parts ≡ 2 }
+{
+    let mut tally = tally;
+    let mut seat = seat;
+    let answer = submitted(rt, alloc, hub, &mut seat, edits);
+    tally.add(seat);
+    hub.end(rt, closer, &tally);
     answer
 }
 
@@ -168,19 +175,23 @@ fn both<L: Life + Send + Sync, R: Threads + Wait + Abort + AllocGlobal + Sync>(
     requires book { opened ≡ L.book }
     requires name { blank.name ≡ L.name }
     requires parts { blank.parts ≡ L.parts }
-    requires seats { blank.parts ≡ 65 }
+    requires seats { blank.parts ≡ 2 }
     requires start { state_of store ≡ L.start }
 {
     let alloc = rt.alloc();
     let state = store.state().copy(alloc).expect(rt, "memory");
     let (log, told, order) = opened.named::<_, L>();
-    let board = Board::new(alloc, &store, state, told.copy(), order, blank, 64);
+    let mut board = Board::new(alloc, &store, state, told.copy(), order, blank, 1);
+    let tally = board.tally();
     let publishing = Publishing::new(store, log, told);
     let (hub, mut writer, mut closer) = Hub::new(board);
-    let mut seat = hub.seat(rt, &mut closer).expect(rt, "a seat");
+    let seat = hub.seat(rt, &mut closer).expect(rt, "a seat");
     join(
         rt,
-        || submitted_all(rt, alloc, &hub, &mut closer, &mut seat, edits),
+        ||
+            requires none { tally.seats ≡ 0 }
+            requires one { L.parts ≡ 2 }
+        { submitted_all(rt, alloc, &hub, &mut closer, tally, seat, edits) },
         ||
             requires taken { writer.taken ≡ length (commands_of publishing) }
             requires settled { writer.settled ≡ length (commands_of publishing) }
@@ -195,7 +206,7 @@ fn one_submits_while_the_other_writes(rt: HostRuntime) {
     let store = store_by(&rt, shape, NEVER);
     let opened = Opened::new().expect(&rt, "logs");
     let edits = [(1, 1), (2, 14), (3, 20), (3, 20), (4, 9)];
-    let (held, batches) = both::<Brand, _>(&rt, store, opened, Blank::new(65), &edits);
+    let (held, batches) = both::<Brand, _>(&rt, store, opened, Blank::new(2), &edits);
     assert!(rt; held.expect(&rt, "acknowledged") == 4);
     assert!(rt; batches.expect(&rt, "written") == 4);
 }
@@ -206,7 +217,7 @@ fn who_waits_is_told_of_a_failure(rt: HostRuntime) {
     let store = store_by(&rt, SHAPE, fails_second(&rt, SHAPE));
     let opened = Opened::new().expect(&rt, "logs");
     let edits = [(1, 1), (2, 199), (3, 199)];
-    let (held, batches) = both::<Brand, _>(&rt, store, opened, Blank::new(65), &edits);
+    let (held, batches) = both::<Brand, _>(&rt, store, opened, Blank::new(2), &edits);
     assert!(rt; matches!(held, Err(Refusal::StoreFailed)));
     assert!(rt; matches!(batches, Err(Refusal::Fault)));
 }
