@@ -147,7 +147,8 @@ impl<D: Disk, L: Life> Flusher<D, L> {
     }
 
     /// Commits the batch that is held, if it isn't yet, and keeps the receipt. Refused as `Store::commit` refuses it, but never with
-    /// `Stranger`, since the batch is the next part of the order; the batch is held still then. The readers are shown nothing new.
+    /// `Stranger`, since the batch is the next part of the order; the batch is held still then. The readers are shown nothing new. No program
+    /// calls it: `write` commits by itself.
     pub fn commit_held(&mut self, alloc: Global) -> Result<(), Refusal>
         // A crash at any moment leaves the state before it, or the one with the batch.
         ensures goes { Goes (IsWithOrWithout (state_of (store_of self.old)) (commands_of (waiting_of self.old)))

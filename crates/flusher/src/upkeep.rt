@@ -24,7 +24,8 @@ use std::alloc::Global;
 
 impl<D: Disk, L: Life> Flusher<D, L> {
     /// Puts a milestone of the document of this number at a revision, as `Store::put_document` does: hands out its job, composes it here,
-    /// and puts what came of it. Where memory runs out, the document's job is dropped. What is held, and what is published, stays.
+    /// and puts what came of it. Where memory runs out, the document's job is dropped. What is held, and what is published, stays. No program calls
+    /// it: composers compose.
     pub fn put_document(
         &mut self,
         alloc: Global,

@@ -47,7 +47,8 @@ impl<D, L: Life> Written<D, L> {
     }
 
     /// Settles it on a board of the same thread, as `Board::settle` does. Refused with `Stranger` alone, where it isn't what the board has to
-    /// settle next; the board is unchanged then, and the batch, which is on the disk, stays unsettled.
+    /// settle next; the board is unchanged then, and the batch, which is on the disk, stays unsettled. No program calls it: a server settles at
+    /// its hub.
     pub fn settle_on(self, board: &mut Board<D, L>) -> Result<(), Refusal>
         ensures { IsSettledOn board.old self.0.batch self.1 result board.new }
     {

@@ -124,7 +124,8 @@ impl<D, L: Life> Hub<D, L> {
     /// Submits a command to the board, and wakes the flusher. The ticket is of this command, and the seat counts it exactly when the
     /// reply is that it was taken. Refused as `Board::submit` refuses it, and once the end was called, since nobody would write it; the
     /// seat is unchanged then. That the store had failed or the hub had ended is said by a token that the hub alone makes. A ticket, or
-    /// another refusal, is what a board gives that some legal history from the run's start makes.
+    /// another refusal, is what a board gives that some legal history from the run's start makes. No program calls it: a desk submits by
+    /// `submit_after`.
     pub fn submit<R: Wait>(
         &self,
         rt: &R,
@@ -285,7 +286,7 @@ impl<D, L: Life> Hub<D, L> {
     }
 
     /// What `Board::ack` gives for a ticket, at once: a token that holds the ticket's length, `None` where it isn't settled yet, or the token
-    /// that the store has failed.
+    /// that the store has failed. No program calls it: a desk waits by `wait_ack`.
     pub fn ack<R: Wait>(&self, rt: &R, ticket: &Ticket<L>) -> Result<Option<Told<D, L>>, Stopped<L>>
         ensures { StandsAt L.start ticket.now result }
     {
@@ -340,7 +341,7 @@ impl<D, L: Life> Hub<D, L> {
     }
 
     /// A seat more, with nothing counted yet, as `Board::seat` gives it. Refused with `NoSeat` alone, where none is left to give. It
-    /// takes no memory.
+    /// takes no memory. No program calls it: a server takes its seats from the board.
     pub fn seat<R: Wait>(&self, rt: &R, closer: &mut Closer<L>) -> Result<Seat<L>, Refusal>
         ensures new { IfOk result (λ seat. seat ≡ 0) }
         ensures only { IfErr result (λ e. e ≡ Refusal.NoSeat) }
@@ -367,7 +368,7 @@ impl<D, L: Life> Hub<D, L> {
         self.held(rt).join(found, ordered);
     }
 
-    /// How many commands the order has: as many as that of a board of this run had at some moment.
+    /// How many commands the order has: as many as that of a board of this run had at some moment. No program calls it.
     pub fn ordered<R: Wait>(&self, rt: &R) -> usize
         ensures { WasOrdered L.start result }
     {
