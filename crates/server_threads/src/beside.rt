@@ -73,8 +73,8 @@ pub(crate) fn hold_beside<
         |scope| -> Result<Both<B, D, L>, (Flusher<D, L>, S)>
             requires { (written_by.store.value ≡ store_of writing.flusher) × IsStarted writing.flusher × F.pre hold sessions }
             ensures written { IfOk result (λ both. HasWritten L.start writing.entry.flusher both.flusher both.written) }
-            ensures held { IfOk result (λ both. F.post hold.entry sessions.entry both.left) }
-            ensures refused { IfErr result (λ back. (back.0 ≡ writing.entry.flusher) × (back.1 ≡ sessions.entry)) }
+            ensures held { IfOk result (λ both. F.post hold sessions both.left) }
+            ensures refused { IfErr result (λ back. (back.0 ≡ writing.entry.flusher) × (back.1 ≡ sessions)) }
         { hold_in(scope, written_by, writing, sessions, hold) },
     )
 }

@@ -190,11 +190,11 @@ pub(crate) fn ending_of<A, L: Life, R: Wait, D: Disk, W>(
     shared: &Shared<'_, D, L, R, W>,
     both: Both<(A, Closing<D, L>), D, L>,
 ) -> (Ending<D, L>, A)
-    ensures tallied { (desks : List Desk) → AreTallied desks both.entry.left.1.told both.entry.left.1.ordered both.entry.left.1.tally.counted
-        → IsTallied L.start desks both.entry.flusher result.0.ordered result.0.published result.0.tally.counted (store_of result.0.flusher) }
-    ensures written { result.0.written ≡ both.entry.written }
-    ensures seats { result.0.tally ≡ both.entry.left.1.tally }
-    ensures answer { result.1 ≡ both.entry.left.0 }
+    ensures tallied { (desks : List Desk) → AreTallied desks both.left.1.told both.left.1.ordered both.left.1.tally.counted
+        → IsTallied L.start desks both.flusher result.0.ordered result.0.published result.0.tally.counted (store_of result.0.flusher) }
+    ensures written { result.0.written ≡ both.written }
+    ensures seats { result.0.tally ≡ both.left.1.tally }
+    ensures answer { result.1 ≡ both.left.0 }
 {
     let Both {
         flusher,

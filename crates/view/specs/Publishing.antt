@@ -32,9 +32,9 @@ pub record ReadsOn (start : State) (old new : List (List Taken)) : Type 0 where
   pub kept : IsPrefix old new
   pub grows : all_grow start (commands_of new) ≡ true
 
--- The state that some published batches make, which go on from those that a reader has seen, was lent to a function; `batches` tells which these are
--- by what came of it, and `Returns` what the function gives of a state. Refused with `StoreFailed` alone.
-pub record IsLent {A : Type 0} (start : State) (old : List (List Taken)) (result : Result A Refusal) (batches : A → List (List Taken)) (Returns : State → A → Type 0) : Type 0 where
-  pub seen : IfOk result (λ a. ReadsOn start old (batches a))
-  pub answer : IfOk result (λ a. (s : State) × (s ≡ fold start (commands_of (batches a))) × Returns s a)
+-- The state that some published batches make, which go on from those that a reader has seen, was lent to a function; `there` tells these batches by
+-- what came of it, and `Returns` what the function gives of a state. Refused with `StoreFailed` alone.
+pub record IsLent {A : Type 0} (start : State) (old : List (List Taken)) (result : Result A Refusal) (there : A → List (List Taken)) (Returns : State → A → Type 0) : Type 0 where
+  pub seen : IfOk result (λ a. ReadsOn start old (there a))
+  pub answer : IfOk result (λ a. (s : State) × (s ≡ fold start (commands_of (there a))) × Returns s a)
   pub only : IfErr result (λ e. e ≡ StoreFailed)
