@@ -185,7 +185,7 @@ module _ {D L : Type 0} {disk : Ghosts D} where
   }
 
   -- how the hub's tokens say that it ended, without the tokens
-  pub written_well : {A : Type 0} (start : State) (old new : Flusher D L disk) (token : A) → HasWritten start old new (Ok token) → HasWritten start old new (Ok tt)
+  pub written_well : {A : Type 0} (start : State) (old new : Flusher D L disk) (token : A) → HasWritten start old new (Ok token) → HasWritten start old new (Ok (tt {0}))
   written_well start old new token wrote = record {
     writes = wrote.writes;
     nothing = wrote.nothing;

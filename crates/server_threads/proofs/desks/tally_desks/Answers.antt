@@ -28,7 +28,7 @@ loop-desk-preserved g c =
       seats = one_seat_more c.args.tally.now.seats at.tally.seats c.add.new.self.seats at.yielded desk i.seats (ap (λ t. t.seats) c.add.ensures);
       counted = one_count_more c.args.tally.now.counted at.tally.counted c.add.new.self.counted at.yielded desk i.counted
           (ap (λ t. t.counted) c.add.ensures ∙ ap (λ n. at.tally.counted + n) c.into_parts-seat.ensures.seat);
-      told = one_told_more at.told c.learn.new.self at.yielded desk i.told c.learn.ensures.this (subst (λ t. IsPrefix t c.learn.new.self) told c.learn.ensures.that);
+      told = one_told_more at.told c.learn-in-loop-desk.new.self at.yielded desk i.told c.learn-in-loop-desk.ensures.this (subst (λ t. IsPrefix t c.learn-in-loop-desk.new.self) told c.learn-in-loop-desk.ensures.that);
       found = one_found_more at.ordered c.join.new.ordered at.yielded desk i.found c.join.ensures.before c.join.ensures.found;
     }
 

@@ -4,8 +4,8 @@ use Rattle.server_threads.proofs.Tallied.{from_nothing}
 use Rattle.server_threads.proofs.desks.Closing.close.Goals as goal
 
 -- all seats are tallied
-pub end-requires-clause-all : goal.end-requires-clause-all
-end-requires-clause-all g c = omega (arith, c.requires.all, c.tally_desks.ensures.seats)
+pub end-requires : goal.end-requires
+end-requires g c = omega (arith, c.requires.all, c.tally_desks.ensures.seats)
 
 pub returns-clause-all : goal.returns-clause-all
 returns-clause-all g c = omega (arith, c.requires.all, c.tally_desks.ensures.seats)
