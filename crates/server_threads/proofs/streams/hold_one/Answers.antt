@@ -1,12 +1,13 @@
-use Rattle.std.proofs.Common.{◌≡◌, length, ap, arith}
+use Rattle.std.proofs.Common.{◌≡◌, ◌+◌, length, ap, arith, rules}
 use Rattle.server_threads.proofs.streams.hold_one.Goals as goal
 
 -- one desk comes back
 pub close-requires : goal.close-requires
-close-requires g c = record {
-  all = omega (arith, c.requires.seated.all, c.requires.one, ap (λ l. length l) c.serve_one-after.ensures.ends.one);
-  none = c.requires.seated.none;
-}
+close-requires g c =
+    let all : c.args.seated.closing.tally.seats + length c.serve_one-after.result.1.items + 1 ≡ g.L.Ledger.parts =
+    omega (arith, c.requires.seated.all, c.requires.one, ap (λ l. length l) c.serve_one-after.ensures.ends.one) in
+    let none = c.requires.seated.none in
+    search rules
 
 pub returns-clause-ended : goal.returns-clause-ended
 returns-clause-ended g c = record {
