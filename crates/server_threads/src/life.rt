@@ -215,7 +215,8 @@ pub(crate) fn ending_of<A, L: Life, R: Wait, D: Disk, W>(
     flusher.few();
     let mut ordered = flusher.ordered();
     let published = flusher.told().len();
-    shared.hub.join(shared.rt, &Found::of(found), &mut ordered);
+    let found = Found::of(found);
+    shared.hub.join(shared.rt, &found, &mut ordered);
     flusher.covers(&told);
     let past = Ending {
         flusher,

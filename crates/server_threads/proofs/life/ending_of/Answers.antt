@@ -18,7 +18,7 @@ returns-clause-tallied g c desks tallied =
       few_waiting = c.few.ensures.waiting;
       begins = begins_longer (commands_of (told_of last ++ (committed_of last ++ waiting_of last))) c.ordered-ordered.result c.join.new.ordered
           c.ordered-ordered.ensures.begins c.join.ensures.before;
-      found = found_longer closing.ordered c.join.new.ordered desks (subst (λ l. IsPrefix l c.join.new.ordered) c.of.ensures c.join.ensures.found) tallied.found;
+      found = found_longer closing.ordered c.join.new.ordered desks (subst (λ l. IsPrefix l c.join.new.ordered) c.of-found.ensures c.join.ensures.found) tallied.found;
       so_many = c.len-published.ensures ∙ ap (λ t. length (commands_of t)) c.told.ensures;
       told = told_longer closing.told (told_of last ++ committed_of last) desks c.covers.ensures.begins tallied.told;
       counts = tallied.counts;
