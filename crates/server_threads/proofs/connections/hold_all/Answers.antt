@@ -2,8 +2,11 @@ use Rattle.std.proofs.Common.{◌≡◌, length, arith, sym}
 use Rattle.server_threads.proofs.connections.hold_all.Goals as goal
 
 -- as many desks come back as there were
-pub close-requires-clause-all : goal.close-requires-clause-all
-close-requires-clause-all g c = omega (arith, c.requires.seated.all, c.serve_all-heard.ensures.as_many)
+pub close-requires : goal.close-requires
+close-requires g c = record {
+  all = omega (arith, c.requires.seated.all, c.serve_all-heard.ensures.as_many);
+  none = c.requires.seated.none;
+}
 
 pub returns-clause-ended : goal.returns-clause-ended
 returns-clause-ended g c = record {
