@@ -3,6 +3,7 @@ use Rattle.refusal.specs.declared.Refusal.TheVariants.{NoMemory, Fault}
 use Rattle.recovery.specs.Open.{has_failed}
 use Rattle.flusher.specs.Holding.{store_of}
 use Rattle.flusher.specs.Writing.{IsFullForGood}
+use Rattle.flusher.proofs.CallerLemmas.{no_error}
 use Rattle.turns.proofs.Writing.{full_for_good, writes_refused, writes_written, one_written, turn_failed, works_after, fails_ok, fails_same}
 use Rattle.turns.proofs.Counting.{at_still, at_settled, comes_next}
 use Rattle.turns.specs.Writing.{IsTurnFailed}
@@ -45,7 +46,7 @@ returns-clause-turn g c =
       writes = writes_written g.L.Life.start c.args.flusher.now c.write.new.self c.in-Some.both c.kept.ensures c.kept-in-Some.ensures c.write.ensures.writes.goes works done;
       turned = (one_written c.args.flusher.now c.write.new.self c.in-Some.both done, c.settle-receipt.ensures.settled.settled ∙ done.some.token_is);
       nothing = (done.committed, done.waiting);
-      unpublished = λ is. absurd cc;
+      unpublished = λ is. absurd (no_error (Settled _) NoMemory is);
       fails = fails_ok (Settled _) old new works;
       causes = tt;
     }
