@@ -182,7 +182,7 @@ fn hold_at<
             ensures ended { HaveEnded (EachHasServed L.start (visits_of result.0.attendance)) result.1.told result.1.ordered
                 result.1.tally.counted }
             ensures seats { result.1.tally.seats + 1 ≡ L.parts }
-            ensures attended { IsAttended (N.arrivals sessions.0) (N.arrivals result.0.listener) result.0.attendance }
+            ensures attended { IsAttended (N.arrivals sessions.entry.0) (N.arrivals result.0.listener) result.0.attendance }
             ensures complete { OnOk result.0.answer (result.0.attendance.is_complete ≡ true) }
         { hold_all(shared, sessions.0, sessions.1, idle) },
     ) {

@@ -171,7 +171,7 @@ fn hold_at<
             requires { (session ≡ beginning) × (shelf ≡ []) × (length sessions.1.desks.items ≡ 1)
                 × AreSeated L.parts sessions.1.desks.items sessions.1.closing.tally }
             ensures ended { HaveEnded (ByOne (EndsAtHub result.0.1 L.start
-                (I.remaining sessions.0.input) (I.remaining result.0.0.input) (O.contents sessions.0.output) (O.contents result.0.0.output)
+                (I.remaining sessions.entry.0.input) (I.remaining result.0.0.input) (O.contents sessions.entry.0.output) (O.contents result.0.0.output)
                 (I.has_failed result.0.0.input) (O.has_failed result.0.0.output))) result.1.told result.1.ordered result.1.tally.counted }
             ensures seats { result.1.tally.seats + 1 ≡ L.parts }
             ensures only { IfErr result.0.1 (λ e. e ≡ ServingError.Stream) }

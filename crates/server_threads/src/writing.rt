@@ -129,7 +129,7 @@ fn write_beside<'a, D: Disk + Drop, L: Life, R: Threads + Wait + Sync, W: Watch<
 }
 
 // Makes turns until the hub is ended. Where the store fails the watch is told.
-#[tactic(auto, using(crate::proofs::Served::written_well, crate::proofs::Served::written_ill))]
+#[tactic(auto, using(crate::proofs::Served::written_well))]
 fn write_all<L: Life, R: Wait, D: Disk, W: Watch<D>>(
     shared: &Shared<'_, D, L, R, W>,
     flusher: &mut Flusher<D, L>,
