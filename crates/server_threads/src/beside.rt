@@ -20,19 +20,21 @@ use std::sync::atomic::{AtomicBool, Ordering};
 use std::thread::{self, Scope, Threads};
 
 /// What came of both: the flusher, how its writing ended, its right to write, and what the sessions left.
-pub(crate) struct Both<B, D: Disk, L: Life> {
+pub(crate) struct Both<A, C, D: Disk, L: Life> {
     pub(crate) flusher: Flusher<D, L>,
     pub(crate) written: Result<(), Refusal>,
     pub(crate) writer: Writer<L>,
-    pub(crate) left: B,
+    pub(crate) left: (A, C),
 }
 
 /// Holds sessions in this thread, as `hold` does, while another thread writes until the hub is ended, which `hold` is to do once they have
 /// ended. Where the system gives no thread nobody is held, and the flusher and the sessions are given back unchanged.
 pub(crate) fn hold_beside<
     S: Drop,
-    B: Drop,
-    F: FnOnce(S) -> B,
+    K: Drop,
+    A: Drop,
+    C: Drop,
+    F: FnOnce(S, K) -> (A, C),
     L: Life + Sync + Send,
     R: Threads + Wait + Sync,
     D: Disk + Send + Drop,
@@ -41,13 +43,14 @@ pub(crate) fn hold_beside<
     shared: &Shared<'_, D, L, R, W>,
     ready: Ready<D, L>,
     sessions: S,
+    desks: K,
     hold: F,
-) -> Result<Both<B, D, L>, (Flusher<D, L>, S)>
+) -> Result<Both<A, C, D, L>, (Flusher<D, L>, S)>
     requires held { ready.held.value ≡ store_of ready.flusher }
     requires started { IsStarted ready.flusher }
-    requires callable { F.pre hold sessions }
+    requires callable { F.pre hold sessions desks }
     ensures written { IfOk result (λ both. HasWritten L.start ready.flusher both.flusher both.written) }
-    ensures held { IfOk result (λ both. F.post hold sessions both.left) }
+    ensures held { IfOk result (λ both. F.post hold sessions desks both.left) }
     ensures refused { IfErr result (λ back. (back.0 ≡ ready.flusher) × (back.1 ≡ sessions)) }
 {
     let Ready {
@@ -70,12 +73,12 @@ pub(crate) fn hold_beside<
     thread::scope(
         thread::scope_env(),
         shared.rt,
-        |scope| -> Result<Both<B, D, L>, (Flusher<D, L>, S)>
-            requires { (written_by.store.value ≡ store_of writing.flusher) × IsStarted writing.flusher × F.pre hold sessions }
+        |scope| -> Result<Both<A, C, D, L>, (Flusher<D, L>, S)>
+            requires { (written_by.store.value ≡ store_of writing.flusher) × IsStarted writing.flusher × F.pre hold sessions desks }
             ensures written { IfOk result (λ both. HasWritten L.start writing.entry.flusher both.flusher both.written) }
-            ensures held { IfOk result (λ both. F.post hold sessions both.left) }
+            ensures held { IfOk result (λ both. F.post hold sessions desks both.left) }
             ensures refused { IfErr result (λ back. (back.0 ≡ writing.entry.flusher) × (back.1 ≡ sessions)) }
-        { hold_in(scope, written_by, writing, sessions, hold) },
+        { hold_in(scope, written_by, writing, sessions, desks, hold) },
     )
 }
 
@@ -84,8 +87,10 @@ fn hold_in<
     's,
     E,
     S: Drop,
-    B: Drop,
-    F: FnOnce(S) -> B,
+    K: Drop,
+    A: Drop,
+    C: Drop,
+    F: FnOnce(S, K) -> (A, C),
     L: Life + Sync + Send,
     R: Threads + Wait + Sync,
     D: Disk + Send + Drop,
@@ -95,13 +100,14 @@ fn hold_in<
     written_by: WrittenBy<D, L>,
     writing: Writing<'s, D, L, R, W>,
     sessions: S,
+    desks: K,
     hold: F,
-) -> Result<Both<B, D, L>, (Flusher<D, L>, S)>
+) -> Result<Both<A, C, D, L>, (Flusher<D, L>, S)>
     requires held { written_by.store.value ≡ store_of writing.flusher }
     requires started { IsStarted writing.flusher }
-    requires callable { F.pre hold sessions }
+    requires callable { F.pre hold sessions desks }
     ensures written { IfOk result (λ both. HasWritten L.start writing.entry.flusher both.flusher both.written) }
-    ensures held { IfOk result (λ both. F.post hold sessions both.left) }
+    ensures held { IfOk result (λ both. F.post hold sessions desks both.left) }
     ensures refused { IfErr result (λ back. (back.0 ≡ writing.entry.flusher) × (back.1 ≡ sessions)) }
 {
     let rt = writing.shared.rt;
@@ -115,7 +121,7 @@ fn hold_in<
     );
     match spawned {
         Ok(thread) => {
-            let left = hold(sessions);
+            let left = hold(sessions, desks);
             let (flusher, written, writer) = thread.join(rt).into_parts();
             Ok(Both {
                 flusher,
@@ -133,7 +139,7 @@ fn hold_in<
                 return Err((flusher, sessions));
             }
             // Never reached: without a thread no run begins. No clause says what an atomic holds, so the sessions are held here too.
-            let left = hold(sessions);
+            let left = hold(sessions, desks);
             Ok(Both {
                 flusher,
                 written,

@@ -173,24 +173,25 @@ fn hold_at<
         Ok(both) => both,
         Err(flusher) => return Err((flusher, listener)),
     };
+    let rt = shared.rt;
+    let alloc = shared.alloc;
+    let watch = shared.watch;
     match hold_beside(
         shared,
         ready,
-        (listener, seated),
-        |sessions| -> (Heard<N>, Closing<D, L>)
-            requires { AreSeated L.parts sessions.1.desks.items sessions.1.closing.tally }
+        listener,
+        seated,
+        |listener, seated| -> (Heard<N>, Closing<D, L>)
+            requires { AreSeated L.parts seated.desks.items seated.closing.tally }
             ensures ended { HaveEnded (EachHasServed L.start (visits_of result.0.attendance)) result.1.told result.1.ordered
                 result.1.tally.counted }
             ensures seats { result.1.tally.seats + 1 ≡ L.parts }
-            ensures attended { IsAttended (N.arrivals sessions.entry.0) (N.arrivals result.0.listener) result.0.attendance }
+            ensures attended { IsAttended (N.arrivals listener) (N.arrivals result.0.listener) result.0.attendance }
             ensures complete { OnOk result.0.answer (result.0.attendance.is_complete ≡ true) }
-        { hold_all(shared, sessions.0, sessions.1, idle) },
+        { hold_all(rt, alloc, listener, seated, idle, watch) },
     ) {
         Ok(both) => Ok(ending_of(shared, both)),
-        Err((flusher, sessions)) => {
-            let (listener, _seated) = sessions;
-            Err((flusher, listener))
-        }
+        Err(back) => Err(back),
     }
 }
 
@@ -202,10 +203,12 @@ fn hold_all<
     D: Send + Drop,
     W: Watch<D>,
 >(
-    shared: &Shared<'_, D, L, R, W>,
+    rt: &R,
+    alloc: Global,
     listener: N,
     seated: Desks<'_, D, L, R>,
     idle: u32,
+    watch: &W,
 ) -> (Heard<N>, Closing<D, L>)
     requires seated { AreSeated L.parts seated.desks.items seated.closing.tally }
     ensures ended { HaveEnded (EachHasServed L.start (visits_of result.0.attendance)) result.1.told result.1.ordered result.1.tally.counted }
@@ -213,9 +216,13 @@ fn hold_all<
     ensures attended { IsAttended (N.arrivals listener) (N.arrivals result.0.listener) result.0.attendance }
     ensures complete { OnOk result.0.answer (result.0.attendance.is_complete ≡ true) }
 {
-    let Desks { desks, mut closing } = seated;
-    let (heard, desks) = serve_all(shared.rt, shared.alloc, desks, listener, idle, shared.watch);
-    closing.close(shared.rt, shared.hub, desks);
+    let Desks {
+        hub,
+        desks,
+        mut closing,
+    } = seated;
+    let (heard, desks) = serve_all(rt, alloc, desks, listener, idle, watch);
+    closing.close(rt, hub, desks);
     (heard, closing)
 }
 

@@ -84,9 +84,10 @@ fn tally_desks<L: Life, R: Wait, D>(
     }
 }
 
-/// Desks at which sessions can be held, and what closes the hub behind them.
+/// The desks of a hub at which sessions can be held, and what closes it behind them.
 #[derive(Drop)]
 pub(crate) struct Desks<'a, D, L: Life, R> {
+    pub(crate) hub: &'a Hub<D, L>,
     pub(crate) desks: Vec<HubDesk<'a, D, L, R>>,
     pub(crate) closing: Closing<D, L>,
 }

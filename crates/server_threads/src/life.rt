@@ -170,7 +170,12 @@ pub(crate) fn make_ready<'a, L: Life, R: Wait, D: Disk + Drop, W: Watch<D>>(
         flusher,
         writer,
     };
-    Ok((ready, Desks { desks, closing }))
+    let seated = Desks {
+        hub: shared.hub,
+        desks,
+        closing,
+    };
+    Ok((ready, seated))
 }
 
 /// What is left where all sessions have ended: the flusher and how its writing ended, the rights to the hub, a token of the order, how many
@@ -188,7 +193,7 @@ pub(crate) struct Ending<D: Disk, L: Life> {
 /// is committed, and one token of the order has what they found and what was written. It takes no memory.
 pub(crate) fn ending_of<A, L: Life, R: Wait, D: Disk, W>(
     shared: &Shared<'_, D, L, R, W>,
-    both: Both<(A, Closing<D, L>), D, L>,
+    both: Both<A, Closing<D, L>, D, L>,
 ) -> (Ending<D, L>, A)
     ensures tallied { (desks : List Desk) → AreTallied desks both.left.1.told both.left.1.ordered both.left.1.tally.counted
         → IsTallied L.start desks both.flusher result.0.ordered result.0.published result.0.tally.counted (store_of result.0.flusher) }

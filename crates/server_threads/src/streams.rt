@@ -152,6 +152,7 @@ fn hold_at<
     ensures only { IfOk result (λ all. IfErr all.1.1 (λ e. e ≡ ServingError.Stream)) }
     ensures refused { IfErr result (λ back. (back.0 ≡ server.flusher) × (back.1 ≡ streams)) }
 {
+    let rt = shared.rt;
     let alloc = shared.alloc;
     let Ok(session) = Session::new(alloc) else {
         return Err((server.into_flusher(), streams));
@@ -166,28 +167,27 @@ fn hold_at<
     match hold_beside(
         shared,
         ready,
-        (streams, seated),
-        |sessions| -> ((OverStreams<I, O>, Result<(), ServingError>), Closing<D, L>)
-            requires { (session ≡ beginning) × (shelf ≡ []) × (length sessions.1.desks.items ≡ 1)
-                × AreSeated L.parts sessions.1.desks.items sessions.1.closing.tally }
+        streams,
+        seated,
+        |streams, seated| -> ((OverStreams<I, O>, Result<(), ServingError>), Closing<D, L>)
+            requires { (session ≡ beginning) × (shelf ≡ []) × (length seated.desks.items ≡ 1)
+                × AreSeated L.parts seated.desks.items seated.closing.tally }
             ensures ended { HaveEnded (ByOne (EndsAtHub result.0.1 L.start
-                (I.remaining sessions.entry.0.input) (I.remaining result.0.0.input) (O.contents sessions.entry.0.output) (O.contents result.0.0.output)
+                (I.remaining streams.input) (I.remaining result.0.0.input) (O.contents streams.output) (O.contents result.0.0.output)
                 (I.has_failed result.0.0.input) (O.has_failed result.0.0.output))) result.1.told result.1.ordered result.1.tally.counted }
             ensures seats { result.1.tally.seats + 1 ≡ L.parts }
             ensures only { IfErr result.0.1 (λ e. e ≡ ServingError.Stream) }
-        { hold_one(shared, session, shelf, sessions.0, sessions.1) },
+        { hold_one(rt, alloc, session, shelf, streams, seated) },
     ) {
         Ok(both) => Ok(ending_of(shared, both)),
-        Err((flusher, sessions)) => {
-            let (streams, _seated) = sessions;
-            Err((flusher, streams))
-        }
+        Err(back) => Err(back),
     }
 }
 
 // Serves the session, and ends the hub once it has ended.
-fn hold_one<L: Life, R: Wait, I: Input + Drop, O: Output + Drop, D, W>(
-    shared: &Shared<'_, D, L, R, W>,
+fn hold_one<L: Life, R: Wait, I: Input + Drop, O: Output + Drop, D>(
+    rt: &R,
+    alloc: Global,
     session: Session,
     shelf: Shelf,
     streams: OverStreams<I, O>,
@@ -203,9 +203,13 @@ fn hold_one<L: Life, R: Wait, I: Input + Drop, O: Output + Drop, D, W>(
     ensures seats { result.1.tally.seats + 1 ≡ L.parts }
     ensures only { IfErr result.0.1 (λ e. e ≡ ServingError.Stream) }
 {
-    let Desks { desks, mut closing } = seated;
-    let (after, desks) = serve_one(shared.rt, shared.alloc, session, shelf, streams, desks);
-    closing.close(shared.rt, shared.hub, desks);
+    let Desks {
+        hub,
+        desks,
+        mut closing,
+    } = seated;
+    let (after, desks) = serve_one(rt, alloc, session, shelf, streams, desks);
+    closing.close(rt, hub, desks);
     (after, closing)
 }
 

@@ -11,13 +11,13 @@ use Rattle.server_threads.proofs.beside.hold_in.Goals as goal
 -- the thread that writes has the flusher, and shares the hub
 pub spawn_with-spawned-requires-send-F : goal.spawn_with-spawned-requires-send-F
 spawn_with-spawned-requires-send-F g c κs within =
-    let writing = writing_send (record { mir = named 6; lft = κs.1.1.1.1.1.1.0 }) (param 6 g.row.D) (param 4 g.row.L) (param 5 g.row.R) (param 7 g.row.W) g.D.Disk g.L.Life g.L.Ledger c.type_bounds.send-D c.type_bounds.send-L c.type_bounds.sync-L c.type_bounds.sync-R c.type_bounds.sync-W in
+    let writing = writing_send (record { mir = named 6; lft = κs.1.1.1.1.1.1.0 }) (param 8 g.row.D) (param 6 g.row.L) (param 7 g.row.R) (param 9 g.row.W) g.D.Disk g.L.Life g.L.Ledger c.type_bounds.send-D c.type_bounds.send-L c.type_bounds.sync-L c.type_bounds.sync-R c.type_bounds.sync-W in
     search (param_send, arg_send, recorded_send, struct_send) depth 8
 
 -- and gives the flusher back
 pub spawn_with-spawned-requires-send-T : goal.spawn_with-spawned-requires-send-T
 spawn_with-spawned-requires-send-T g c κs within =
-    let written = written_send (record { mir = named 6; lft = κs.1.1.1.1.1.1.0 }) (param 6 g.row.D) (param 4 g.row.L) (param 5 g.row.R) g.D.Disk g.L.Life g.L.Ledger c.type_bounds.send-D c.type_bounds.send-L c.type_bounds.sync-L c.type_bounds.sync-R in
+    let written = written_send (record { mir = named 6; lft = κs.1.1.1.1.1.1.0 }) (param 8 g.row.D) (param 6 g.row.L) (param 7 g.row.R) g.D.Disk g.L.Life g.L.Ledger c.type_bounds.send-D c.type_bounds.send-L c.type_bounds.sync-L c.type_bounds.sync-R in
     search (param_send, arg_send) depth 4
 
 -- what it promises

@@ -13,7 +13,7 @@ returns-in-Ok-hold_beside-clause-held g c =
     let both = c.in-Ok-hold_beside.both in
     let past = c.ending_of.result.0 in
     let closing = both.left.1 in
-    let ended : HaveEnded (EachHasServed g.L.Life.start (visits_of both.left.0.attendance)) closing.told closing.ordered closing.tally.counted = c.in-Ok-hold_beside.ensures.held.ended in
+    let ended : HaveEnded (EachHasServed g.L.Life.start (visits_of both.left.0.attendance)) closing.told closing.ordered closing.tally.counted = search rules in
     has_held (EachHasServed g.L.Life.start (visits_of c.ending_of.result.1.attendance)) g.L.Life.start c.args.server.flusher c.in-Ok.both.0.flusher both.flusher
     closing.told closing.ordered past.ordered past.published closing.tally.counted past.tally.counted both.written past.written (store_of past.flusher)
     c.in-Ok.ensures.flusher c.in-Ok.ensures.kept c.in-Ok-hold_beside.ensures.written c.ending_of.ensures.written c.ending_of.ensures.tallied
@@ -22,16 +22,16 @@ returns-in-Ok-hold_beside-clause-held g c =
 pub returns-in-Ok-hold_beside-clause-attended : goal.returns-in-Ok-hold_beside-clause-attended
 returns-in-Ok-hold_beside-clause-attended g c =
     let heard = c.in-Ok-hold_beside.both.left.0 in
-    let attended : IsAttended (g.N.Listen.arrivals c.args.listener) (g.N.Listen.arrivals heard.listener) heard.attendance = c.in-Ok-hold_beside.ensures.held.attended in
+    let attended : IsAttended (g.N.Listen.arrivals c.args.listener) (g.N.Listen.arrivals heard.listener) heard.attendance = search rules in
     subst (λ h. IsAttended (g.N.Listen.arrivals c.args.listener) (g.N.Listen.arrivals h.listener) h.attendance) (sym c.ending_of.ensures.answer) attended
 
 pub returns-in-Ok-hold_beside-clause-complete : goal.returns-in-Ok-hold_beside-clause-complete
 returns-in-Ok-hold_beside-clause-complete g c =
     let heard = c.in-Ok-hold_beside.both.left.0 in
-    let complete : OnOk heard.answer (heard.attendance.is_complete ≡ true) = c.in-Ok-hold_beside.ensures.held.complete in
+    let complete : OnOk heard.answer (heard.attendance.is_complete ≡ true) = search rules in
     subst (λ h. OnOk h.answer (h.attendance.is_complete ≡ true)) (sym c.ending_of.ensures.answer) complete
 
 pub returns-in-Ok-hold_beside-clause-seats : goal.returns-in-Ok-hold_beside-clause-seats
 returns-in-Ok-hold_beside-clause-seats g c =
-    let all : c.in-Ok-hold_beside.both.left.1.tally.seats + 1 ≡ g.L.Ledger.parts = c.in-Ok-hold_beside.ensures.held.seats in
+    let all : c.in-Ok-hold_beside.both.left.1.tally.seats + 1 ≡ g.L.Ledger.parts = search rules in
     omega (arith, ap (λ t. t.seats) c.ending_of.ensures.seats, all)

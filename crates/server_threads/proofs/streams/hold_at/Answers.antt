@@ -22,7 +22,7 @@ returns-in-Ok-hold_beside-clause-held g c =
     let closing = both.left.1 in
     let ended : HaveEnded (ByOne (EndsAtHub both.left.0.1 g.L.Life.start (g.I.Input.remaining c.args.streams.input) (g.I.Input.remaining both.left.0.0.input)
     (g.O.Output.contents c.args.streams.output) (g.O.Output.contents both.left.0.0.output) (g.I.Input.has_failed both.left.0.0.input) (g.O.Output.has_failed both.left.0.0.output)))
-    closing.told closing.ordered closing.tally.counted = c.in-Ok-hold_beside.ensures.held.ended in
+    closing.told closing.ordered closing.tally.counted = search rules in
     has_held (ByOne (EndsAtHub c.ending_of.result.1.1 g.L.Life.start (g.I.Input.remaining c.args.streams.input) (g.I.Input.remaining c.ending_of.result.1.0.input)
     (g.O.Output.contents c.args.streams.output) (g.O.Output.contents c.ending_of.result.1.0.output) (g.I.Input.has_failed c.ending_of.result.1.0.input) (g.O.Output.has_failed c.ending_of.result.1.0.output))) g.L.Life.start c.args.server.flusher c.in-Ok-make_ready.both.0.flusher both.flusher
     closing.told closing.ordered past.ordered past.published closing.tally.counted past.tally.counted both.written past.written (store_of past.flusher)
@@ -33,10 +33,10 @@ returns-in-Ok-hold_beside-clause-held g c =
 
 pub returns-in-Ok-hold_beside-clause-only : goal.returns-in-Ok-hold_beside-clause-only
 returns-in-Ok-hold_beside-clause-only g c =
-    let only : IfErr c.in-Ok-hold_beside.both.left.0.1 (λ e. e ≡ Stream) = c.in-Ok-hold_beside.ensures.held.only in
+    let only : IfErr c.in-Ok-hold_beside.both.left.0.1 (λ e. e ≡ Stream) = search rules in
     subst (λ a. IfErr a.1 (λ e. e ≡ Stream)) (sym c.ending_of.ensures.answer) only
 
 pub returns-in-Ok-hold_beside-clause-seats : goal.returns-in-Ok-hold_beside-clause-seats
 returns-in-Ok-hold_beside-clause-seats g c =
-    let all : c.in-Ok-hold_beside.both.left.1.tally.seats + 1 ≡ g.L.Ledger.parts = c.in-Ok-hold_beside.ensures.held.seats in
+    let all : c.in-Ok-hold_beside.both.left.1.tally.seats + 1 ≡ g.L.Ledger.parts = search rules in
     omega (arith, ap (λ t. t.seats) c.ending_of.ensures.seats, all)
