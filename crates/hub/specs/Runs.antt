@@ -43,10 +43,18 @@ pub record MaySettle (board : Progress Entry) (batch : List Taken) (told : ℕ) 
   pub next : batch ≡ takens (take (length batch) (drop board.settled board.order))
   pub count : can_settle board (length batch) told ≡ true
 
--- what the one who writes has taken off the order, and how much of that is settled
+-- what the one who writes has taken off the order, how much of that is settled, and 1 once it was told that all of the order is taken off and
+-- nothing comes any more, 0 before
 pub record Writer : Type 0 where
   pub taken : ℕ
   pub settled : ℕ
+  pub ended : ℕ
+
+-- As much of a board's order is taken off and settled as a writer counts; all of it, where the writer was told that nothing comes any more.
+pub record IsCountedBy (writer : Writer) (board : Progress Entry) : Type 0 where
+  pub taken : writer.taken ≡ board.taken
+  pub settled : writer.settled ≡ board.settled
+  pub all : writer.ended ≡ 1 → writer.taken ≡ length board.order
 
 -- A batch comes next after what a writer has settled: it has a command, what was told to be published ends with it, and has before it as many
 -- commands as are settled; and all of it is taken off.
@@ -63,3 +71,7 @@ counts_taken writer count = record writer { taken = writer.taken + count }
 
 abbrev pub counts_settled : Writer → ℕ → Writer
 counts_settled writer count = record writer { settled = writer.settled + count }
+
+-- it was told that nothing comes any more
+abbrev pub counts_ended : Writer → Writer
+counts_ended writer = record writer { ended = 1 }

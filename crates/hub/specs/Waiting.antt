@@ -10,12 +10,14 @@ pub record Turns : Type 0 where
   pub writing : ℕ
   pub alone : Bool
 
--- the board, what is awaited at each place, the turns, and whether the end was called
+-- the board, what is awaited at each place, the turns, whether the end was called, and whether the writer was told so with nothing left to take
+-- off
 pub record Locked : Type 0 where
   pub board : Board
   pub awaited : List Awaited
   pub turns : Turns
   pub ended : Bool
+  pub over : Bool
 
 -- Nothing else has changed than the order, and what is awaited.
 abbrev pub OrdersAlone : Locked → Locked → Type 0

@@ -38,7 +38,7 @@
 //!
 //! Who waits relies on others to go on: on the flusher to settle or fail what it took off, and on the thread that has settled, failed or
 //! submitted to get to its wake or notification.
-ghost use Rattle.std.specs.Prelude.{◌≡◌, ◌<◌, ◌+◌, length, map, IfOk, IfErr, OnErr};
+ghost use Rattle.std.specs.Prelude.{◌≡◌, ◌<◌, ◌+◌, length, map, IfOk, IfErr, OnOk, OnErr};
 ghost use Rattle.std.specs.Vec.{vec_len};
 ghost use mathlib.Core.List.{IsPrefix};
 ghost use Rattle.recovery.specs.Found.{commands_of};
@@ -46,7 +46,7 @@ ghost use Rattle.hub.specs.Found.{AreSubmittedAfter, IsSubmittedAfter};
 ghost use Rattle.hub.specs.Given.{WasGiven};
 ghost use Rattle.hub.specs.Legal.{WasOrdered};
 ghost use Rattle.hub.specs.Placed.{StandsFirst};
-ghost use Rattle.hub.specs.Runs.{ComesNext};
+ghost use Rattle.hub.specs.Runs.{ComesNext, IsCountedBy, counts_ended};
 ghost use Rattle.hub.specs.Submitted.{counted_all, counted_by};
 ghost use Rattle.hub.specs.Moves.{ComesOff, IsSettledNext, StandsAt};
 
@@ -92,7 +92,7 @@ pub struct Hub<D, L: Life> {
 impl<D, L: Life> Hub<D, L> {
     /// A hub of a board, the only right to write what it orders, and the only right to end it. It takes no memory.
     pub fn new(board: Board<D, L>) -> (Hub<D, L>, Writer<L>, Closer<L>)
-        ensures writer { result.1 ≡ record { taken = board.progress.taken; settled = board.progress.settled } }
+        ensures writer { result.1 ≡ record { taken = board.progress.taken; settled = board.progress.settled; ended = 0 } }
     {
         let told = board.told().copy();
         let (kept, writer, closer) = Locked::new(board);
@@ -312,18 +312,18 @@ impl<D, L: Life> Hub<D, L> {
     }
 
     /// Waits for a command to take off, and answers with the token `Work`; or, once the end was called and no command is left, with the
-    /// token `Idle`.
+    /// token `Idle`, which the writer counts.
     pub fn wait_work<R: Wait>(&self, rt: &R, writer: &mut Writer<L>) -> Result<Work<L>, Idle<L>>
-        ensures { writer.new ≡ writer.old }
+        ensures work { OnOk result (writer.new ≡ writer.old) }
+        ensures idle { OnErr result (writer.new ≡ counts_ended writer.old) }
     {
-        let _ = writer;
         let mut kept = self.held(rt);
         for _ in rt.forever() {
             if !kept.board().is_idle() {
                 return Ok(Work::by_board(kept.board()));
             }
             if kept.has_ended() {
-                return Err(Idle::by_locked(&kept));
+                return Err(kept.tell_end(writer));
             }
             kept = self.work.wait(rt, kept);
         }
@@ -349,8 +349,11 @@ impl<D, L: Life> Hub<D, L> {
         self.held(rt).seat(closer)
     }
 
-    /// Gives the board back, once nobody shares the hub any more, and takes both rights to it. It takes no memory, and waits for nobody.
-    pub fn into_board(self, writer: Writer<L>, closer: Closer<L>) -> Board<D, L> {
+    /// Gives the board back, once nobody shares the hub any more, and takes both rights to it. As much of the order is taken off and settled as
+    /// the writer counts; all of it, where the writer was told that nothing comes any more. It takes no memory, and waits for nobody.
+    pub fn into_board(self, writer: Writer<L>, closer: Closer<L>) -> Board<D, L>
+        ensures { IsCountedBy writer result.progress }
+    {
         let Hub {
             kept,
             places: _places,

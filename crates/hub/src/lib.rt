@@ -32,9 +32,11 @@
 //! the same rights. So `Hub::submit` can't take, settle, fail, end or give a seat, and `Hub::wait_work`, which is lent a `Writer` alone,
 //! can't end. `Hub::into_board` takes both back, so a board has one of each at a time.
 //!
-//! The `Writer` counts how many commands are taken off and how many are settled, by two ledgers of the life whose books lie under the lock
-//! (`published::Ledgers`). No other thread changes either, so its counts are the board's. By them each run that is taken off comes next after
-//! those before it, and what comes next is settled: `Hub::settle` refuses nothing (`ComesNext`, specs/Runs.antt).
+//! The `Writer` counts how many commands are taken off and how many are settled, by ledgers of the life whose books lie under the lock
+//! (`published::Ledgers`). No other thread changes either, so its counts are the board's. A third ledger has that `wait_work` told it that the
+//! hub was ended with nothing left to take off: so the board that `into_board` gives back has all of its order taken off then (`IsCountedBy`). By
+//! them each run that is taken off comes next after those before it, and what comes next is settled: `Hub::settle` refuses nothing (`ComesNext`,
+//! specs/Runs.antt).
 //!
 //! Some answers are tokens that nothing else makes: `Settled` where a batch was settled, `Failed` where the hub was told of a failure,
 //! `Work` where a command isn't taken off, `Idle` where the hub was ended and nothing is left to take, `Ended` where it was ended, `Nothing`

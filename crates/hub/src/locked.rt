@@ -6,7 +6,7 @@ ghost use Rattle.revision.specs.Acceptance.{answer};
 ghost use Rattle.world.specs.Progress.{can_ack, submitted};
 ghost use Rattle.hub.specs.Found.{AreSubmittedAfter, IsGivenAt, IsSubmittedAfter};
 ghost use Rattle.hub.specs.Given.{IsStopped, as_board};
-ghost use Rattle.hub.specs.Runs.{ComesNext};
+ghost use Rattle.hub.specs.Runs.{ComesNext, IsCountedBy, counts_ended, untaken};
 ghost use Rattle.hub.specs.Submitted.{counted_all, counted_by};
 ghost use Rattle.hub.specs.Waiting.{AreWoken, NobodyIsForgotten, StillRightly, WaitsRightly, WakesAll, nobody, and_for, OrdersAlone};
 ghost use Rattle.hub.specs.Moves.{IsSubmittedTo, IsTakenOff, ComesOff, settled_with, IsSettledNext, IsAcked, StandsAt};
@@ -17,9 +17,11 @@ use crate::found::Found;
 use crate::run::Run;
 use crate::seat::{Seat, Tally, Ticket};
 use crate::submit_error::SubmitError;
-use crate::tokens::{Ended, Failed, Settled, Stopped};
+use crate::tokens::{Ended, Failed, Idle, Settled, Stopped};
 use crate::waiting::{Awaited, Turns, Woken, covered};
-use published::{Ledgers, Life, OfSettled, OfTaken, Ordered, Told};
+use published::{
+    LedgerBooks, LedgerShares, Ledgers, Life, OfEnds, OfSettled, OfTaken, Ordered, Told,
+};
 use recovery::Receipt;
 use refusal::Refusal;
 use revision::Command;
@@ -29,11 +31,13 @@ use std::sync::ledger::{Book, Share};
 
 /// The right to write what a hub's board orders: to wait for work, to take runs off, to settle them, and to say that the store has failed.
 /// `Hub::new` makes the only one of its hub, and it can't be copied, so whoever isn't lent it can do none of that. Contracts see it as how many
-/// commands of the order are taken off, and how many are settled: no other thread can change either. It takes no memory.
+/// commands of the order are taken off, how many are settled, and whether its owner was told that all are taken off and none comes any more: no
+/// other thread can change any of these. It takes no memory.
 #[derive(Drop)]
 pub struct Writer<L: Life> {
     taken: Share<OfTaken<L>>,
     settled: Share<OfSettled<L>>,
+    ended: Share<OfEnds<L>>,
 }
 
 impl<L: Life> Model for Writer<L> {
@@ -42,9 +46,9 @@ impl<L: Life> Model for Writer<L> {
 
     ghost Value = { spec.Writer };
 
-    ghost view = { λ w. record { taken = w.taken.amount; settled = w.settled.amount } };
+    ghost view = { λ w. record { taken = w.taken.amount; settled = w.settled.amount; ended = w.ended.amount } };
 
-    ghost invariant = { λ w. (w.taken.parts ≡ 1) × (w.settled.parts ≡ 1) };
+    ghost invariant = { λ w. (w.taken.parts ≡ 1) × (w.settled.parts ≡ 1) × (w.ended.parts ≡ 1) };
 }
 
 /// The right to end a hub, and to give its seats out. `Hub::new` makes the only one of its hub, and it can't be copied.
@@ -53,28 +57,33 @@ pub struct Closer<L: Life> {
     of: PhantomData<L>,
 }
 
-// What lies under the lock: the board; the ledgers of what is taken off it and of what is settled; for each place the lengths of the order that
-// seats wait there to be settled; the turns of batches; and whether the end was called. Other modules have nothing of it but its calls: these
+// What lies under the lock: the board; the ledgers of what is taken off it, of what is settled, and of whether the writer was told that nothing
+// comes any more; for each place the lengths of the order that seats wait there to be settled; the turns of batches; whether the end was called,
+// and whether the writer was told so with nothing left to take off. Other modules have nothing of it but its calls: these
 // lend the board for reading alone, and ask for the `Writer` or the `Closer` for whatever isn't a session's.
 #[derive(Drop)]
 pub(crate) struct Locked<D, L: Life> {
     board: Board<D, L, ()>,
     takes: Book<OfTaken<L>>,
     settles: Book<OfSettled<L>>,
+    ends: Book<OfEnds<L>>,
     awaited: [Awaited; 64],
     turns: Turns,
     ended: bool,
+    over: bool,
 }
 
 impl<D, L: Life> Model for Locked<D, L> {
-    ghost use Rattle.std.specs.Prelude.{◌≡◌};
+    ghost use Rattle.std.specs.Prelude.{◌≡◌, ◌≤◌, true, length, if◌then◌else◌};
     ghost use Rattle.hub.specs.Waiting as spec;
 
     ghost Value = { spec.Locked };
 
-    ghost view = { λ k. record { board = k.board; awaited = k.awaited; turns = k.turns; ended = k.ended } };
+    ghost view = { λ k. record { board = k.board; awaited = k.awaited; turns = k.turns; ended = k.ended; over = k.over } };
 
-    ghost invariant = { λ k. (k.takes.total ≡ k.board.progress.taken) × (k.settles.total ≡ k.board.progress.settled) };
+    ghost invariant = { λ k. (k.takes.total ≡ k.board.progress.taken) × (k.settles.total ≡ k.board.progress.settled)
+        × (k.ends.total ≡ (if k.over then 1 else 0))
+        × (k.over ≡ true → (k.ended ≡ true) × (length k.board.progress.order ≤ k.board.progress.taken)) };
 }
 
 impl<D, L: Life> Locked<D, L> {
@@ -83,45 +92,79 @@ impl<D, L: Life> Locked<D, L> {
         ensures board { result.0.board ≡ board }
         ensures nobody { result.0.awaited ≡ replicate 64 nobody }
         ensures ended { result.0.ended ≡ false }
-        ensures writer { result.1 ≡ record { taken = board.progress.taken; settled = board.progress.settled } }
+        ensures writer { result.1 ≡ record { taken = board.progress.taken; settled = board.progress.settled; ended = 0 } }
     {
         let (board, counts) = board.without_ledgers();
-        let ((mut takes, mut settles), (mut taken, mut settled)) = counts.parted();
+        let (books, shares) = counts.parted();
+        let LedgerBooks {
+            mut takes,
+            mut settles,
+            ends,
+        } = books;
+        let LedgerShares {
+            mut taken,
+            mut settled,
+            ended,
+        } = shares;
         takes.add(&mut taken, board.taken() as u64);
         settles.add(&mut settled, board.settled() as u64);
         let kept = Locked {
             board,
             takes,
             settles,
+            ends,
             awaited: [Awaited::nobody(); 64],
             turns: Turns::new(),
             ended: false,
+            over: false,
         };
-        (kept, Writer { taken, settled }, Closer { of: PhantomData })
+        let writer = Writer {
+            taken,
+            settled,
+            ended,
+        };
+        (kept, writer, Closer { of: PhantomData })
     }
 
     // gives the board back, and takes the two rights to it
     pub(crate) fn into_board(self, writer: Writer<L>, closer: Closer<L>) -> Board<D, L>
-        ensures { result ≡ self.board }
+        ensures board { result ≡ self.board }
+        ensures writer { IsCountedBy writer result.progress }
     {
         let Locked {
             board,
             mut takes,
             mut settles,
+            mut ends,
             awaited: _,
             turns: _turns,
             ended: _,
+            over,
         } = self;
         let Writer {
             mut taken,
             mut settled,
+            mut ended,
         } = writer;
         let Closer { of: _ } = closer;
+        board.facts();
         takes.audit(&mut taken);
         settles.audit(&mut settled);
+        ends.audit(&mut ended);
         takes.sub(&mut taken, board.taken() as u64);
         settles.sub(&mut settled, board.settled() as u64);
-        board.with_ledgers(Ledgers::joined((takes, settles), (taken, settled)))
+        ends.sub(&mut ended, u64::from(over));
+        let books = LedgerBooks {
+            takes,
+            settles,
+            ends,
+        };
+        let shares = LedgerShares {
+            taken,
+            settled,
+            ended,
+        };
+        board.with_ledgers(Ledgers::joined(books, shares))
     }
 
     // the board, to be read
@@ -159,6 +202,21 @@ impl<D, L: Life> Locked<D, L> {
         let _ = tally;
         self.ended = true;
         Ended::by_locked(self)
+    }
+
+    // Notes that all of the order is taken off and nothing comes any more, which the writer counts from then on.
+    pub(crate) fn tell_end(&mut self, writer: &mut Writer<L>) -> Idle<L>
+        requires ended { self.old.ended ≡ true }
+        requires idle { untaken self.old.board.progress ≡ [] }
+        ensures over { self.new ≡ record self.old { over = true } }
+        ensures writer { writer.new ≡ counts_ended writer.old }
+    {
+        self.ends.audit(&mut writer.ended);
+        if !self.over {
+            self.ends.add(&mut writer.ended, 1);
+            self.over = true;
+        }
+        Idle::by_locked(self)
     }
 
     // a seat more, as `Board::seat` gives it

@@ -55,7 +55,7 @@ mod order;
 mod prefix;
 mod told;
 
-pub use ledgers::{Ledgers, OfSettled, OfTaken};
+pub use ledgers::{LedgerBooks, LedgerShares, Ledgers, OfEnds, OfSettled, OfTaken};
 pub use life::Life;
 pub use log::{Log, Opened};
 pub use moments::Moments;

@@ -2,9 +2,9 @@
 use std::marker::Brand;
 use std::sync::ledger::Ledger;
 
-/// Names a run: the log of its order, the log of what it publishes and that of the moments of it, the ledgers of what is taken off its order
-/// and of what is settled of it, and the state that its store was opened with; and by `Ledger` its seats. Whatever has to agree on these
-/// carries one type of this trait.
+/// Names a run: the log of its order, the log of what it publishes and that of the moments of it, the ledgers of what is taken off its order,
+/// of what is settled of it and of whether all of it is taken off for good, and the state that its store was opened with; and by `Ledger` its
+/// seats. Whatever has to agree on these carries one type of this trait.
 pub trait Life: Ledger {
     ghost use Rattle.published.specs.Books.{Books};
     ghost use Rattle.revision.specs.State.{State};
@@ -26,6 +26,7 @@ impl Life for Brand {
       };
       takes = 0;
       settles = 0;
+      ends = 0;
     } };
 
     ghost start = { record {

@@ -20,13 +20,14 @@ use std::marker::{Model, PhantomData};
 use std::sync::ledger::Blank;
 use world::Entry;
 
-/// The empty logs of a run that has no name yet, and its two empty ledgers. Contracts see them as their own names.
+/// The empty logs of a run that has no name yet, and its three empty ledgers. Contracts see them as their own names.
 pub struct Opened {
     batches: Owner<BatchItem>,
     order: Owner<Entry>,
     moments: Owner<MomentItem>,
     takes: Blank,
     settles: Blank,
+    ends: Blank,
 }
 
 impl Model for Opened {
@@ -41,10 +42,11 @@ impl Model for Opened {
       logs = record { published = o.batches.book; ordered = o.order.book; timed = o.moments.book };
       takes = o.takes.name;
       settles = o.settles.name;
+      ends = o.ends.name;
     } };
 
     ghost invariant = { λ o. (o.batches.items ≡ []) × (o.order.items ≡ [])
-        × (o.moments.items ≡ []) × (o.takes.parts ≡ 1) × (o.settles.parts ≡ 1) };
+        × (o.moments.items ≡ []) × (o.takes.parts ≡ 1) × (o.settles.parts ≡ 1) × (o.ends.parts ≡ 1) };
 }
 
 impl Opened {
@@ -56,6 +58,7 @@ impl Opened {
             moments: Owner::open()?,
             takes: Blank::new(1),
             settles: Blank::new(1),
+            ends: Blank::new(1),
         })
     }
 
@@ -72,6 +75,7 @@ impl Opened {
             moments,
             takes,
             settles,
+            ends,
         } = self;
         let log = Log {
             owner: batches,
@@ -80,7 +84,7 @@ impl Opened {
         };
         let order = Order {
             owner: order,
-            ledgers: Ledgers::of(takes, settles),
+            ledgers: Ledgers::of(takes, settles, ends),
             of: PhantomData,
         };
         let prefix = PublishedPrefix {

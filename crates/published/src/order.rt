@@ -14,7 +14,7 @@ use std::marker::{Model, PhantomData};
 use world::Entry;
 
 /// The order of a run: a legal history from the state that its store was opened with. Only who owns it makes it longer. Contracts see it
-/// as its entries. It takes a word of memory, however long it is. A new one has the run's two ledgers, `C`.
+/// as its entries. It takes a word of memory, however long it is. A new one has the run's ledgers, `C`.
 #[derive(Drop)]
 pub struct Order<L: Life, C = Ledgers<L>> {
     pub(crate) owner: Owner<Entry>,

@@ -1,11 +1,13 @@
 -- Desks that came back from those who connected.
-use Rattle.std.proofs.Common.{◌≡◌, ◌∙◌, ◌+◌, ℕ, true, false, List, [], ◌∷◌, length, refl, sym, ap, subst, arith, Ok, true≢false}
-use Rattle.std.specs.Prelude.{◌↔◌, All, Result, Err, OnOk, IsErrOf, is_ok}
+use Rattle.std.proofs.Common.{◌≡◌, ◌⊎◌, ◌∙◌, ◌+◌, inl, inr, ℕ, true, false, List, [], ◌∷◌, length, refl, sym, ap, subst, arith, Ok, true≢false}
+use Rattle.std.specs.Prelude.{◌↔◌, ◌≢◌, All, Result, Err, OnOk, IfErr, IsErrOf, is_ok}
 use Rattle.std.proofs.lemmas.Bool.{false≢true}
 use Rattle.std.proofs.lemmas.List.Elements.{All-head, All-tail}
 use Rattle.disk.specs.declared.device.Disk.{Ghosts}
 use Rattle.refusal.specs.declared.Refusal.{Refusal}
-use Rattle.refusal.specs.declared.Refusal.TheVariants.{NoMemory, Fault}
+use Rattle.refusal.specs.declared.Refusal.TheVariants.{JournalFull, StillNeeded, NoMemory, Fault}
+use Rattle.refusal.specs.Refusal.{IsOneOf}
+use Rattle.flusher.proofs.CallerLemmas.{no_error}
 use Rattle.revision.specs.State.{State}
 use Rattle.recovery.specs.declared.store.Store.{Store}
 use Rattle.recovery.specs.Open.{has_failed}
@@ -92,3 +94,25 @@ module _ {D : Type 0} {disk : Ghosts D} where
     λ failed. absurd (false≢true (sym works ∙ (ap has_failed (sym same) ∙ failed))),
     λ is. absurd (let no = sym ill ∙ is in cc no),
   )
+
+-- why serving was refused
+pub caused : (result written : Result (Unit {0}) Refusal) → IfErr result (λ e. (e ≡ NoMemory) ⊎ IsErrOf written e)
+    → IfErr written (λ e. e ≢ Fault → IsOneOf e (JournalFull ∷ StillNeeded ∷ []))
+    → IfErr result (λ e. e ≢ Fault → IsOneOf e (NoMemory ∷ JournalFull ∷ StillNeeded ∷ []))
+caused (Ok answer) written which causes = tt
+caused (Err e) (Ok answer) which causes = λ no_fault. by_memory e answer which
+  where
+    by_memory : (e : Refusal) (answer : Unit {0}) → (e ≡ NoMemory) ⊎ IsErrOf {T = Unit {0}} (Ok answer) e → IsOneOf e (NoMemory ∷ JournalFull ∷ StillNeeded ∷ [])
+    by_memory e answer (inl memory) = inl memory
+    by_memory e answer (inr is) = absurd (no_error answer e is)
+caused (Err e) (Err other) which causes = λ no_fault. by_either e other which causes no_fault
+  where
+    by_either : (e other : Refusal) → (e ≡ NoMemory) ⊎ IsErrOf {T = Unit {0}} (Err other) e → (other ≢ Fault → IsOneOf other (JournalFull ∷ StillNeeded ∷ []))
+        → e ≢ Fault → IsOneOf e (NoMemory ∷ JournalFull ∷ StillNeeded ∷ [])
+    by_either e other (inl memory) causes no_fault = inl memory
+    by_either e other (inr is) causes no_fault =
+        let same : other ≡ e = cc is in
+        inr (subst (λ (r : Refusal). IsOneOf r (JournalFull ∷ StillNeeded ∷ [])) same (causes (λ fault. no_fault (sym same ∙ fault))))
+
+pub caused_by_memory : (result : Result (Unit {0}) Refusal) → result ≡ Err NoMemory → IfErr result (λ e. e ≢ Fault → IsOneOf e (NoMemory ∷ JournalFull ∷ StillNeeded ∷ []))
+caused_by_memory result is = subst (λ (r : Result (Unit {0}) Refusal). IfErr r (λ e. e ≢ Fault → IsOneOf e (NoMemory ∷ JournalFull ∷ StillNeeded ∷ []))) (sym is) (λ no_fault. inl refl)

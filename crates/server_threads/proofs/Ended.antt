@@ -1,5 +1,5 @@
--- How serving over a pair of streams ends.
-use Rattle.std.proofs.Common.{◌≡◌, ◌⊎◌, ◌↔◌, inl, inr, ℕ, true, false, List, [], ◌∷◌, refl, sym, ap, subst, arith, Ok}
+-- How serving ends.
+use Rattle.std.proofs.Common.{◌≡◌, ◌⊎◌, ◌↔◌, inl, inr, ℕ, true, false, List, [], ◌∷◌, refl, sym, ◌∙◌, ap, subst, arith, Ok}
 use Rattle.std.specs.Prelude.{Bool, Option, Result, set, length, Err, OnOk, OnErr, IfErr, IsErrOf, is_ok}
 use Rattle.std.specs.Io.KnownBytes.{IsAtEnd}
 use Rattle.disk.specs.declared.device.Disk.{Ghosts}
@@ -11,6 +11,12 @@ use Rattle.session.specs.Session.{Session}
 use Rattle.serving.specs.declared.failure.ServingError.{ServingError}
 use Rattle.serving.specs.declared.failure.ServingError.TheVariants.{Stream, Refused}
 use Rattle.serving.specs.Serving.{Serves, StopsServing, beginning}
+use Rattle.world.specs.Progress.{Progress}
+use Rattle.world.specs.World.{Entry}
+use Rattle.hub.specs.Runs.{IsCountedBy, Writer}
+use Rattle.flusher.specs.declared.flusher.Flusher.{Flusher}
+use Rattle.turns.specs.Counting.{IsAllPublished}
+use Rattle.turns.specs.Writing.{told_count}
 use Rattle.hub_desk.specs.AtHub.{Desk, PassesAtHub}
 use Rattle.server_threads.specs.Answers.{first_desk}
 use Rattle.server_threads.specs.Streams.{ByOne, EndsAtHub, first_of}
@@ -79,3 +85,10 @@ pub set_one : {A : Type 0} (all : List A) (one : A) → length all ≡ 1 → set
 set_one [] one long = absurd (cc long)
 set_one (first ∷ []) one long = refl
 set_one {A} (first ∷ second ∷ others) one long = absurd (omega (arith, long, ap (λ (l : List A). length l) (refl {A = List A} {a = first ∷ second ∷ others})))
+
+module _ {D L : Type 0} {disk : Ghosts D} where
+  -- all of a board's order is published where the writing ended well
+  pub all_ordered : (writer : Writer) (flusher : Flusher D L disk) (board : Progress Entry) (written : Result (Unit {0}) Refusal) → OnOk written (IsAllPublished writer flusher)
+      → IsCountedBy writer board → OnOk written (length board.order ≡ told_count flusher)
+  all_ordered writer flusher board (Ok answer) all left = sym (left.all all.ended) ∙ all.all
+  all_ordered writer flusher board (Err refusal) all left = tt

@@ -115,7 +115,7 @@ written_send k D T R d s l a b y c =
       search (sendable, crosses) depth 20 fits 20000,
       (
         struct_send (shape (flusher.the_type D T d s l)) (flusher_fields D T d s l a b y),
-        (writer_send T s l b, (search (sendable, crosses) depth 200 fits 20000, (search (sendable, crosses) depth 20 fits 20000, tt))),
+        (writer_send T s l b, (search (sendable, crosses) depth 200 fits 20000, tt)),
       ),
     ) in
     recorded_send (Struct (shape (written.the_type k D T R d s l))) _ _ (written.the_type k D T R d s l).to_one (struct_send (shape (written.the_type k D T R d s l)) all)

@@ -1,12 +1,13 @@
 -- What a flusher's thread writes is what the life of a server leaves.
 use Rattle.std.proofs.Common.{◌≡◌, ◌≤◌, ◌⊎◌, ◌↔◌, inl, inr, ℕ, true, false, List, [], ◌∷◌, ◌++◌, length, length-append, append_assoc, append-nil, refl, sym, ◌∙◌, ap, subst, arith, Ok}
-use Rattle.std.specs.Prelude.{◌<◌, ◌≢◌, Bool, Result, Err, IfErr, OnOk, IsErrOf, is_ok, All, sum_by}
+use Rattle.std.specs.Prelude.{◌<◌, ◌≢◌, Bool, Result, Err, IfOk, IfErr, OnOk, IsErrOf, is_ok, All, sum_by}
 use Rattle.std.proofs.lemmas.Bool.{false≢true, cases_lt}
 use Rattle.std.proofs.lemmas.List.Elements.{All-nil, All-cons, All-weaker}
 use mathlib.Core.List.{IsPrefix}
 use Rattle.disk.specs.declared.device.Disk.{Ghosts}
 use Rattle.refusal.specs.declared.Refusal.{Refusal}
-use Rattle.refusal.specs.declared.Refusal.TheVariants.{Fault}
+use Rattle.refusal.specs.declared.Refusal.TheVariants.{JournalFull, StillNeeded, Fault}
+use Rattle.refusal.specs.Refusal.{IsOneOf}
 use Rattle.revision.specs.Command.{Taken}
 use Rattle.revision.specs.State.{State, fold}
 use Rattle.recovery.specs.declared.store.Store.{Store}
@@ -31,7 +32,7 @@ use Rattle.hub_desk.specs.AtHub.{Desk}
 use Rattle.server_threads.specs.Answers.{first_desk}
 use Rattle.server_threads.specs.Held.{AreTallied, HasHeld, HaveEnded, IsCounted, IsKept, IsTallied}
 use Rattle.server_threads.specs.Served.{AreLasting, IsWritten, IsWhole, KeepsAnswers, WasServed, HasLived, IsStarted}
-use Rattle.server_threads.specs.Written.{HasRun, StartedOverWrites}
+use Rattle.server_threads.specs.Written.{IsStartedOver, StartedOverWrites}
 use Rattle.server_threads.proofs.Answered.{found_whole, keeps_answers}
 use Rattle.server_threads.proofs.AtCommits.{all_kept, none_kept}
 
@@ -129,61 +130,7 @@ module _ {D L : Type 0} {disk : Ghosts D} where
           → WasAt (state_of (store_of old)) 0 first ((told_of new ++ committed_of new) ++ waiting_of new) (store_of old) (store_of new)
       each_of first begins = by_case first (all_or_told (told_of new) (committed_of new) first few_committed begins)
 
--- a content that represents the batches, where none is committed and not shown, has a prefix of all, with all that were shown
-begins_shown : (start : State) (told committed waiting : List (List Taken)) (content : List ℕ) → committed ≡ [] → FoundAs content (fold start (commands_of (told ++ committed)))
-    → IsBeginning (length (commands_of told)) start (told ++ (committed ++ waiting)) content
-begins_shown start told committed waiting content none found =
-    let all : told ++ committed ≡ told = ap (λ (l : List (List Taken)). told ++ l) none ∙ append-nil told in
-    record {
-      first = told;
-      more = waiting;
-      whole = ap (λ (l : List (List Taken)). told ++ (l ++ waiting)) (sym none);
-      enough = omega arith;
-      found = subst (λ (l : List (List Taken)). FoundAs content (fold start (commands_of l))) all found;
-    }
-
 module _ {D L : Type 0} {disk : Ghosts D} where
-  -- a flusher that was just started, and writes nothing
-  writes_nothing : (start : State) (here : Flusher D L disk) → IsStarted here → Kept start here → Writes start here here
-  writes_nothing start here started kept = record {
-    told = ([], sym (append-nil (told_of here)));
-    held = record {
-      between = store_of here;
-      state = kept;
-      works = λ works. works;
-      before = goes_none (store_of here) (λ is_open. shown _ (found_as _ _ (found_open (store_of here) is_open)));
-      behind = goes_none (store_of here) (λ is_open. all_shown _ (found_as _ _ (found_open (store_of here) is_open)));
-    };
-    more = ([], sym (append-nil (given_to here)));
-    goes = goes_none (store_of here) (λ is_open. shown _ (found_as _ _ (found_open (store_of here) is_open)));
-    each = λ first shorter begins. absurd (omega (arith, shorter.1, ap (λ (l : List (List Taken)). length l) begins.1, length-append first begins.0));
-    lasts = λ works is_open content left. shown content (found_now (store_of here) is_open content left);
-    opened = refl;
-  }
-    where
-      shown : (content : List ℕ) → FoundAs content (state_of (store_of here)) → IsBeginning (told_count here) start (given_to here) content
-      shown content found =
-          begins_shown start (told_of here) (committed_of here) (waiting_of here) content started.none (subst (λ (s : State). FoundAs content s) kept found)
-
-      all_shown : (content : List ℕ) → FoundAs content (state_of (store_of here))
-          → IsBeginning (length (commands_of (told_of here ++ committed_of here))) start (given_to here) content
-      all_shown content found =
-          subst (λ (l : List (List Taken)). IsBeginning (length (commands_of l)) start (given_to here) content)
-          (sym (ap (λ (l : List (List Taken)). told_of here ++ l) started.none ∙ append-nil (told_of here))) (shown content found)
-
-  -- it has run where there was no thread for it, and where there was one
-  pub unbegun_run : (start : State) (here : Flusher D L disk) → IsStarted here → Kept start here → HasRun start here here (Ok tt) false
-  unbegun_run start here started kept = record {
-    wrote =
-        record {
-          writes = writes_nothing start here started kept;
-          nothing = (started.none, started.idle);
-          fails = λ works. (λ failed. absurd (false≢true (sym works ∙ failed)), λ is. absurd cc);
-          causes = tt;
-        };
-    unbegun = λ not_begun. refl;
-  }
-
   -- how the hub's tokens say that it ended, without the tokens
   pub written_well : {A : Type 0} (start : State) (old new : Flusher D L disk) (token : A) → HasWritten start old new (Ok token) → HasWritten start old new (Ok (tt {0}))
   written_well start old new token wrote = record {
@@ -203,10 +150,6 @@ module _ {D L : Type 0} {disk : Ghosts D} where
         fails = λ works. (λ failed. same_refusal token Fault ((wrote.fails works).0 failed), λ told. (wrote.fails works).1 (same_refusal token Fault told));
         causes = wrote.causes;
       })
-
-  pub ended_run : (start : State) (old new : Flusher D L disk) (answer : Result (Unit {0}) Refusal) (begun : Bool) → HasWritten start old new answer
-      → begun ≡ true → HasRun start old new answer begun
-  ended_run start old new answer begun wrote is = record { wrote = wrote; unbegun = λ not_begun. absurd (false≢true (sym not_begun ∙ is)) }
 
   -- of two flushers that were just started over one store the same is written
   same_writes : (start : State) (here old new : Flusher D L disk) → IsStarted here → IsStarted old → store_of here ≡ store_of old
@@ -259,6 +202,21 @@ module _ {D L : Type 0} {disk : Ghosts D} where
         causes = same_causes start here old new answer begun started same wrote.causes;
       }
 
+  -- what a thread gives back that was begun with a flusher that was just started: it wrote, or has it still
+  pub any_run : {A B : Type 0} (start : State) (here : Flusher D L disk) (store : Store D disk) (after_of : A → Flusher D L disk) (answer_of : A → Result (Unit {0}) Refusal) (back_of : B → Flusher D L disk)
+      → (run : Result A B) → IsStarted here → store ≡ store_of here → IfOk run (λ a. HasWritten start here (after_of a) (answer_of a)) → IfErr run (λ b. back_of b ≡ here)
+      → IfOk run (λ a. StartedOverWrites start store (after_of a) (answer_of a)) × IfErr run (λ b. IsStartedOver store (back_of b))
+  any_run start here store after_of answer_of back_of (Ok a) begun is wrote back = (any_started start here (after_of a) store (answer_of a) begun is wrote, tt)
+  any_run start here store after_of answer_of back_of (Err b) begun is wrote back = (
+    tt,
+    record { started = subst (λ (f : Flusher D L disk). IsStarted f) (sym back) begun; over = ap store_of back ∙ sym is },
+  )
+
+  -- what is written of a flusher that was just started over a store is written of any other one
+  pub as_started : (start : State) (here old new : Flusher D L disk) (store : Store D disk) (answer : Result (Unit {0}) Refusal) → IsStartedOver store here → IsStarted old
+      → store ≡ store_of old → HasWritten start here new answer → HasWritten start old new answer
+  as_started start here old new store answer begun started is wrote = any_started start here new store answer begun.started (sym begun.over) wrote old started (sym is)
+
 -- an order at the end of a life: it is a legal history, and a token has a prefix of it
 pub order_legal : (start : State) (board : Progress Entry) → IsOfRun start board → IsLegal start board.order
 order_legal start board run = subst (λ (s : State). IsLegal s board.order) run.begun run.history.legal
@@ -300,15 +258,20 @@ module _ {D L : Type 0} {disk : Ghosts D} where
           (subst (λ (l : List (List Taken)). IsPrefix (commands_of l) (takens order)) only is.begins)
           (omega (arith, takens_long order, long, ap (λ (l : List (List Taken)). length (commands_of l)) shown))
 
+  -- a writing that was refused otherwise than by the device found the journal full
+  causes_of : (start : State) (old new : Flusher D L disk) (written : Result (Unit {0}) Refusal) → IfErr written (λ e. e ≢ Fault → IsEndedBy start old e new)
+      → IfErr written (λ e. e ≢ Fault → IsOneOf e (JournalFull ∷ StillNeeded ∷ []))
+  causes_of start old new (Ok answer) causes = tt
+  causes_of start old new (Err refusal) causes = λ no_fault. (causes no_fault).failed.0
+
   -- the whole life
-  pub lived_by : (Sessions : List Desk → Type 0) (start : State) (order : List Entry) (desks : List Desk) (old new : Flusher D L disk) (written answer : Result (Unit {0}) Refusal) (store : Store D disk)
+  pub lived_by : (Sessions : List Desk → Type 0) (start : State) (order : List Entry) (desks : List Desk) (old new : Flusher D L disk) (written : Result (Unit {0}) Refusal) (store : Store D disk)
       → store ≡ store_of new → IsStarted old → Kept start old → Kept start new → Surely (LastsSince start (opened_of new) new) → length (committed_of new) ≤ 1 → length (waiting_of new) ≤ 1
       → HasWritten start old new written → IsLegal start order → IsPrefix (commands_of (told_of new ++ (committed_of new ++ waiting_of new))) (takens order)
       → All (λ (desk : Desk). IsPrefix desk.told (told_of new ++ committed_of new)) desks → All (λ (desk : Desk). IsPrefix desk.found order) desks → length order ≡ sum_by (λ (desk : Desk). desk.counted) desks
-      → OnOk answer ((written ≡ Ok tt) × (length order ≡ length (commands_of (told_of new)))) → (IsErrOf answer Fault ↔ IsErrOf written Fault)
-      → Sessions desks → HasLived Sessions answer (store_of old) store
-  lived_by Sessions start order desks old new written answer store is started before kept lasts few_committed few_waiting wrote legal begins told found long all fault sessions =
-      subst (λ (s : Store D disk). HasLived Sessions answer (store_of old) s) (sym is)
+      → OnOk written (length order ≡ told_count new) → Sessions desks → HasLived Sessions written (store_of old) store
+  lived_by Sessions start order desks old new written store is started before kept lasts few_committed few_waiting wrote legal begins told found long all sessions =
+      subst (λ (s : Store D disk). HasLived Sessions written (store_of old) s) (sym is)
       (record {
         served = record {
           order = order;
@@ -318,7 +281,7 @@ module _ {D L : Type 0} {disk : Ghosts D} where
           desks = desks;
           is_written = is_written;
           kept = are_kept;
-          whole = λ well. whole (well_of answer well all);
+          whole = λ well. whole_by order old new is_written (well_of written well wrote.nothing).0 (well_of written well wrote.nothing).1 (well_of written well all);
           sessions = sessions;
           answers = All-weaker (λ (desk : Desk). IsPrefix desk.told (told_of new ++ committed_of new) × IsPrefix desk.found order)
               (KeepsAnswers order (told_of new ++ committed_of new) (waiting_of new) (moments_of new) (store_of old) (store_of new))
@@ -326,9 +289,8 @@ module _ {D L : Type 0} {disk : Ghosts D} where
               (λ k d within. (told k d within, found k d within));
           nothing_else = long;
         };
-        fails = λ works.
-            let fails = wrote.fails works in
-            (λ failed. fault.1 (fails.0 failed), λ is_fault. fails.1 (fault.0 is_fault));
+        fails = wrote.fails;
+        causes = causes_of start old new written wrote.causes;
       })
     where
       is_written : IsWritten order (told_of new ++ committed_of new) (waiting_of new) (store_of old) (store_of new)
@@ -336,13 +298,6 @@ module _ {D L : Type 0} {disk : Ghosts D} where
 
       are_kept : Surely (AreLasting (told_of new ++ committed_of new) (waiting_of new) (moments_of new) (store_of old) (store_of new))
       are_kept = all_kept start old new started (held_start start old started before) wrote.writes.opened lasts
-
-      whole : (written ≡ Ok tt) × (length order ≡ length (commands_of (told_of new)))
-          → IsWhole order (told_of new ++ committed_of new) (waiting_of new) (store_of old) (store_of new)
-      whole (well, same) =
-          let none : (committed_of new ≡ []) × (waiting_of new ≡ []) =
-          subst (λ (r : Result (Unit {0}) Refusal). OnOk r ((committed_of new ≡ []) × (waiting_of new ≡ []))) well wrote.nothing in
-          whole_by order old new is_written none.0 none.1 same
 
 module _ {D L : Type 0} {disk : Ghosts D} where
   -- what sessions that have ended left, beside a flusher that is the one that was just started
@@ -363,18 +318,18 @@ module _ {D L : Type 0} {disk : Ghosts D} where
 
   -- the life of a flusher that was just started, of the sessions that were held beside it, and of the board that ended
   pub lived_from : (Sessions : List Desk → Type 0) (start : State) (old : Flusher D L disk) (ordered : List Entry) (published counted : ℕ)
-      (written answer : Result (Unit {0}) Refusal) (new store : Store D disk) → store ≡ new → IsStarted old
-      → HasHeld Sessions start old ordered published counted written new → IsCounted start ordered published counted written answer
-      → HasLived Sessions answer (store_of old) store
-  lived_from Sessions start old ordered published counted written answer new store is started held counts =
-      lived_by Sessions start counts.progress.order held.desks old held.last written answer store (is ∙ held.tallied.store) started held.before.state held.tallied.kept.state held.tallied.lasts
+      (written : Result (Unit {0}) Refusal) (new store : Store D disk) → store ≡ new → IsStarted old
+      → HasHeld Sessions start old ordered published counted written new → IsCounted start ordered published counted written
+      → HasLived Sessions written (store_of old) store
+  lived_from Sessions start old ordered published counted written new store is started held counts =
+      lived_by Sessions start counts.progress.order held.desks old held.last written store (is ∙ held.tallied.store) started held.before.state held.tallied.kept.state held.tallied.lasts
       held.tallied.few_committed held.tallied.few_waiting held.wrote (order_legal start counts.progress counts.run)
       (order_begins (commands_of (told_of held.last ++ (committed_of held.last ++ waiting_of held.last))) ordered counts.progress.order held.tallied.begins counts.begins)
       held.tallied.told
       (All-weaker (λ (desk : Desk). IsPrefix desk.found ordered) (λ (desk : Desk). IsPrefix desk.found counts.progress.order)
       (λ desk first. prefix_trans desk.found ordered counts.progress.order first counts.begins) held.desks held.tallied.found)
       (counts.counts ∙ held.tallied.counts)
-      (subst (λ (n : ℕ). OnOk answer ((written ≡ Ok tt) × (length counts.progress.order ≡ n))) held.tallied.so_many counts.all) counts.fault held.sessions
+      (subst (λ (n : ℕ). OnOk written (length counts.progress.order ≡ n)) held.tallied.so_many counts.all) held.sessions
 
 module _ {D : Type 0} {disk : Ghosts D} where
   -- a store that nothing was written to

@@ -90,10 +90,9 @@ module _ {D L : Type 0} {disk : Ghosts D} where
 
 -- There was a board of this run, whose order begins with this and is as long as what the seats have counted; and the writing ended well only
 -- where as many commands are published.
-pub record IsCounted (start : State) (ordered : List Entry) (published counted : ℕ) (written answer : Result (Unit {0}) Refusal) : Type 0 where
+pub record IsCounted (start : State) (ordered : List Entry) (published counted : ℕ) (written : Result (Unit {0}) Refusal) : Type 0 where
   pub progress : world.Progress Entry
   pub run : IsOfRun start progress
   pub begins : IsPrefix ordered progress.order
   pub counts : length progress.order ≡ counted
-  pub all : OnOk answer ((written ≡ Ok tt) × (length progress.order ≡ published))
-  pub fault : IsErrOf answer Fault ↔ IsErrOf written Fault
+  pub all : OnOk written (length progress.order ≡ published)

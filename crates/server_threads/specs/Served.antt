@@ -1,10 +1,11 @@
 -- What the life of a server leaves of its store, and of what its sessions were answered, however many there were.
-use Rattle.std.specs.Prelude.{◌≡◌, ◌≤◌, ◌↔◌, ℕ, Bool, true, false, List, [], ◌∷◌, ◌++◌, length, All, sum_by, Result, is_ok, IsErrOf}
+use Rattle.std.specs.Prelude.{◌≡◌, ◌≢◌, ◌≤◌, ◌↔◌, ℕ, Bool, true, false, List, [], ◌∷◌, ◌++◌, length, All, sum_by, Result, is_ok, IfErr, IsErrOf}
 use mathlib.Core.List.{IsPrefix}
 use Rattle.disk.specs.declared.device.Disk.{Ghosts}
 use Rattle.disk.specs.Crash.{LeavesOnly, MayLeaveNow}
 use Rattle.refusal.specs.declared.Refusal.{Refusal}
-use Rattle.refusal.specs.declared.Refusal.TheVariants.{Fault}
+use Rattle.refusal.specs.declared.Refusal.TheVariants.{JournalFull, StillNeeded, Fault}
+use Rattle.refusal.specs.Refusal.{IsOneOf}
 use Rattle.revision.specs.Command.{Taken}
 use Rattle.revision.specs.State.{State, fold}
 use Rattle.recovery.specs.declared.store.Store.{Store}
@@ -104,10 +105,11 @@ module _ {D : Type 0} {disk : Ghosts D} where
     pub answers : All (KeepsAnswers order written waiting moments old new) desks
     pub nothing_else : length order ≡ sum_by (λ (desk : Desk). desk.counted) desks
 
-  -- Such a life, and how its writing ended: it fails only with the device.
+  -- Such a life, and how its writing ended: it fails exactly with the device, and is refused otherwise only by a full journal.
   pub record HasLived (Sessions : List Desk → Type 0) (written : Result (Unit {0}) Refusal) (old new : Store D disk) : Type 0 where
     pub served : WasServed Sessions (is_ok written) old new
     pub fails : has_failed old ≡ false → (has_failed new ≡ true ↔ IsErrOf written Fault)
+    pub causes : IfErr written (λ e. e ≢ Fault → IsOneOf e (JournalFull ∷ StillNeeded ∷ []))
 
 module _ {D L : Type 0} {disk : Ghosts D} where
   -- a flusher that has nothing to write, showed readers nothing yet, and began with the store that it has

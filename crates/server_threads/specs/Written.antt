@@ -1,5 +1,5 @@
 -- What comes of the thread that writes.
-use Rattle.std.specs.Prelude.{◌≡◌, false, Bool, Result}
+use Rattle.std.specs.Prelude.{◌≡◌, Result}
 use Rattle.disk.specs.declared.device.Disk.{Ghosts}
 use Rattle.refusal.specs.declared.Refusal.{Refusal}
 use Rattle.revision.specs.State.{State}
@@ -10,11 +10,11 @@ use Rattle.turns.specs.Turning.{HasWritten}
 use Rattle.server_threads.specs.Served.{IsStarted}
 
 module _ {D L : Type 0} {disk : Ghosts D} where
-  -- A flusher wrote until the hub was ended, or until a turn failed; one that wasn't begun is unchanged.
-  pub record HasRun (start : State) (old new : Flusher D L disk) (answer : Result (Unit {0}) Refusal) (begun : Bool) : Type 0 where
-    pub wrote : HasWritten start old new answer
-    pub unbegun : begun ≡ false → new ≡ old
-
   -- what comes of any flusher that was just started over this store
   abbrev pub StartedOverWrites : State → Store D disk → Flusher D L disk → Result (Unit {0}) Refusal → Type 0
   StartedOverWrites start store new answer = (old : Flusher D L disk) → IsStarted old → store_of old ≡ store → HasWritten start old new answer
+
+  -- a flusher that was just started over this store
+  pub record IsStartedOver (store : Store D disk) (flusher : Flusher D L disk) : Type 0 where
+    pub started : IsStarted flusher
+    pub over : store_of flusher ≡ store

@@ -1,8 +1,8 @@
 //! Writing in a thread of its own, beside the sessions in this thread.
-ghost use Rattle.std.specs.Prelude.{◌≡◌, IfOk, IfErr};
+ghost use Rattle.std.specs.Prelude.{◌≡◌, IfOk, IfErr, OnOk};
 ghost use Rattle.flusher.specs.Holding.{store_of};
 ghost use Rattle.server_threads.specs.Served.{IsStarted};
-ghost use Rattle.server_threads.specs.Written.{HasRun};
+ghost use Rattle.turns.specs.Counting.{IsAllPublished};
 ghost use Rattle.turns.specs.Turning.{HasWritten};
 
 use crate::life::Ready;
@@ -25,6 +25,7 @@ pub(crate) struct Both<A, C, D: Disk, L: Life> {
     pub(crate) written: Result<(), Refusal>,
     pub(crate) writer: Writer<L>,
     pub(crate) left: (A, C),
+    ghost all: { OnOk written (IsAllPublished writer flusher) },
 }
 
 /// Holds sessions in this thread, as `hold` does, while another thread writes until the hub is ended, which `hold` is to do once they have
@@ -114,38 +115,49 @@ fn hold_in<
     let has_thread = writing.has_thread;
     let spawned = scope.spawn_with(
         written_by,
-        move || -> Written<'_, D, L, R>
+        move || -> Result<Written<'_, D, L, R>, Writing<'_, D, L, R, W>>
             requires { IsStarted writing.flusher }
-            ensures { HasRun L.start writing.entry.flusher result.flusher result.answer result.is_begun }
+            ensures written { IfOk result (λ written. HasWritten L.start writing.entry.flusher written.flusher written.answer) }
+            ensures unbegun { IfErr result (λ back. back.flusher ≡ writing.entry.flusher) }
         { writing.run() },
     );
     match spawned {
         Ok(thread) => {
             let left = hold(sessions, desks);
-            let (flusher, written, writer) = thread.join(rt).into_parts();
-            Ok(Both {
-                flusher,
-                written,
-                writer,
-                left,
-            })
+            match thread.join(rt) {
+                Ok(written) => Ok(both_of(written, left)),
+                // Never reached, as no clause says of an atomic: the thread has begun. What it didn't write is written here.
+                Err(writing) => Ok(both_of(writing.write(None), left)),
+            }
         }
         Err(refused) => {
             has_thread.store(false, Ordering::SeqCst);
-            let run = (refused.value)();
-            let is_begun = run.is_begun;
-            let (flusher, written, writer) = run.into_parts();
-            if !is_begun {
-                return Err((flusher, sessions));
+            match (refused.value)() {
+                Err(writing) => Err((writing.into_flusher(), sessions)),
+                // Never reached either: without a thread nothing was written. The sessions are held here too.
+                Ok(written) => {
+                    let left = hold(sessions, desks);
+                    Ok(both_of(written, left))
+                }
             }
-            // Never reached: without a thread no run begins. No clause says what an atomic holds, so the sessions are held here too.
-            let left = hold(sessions, desks);
-            Ok(Both {
-                flusher,
-                written,
-                writer,
-                left,
-            })
         }
+    }
+}
+
+// What came of both.
+fn both_of<A, C, L: Life, R: Wait, D: Disk + Drop>(
+    written: Written<'_, D, L, R>,
+    left: (A, C),
+) -> Both<A, C, D, L>
+    ensures flusher { result.flusher ≡ written.entry.flusher }
+    ensures written { result.written ≡ written.entry.answer }
+    ensures left { result.left ≡ left }
+{
+    let (flusher, answer, writer) = written.into_parts();
+    Both {
+        flusher,
+        written: answer,
+        writer,
+        left,
     }
 }

@@ -1,8 +1,10 @@
 //! A store over connections.
-ghost use Rattle.std.specs.Prelude.{◌≡◌, ◌↔◌, ◌+◌, true, false, Ok, Err, All, IfOk, IfErr, OnOk, IsErrOf, is_ok, length};
+ghost use Rattle.std.specs.Prelude.{◌≡◌, ◌≢◌, ◌⊎◌, ◌↔◌, ◌+◌, ◌∷◌, [], true, false, Ok, Err, All, IfOk, IfErr, OnOk, IsErrOf, is_ok, length};
+ghost use Rattle.refusal.specs.Refusal.{IsOneOf};
 ghost use Rattle.sockets.specs.Attendance.{visits_of, IsAttended, IsOfNobody};
 ghost use Rattle.recovery.specs.Open.{state_of, has_failed};
 ghost use Rattle.flusher.specs.Holding.{store_of};
+ghost use Rattle.turns.specs.Writing.{told_count};
 ghost use Rattle.server_threads.specs.Answers.{first_desk};
 ghost use Rattle.server_threads.specs.Connections.{EachHasServed};
 ghost use Rattle.server_threads.specs.Held.{AreSeated, HasHeld, HaveEnded, IsNamed, IsNewServer};
@@ -63,8 +65,9 @@ pub fn serve_on<R: Threads + Wait + Clock + Sync, N: Listen, D: Disk + Send + Dr
     // Who was turned away was asked nothing. After an `Ok` all who came by the listener's calls are there, and the newest of these failed.
     ensures attended { IsAttended (N.arrivals listener) (N.arrivals result.listener) result.attendance }
     ensures complete { OnOk result.served (result.attendance.is_complete ≡ true) }
-    // It fails only with the device.
+    // It fails exactly with the device, and is refused otherwise only out of memory or by a full journal.
     ensures fails { has_failed store ≡ false → (has_failed result.store ≡ true ↔ IsErrOf result.served Refusal.Fault) }
+    ensures causes { IfErr result.served (λ e. e ≢ Refusal.Fault → IsOneOf e (Refusal.NoMemory ∷ Refusal.JournalFull ∷ Refusal.StillNeeded ∷ [])) }
 {
     let Some(named) = Named::new(SEATS) else {
         return unserved(alloc, store, listener);
@@ -108,6 +111,7 @@ fn serve_run<
     ensures attended { IsAttended (N.arrivals listener) (N.arrivals result.listener) result.attendance }
     ensures complete { OnOk result.served (result.attendance.is_complete ≡ true) }
     ensures fails { has_failed store ≡ false → (has_failed result.store ≡ true ↔ IsErrOf result.served Refusal.Fault) }
+    ensures causes { IfErr result.served (λ e. e ≢ Refusal.Fault → IsOneOf e (Refusal.NoMemory ∷ Refusal.JournalFull ∷ Refusal.StillNeeded ∷ [])) }
 {
     let (hub, server) = match begin::<L, R, D>(rt, alloc, store, named, SEATS) {
         Ok(begun) => begun,
@@ -122,7 +126,8 @@ fn serve_run<
     };
     match hold_at(&shared, server, listener, idle) {
         Ok((past, heard)) => {
-            let (store, written) = end(rt, hub, past);
+            let written = past.written;
+            let store = end(rt, hub, past);
             let Heard {
                 listener,
                 attendance,
@@ -163,7 +168,7 @@ fn hold_at<
 ) -> Result<(Ending<D, L>, Heard<N>), (Flusher<D, L>, N)>
     requires ready { IsNewServer L.parts server.held.value server.flusher server.seats.items server.tally }
     ensures held { IfOk result (λ both. HasHeld (EachHasServed L.start (visits_of both.1.attendance)) L.start server.flusher both.0.ordered
-        both.0.published both.0.tally.counted both.0.written (store_of both.0.flusher)) }
+        (told_count both.0.flusher) both.0.tally.counted both.0.written (store_of both.0.flusher)) }
     ensures attended { IfOk result (λ both. IsAttended (N.arrivals listener) (N.arrivals both.1.listener) both.1.attendance) }
     ensures complete { IfOk result (λ both. OnOk both.1.answer (both.1.attendance.is_complete ≡ true)) }
     ensures seats { IfOk result (λ both. both.0.tally.seats + 1 ≡ L.parts) }
@@ -233,6 +238,7 @@ fn first_failure(
 ) -> Result<(), Refusal>
     ensures ok { OnOk result ((written ≡ Ok tt) × (served ≡ Ok tt)) }
     ensures fault { IsErrOf result Refusal.Fault ↔ IsErrOf written Refusal.Fault }
+    ensures which { IfErr result (λ e. (e ≡ Refusal.NoMemory) ⊎ IsErrOf written e) }
 {
     written?;
     Ok(served?)

@@ -1,7 +1,8 @@
 //! The life of a server: how it begins, and how it ends.
-ghost use Rattle.std.specs.Prelude.{◌≡◌, ◌+◌, ◌↔◌, Ok, IfOk, IfSome, IfErr, OnOk, IsErrOf, List};
+ghost use Rattle.std.specs.Prelude.{◌≡◌, ◌+◌, IfOk, IfSome, IfErr, OnOk, List};
 ghost use Rattle.flusher.specs.Holding.{store_of};
-ghost use Rattle.turns.specs.Counting.{IsAt};
+ghost use Rattle.turns.specs.Counting.{IsAt, IsAllPublished};
+ghost use Rattle.turns.specs.Writing.{told_count};
 ghost use Rattle.hub_desk.specs.AtHub.{Desk};
 ghost use Rattle.server_threads.specs.Held.{AreSeated, AreTallied, IsCounted, IsKept, IsNamed, IsNewServer, IsTallied};
 ghost use Rattle.server_threads.specs.Served.{IsStarted};
@@ -178,15 +179,15 @@ pub(crate) fn make_ready<'a, L: Life, R: Wait, D: Disk + Drop, W: Watch<D>>(
     Ok((ready, seated))
 }
 
-/// What is left where all sessions have ended: the flusher and how its writing ended, the rights to the hub, a token of the order, how many
-/// commands are published, and the tally of the seats.
+/// What is left where all sessions have ended: the flusher and how its writing ended, the rights to the hub, a token of the order, and the tally
+/// of the seats. The writing ended well only where all of the order is published.
 pub(crate) struct Ending<D: Disk, L: Life> {
     pub(crate) flusher: Flusher<D, L>,
     pub(crate) written: Result<(), Refusal>,
     pub(crate) rights: Rights<L>,
     pub(crate) ordered: Ordered<L>,
-    pub(crate) published: u64,
     pub(crate) tally: Tally<L>,
+    ghost all: { OnOk written (IsAllPublished rights.writer flusher) },
 }
 
 /// What is left where the sessions' desks are tallied and the writing has ended, with what the sessions answered. Each desk was told of no more than
@@ -196,7 +197,7 @@ pub(crate) fn ending_of<A, L: Life, R: Wait, D: Disk, W>(
     both: Both<A, Closing<D, L>, D, L>,
 ) -> (Ending<D, L>, A)
     ensures tallied { (desks : List Desk) → AreTallied desks both.left.1.told both.left.1.ordered both.left.1.tally.counted
-        → IsTallied L.start desks both.flusher result.0.ordered result.0.published result.0.tally.counted (store_of result.0.flusher) }
+        → IsTallied L.start desks both.flusher result.0.ordered (told_count result.0.flusher) result.0.tally.counted (store_of result.0.flusher) }
     ensures written { result.0.written ≡ both.written }
     ensures seats { result.0.tally ≡ both.left.1.tally }
     ensures answer { result.1 ≡ both.left.0 }
@@ -219,7 +220,6 @@ pub(crate) fn ending_of<A, L: Life, R: Wait, D: Disk, W>(
     flusher.lasts();
     flusher.few();
     let mut ordered = flusher.ordered();
-    let published = flusher.told().len();
     let found = Found::of(found);
     shared.hub.join(shared.rt, &found, &mut ordered);
     flusher.covers(&told);
@@ -228,45 +228,29 @@ pub(crate) fn ending_of<A, L: Life, R: Wait, D: Disk, W>(
         written,
         rights: Rights { writer, closer },
         ordered,
-        published,
         tally,
     };
     (past, answer)
 }
 
-/// Ends a server all of whose seats are tallied, and gives the store back and how the writing ended: well only where all of the order is
-/// published.
+/// Ends a server all of whose seats are tallied, and gives the store back. Where the writing ended well all of the order is published.
 pub(crate) fn end<L: Life, R: Wait, D: Disk + Drop>(
     rt: &R,
     hub: Hub<D, L>,
     past: Ending<D, L>,
-) -> (Store<D>, Result<(), Refusal>)
+) -> Store<D>
     requires seats { past.tally.seats + 1 ≡ L.parts }
-    ensures store { result.0 ≡ store_of past.flusher }
-    ensures counted { IsCounted L.start past.ordered past.published past.tally.counted past.written result.1 }
+    ensures store { result ≡ store_of past.flusher }
+    ensures counted { IsCounted L.start past.ordered (told_count past.flusher) past.tally.counted past.written }
 {
     let Ending {
         flusher,
-        written,
+        written: _,
         rights,
         ordered,
-        published,
         tally,
     } = past;
     let board = hub.into_board(rights.writer, rights.closer);
-    let count = board.end(tally, &ordered);
-    let answer = all_written(written, count, published);
-    (flusher.end(rt), answer)
-}
-
-// How the writing ended, of as many commands as are published: well only where the order has no more.
-fn all_written(written: Result<(), Refusal>, ordered: usize, published: u64) -> Result<(), Refusal>
-    ensures all { OnOk result ((written ≡ Ok tt) × (ordered ≡ published)) }
-    ensures fault { IsErrOf result Refusal.Fault ↔ IsErrOf written Refusal.Fault }
-{
-    written?;
-    if ordered as u64 != published {
-        return Err(Refusal::StoreFailed);
-    }
-    Ok(())
+    let _ordered = board.end(tally, &ordered);
+    flusher.end(rt)
 }

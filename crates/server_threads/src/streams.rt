@@ -3,6 +3,7 @@ ghost use Rattle.std.specs.Prelude.{◌≡◌, ◌+◌, false, [], All, IfOk, On
 ghost use Rattle.recovery.specs.Open.{state_of, has_failed};
 ghost use Rattle.serving.specs.Serving.{beginning};
 ghost use Rattle.flusher.specs.Holding.{store_of};
+ghost use Rattle.turns.specs.Writing.{told_count};
 ghost use Rattle.server_threads.specs.Answers.{first_desk};
 ghost use Rattle.server_threads.specs.Held.{AreSeated, HasHeld, HaveEnded, IsNamed, IsNewServer};
 ghost use Rattle.server_threads.specs.Served.{WasServed};
@@ -117,7 +118,8 @@ fn serve_run<
     };
     match hold_at(&shared, server, streams) {
         Ok((past, held)) => {
-            let (store, written) = end(rt, hub, past);
+            let written = past.written;
+            let store = end(rt, hub, past);
             let (streams, answer) = held;
             streams.back(store, first_failure(answer, written))
         }
@@ -146,8 +148,8 @@ fn hold_at<
     requires one { L.parts ≡ 2 }
     ensures held { IfOk result (λ all. HasHeld (ByOne (EndsAtHub all.1.1 L.start
         (I.remaining streams.input) (I.remaining all.1.0.input) (O.contents streams.output) (O.contents all.1.0.output)
-        (I.has_failed all.1.0.input) (O.has_failed all.1.0.output))) L.start server.flusher all.0.ordered all.0.published all.0.tally.counted
-        all.0.written (store_of all.0.flusher)) }
+        (I.has_failed all.1.0.input) (O.has_failed all.1.0.output))) L.start server.flusher all.0.ordered (told_count all.0.flusher)
+        all.0.tally.counted all.0.written (store_of all.0.flusher)) }
     ensures seats { IfOk result (λ all. all.0.tally.seats + 1 ≡ L.parts) }
     ensures only { IfOk result (λ all. IfErr all.1.1 (λ e. e ≡ ServingError.Stream)) }
     ensures refused { IfErr result (λ back. (back.0 ≡ server.flusher) × (back.1 ≡ streams)) }

@@ -1,6 +1,6 @@
 //! The thread that writes.
-ghost use Rattle.std.specs.Prelude.{◌≡◌, true};
-ghost use Rattle.turns.specs.Counting.{IsAt};
+ghost use Rattle.std.specs.Prelude.{IfOk, IfErr, OnOk};
+ghost use Rattle.turns.specs.Counting.{IsAt, IsAllPublished};
 ghost use Rattle.turns.specs.Turning.{HasWritten};
 
 use crate::moments::Moments;
@@ -50,38 +50,22 @@ impl<D: Disk + Drop, L: Life, R: Wait, W> Drop for Writing<'_, D, L, R, W> {
 }
 
 impl<'a, D: Disk + Drop, L: Life, R: Threads + Wait + Sync, W: Watch<D>> Writing<'a, D, L, R, W> {
-    ghost use Rattle.server_threads.specs.Served.{IsStarted};
-    ghost use Rattle.server_threads.specs.Written.{HasRun};
+    ghost use Rattle.std.specs.Prelude.{◌≡◌};
 
-    /// Makes turns until the hub is ended, beside composers. Where there is no thread for it, it writes nothing.
-    #[tactic(auto, using(crate::proofs::Served::unbegun_run, crate::proofs::Served::ended_run))]
-    pub(crate) fn run(self) -> Written<'a, D, L, R>
-        requires { IsStarted self.flusher }
-        ensures { HasRun L.start self.entry.flusher result.flusher result.answer result.is_begun }
+    /// Makes turns until the hub is ended, beside composers. Where there is no thread for it, it is given back unchanged.
+    pub(crate) fn run(self) -> Result<Written<'a, D, L, R>, Writing<'a, D, L, R, W>>
+        ensures written { IfOk result (λ written. HasWritten L.start self.entry.flusher written.flusher written.answer) }
+        ensures unbegun { IfErr result (λ back. back.flusher ≡ self.entry.flusher) }
     {
-        self.flusher.kept();
         if !self.has_thread.load(Ordering::SeqCst) {
-            let Writing {
-                shared,
-                has_thread: _,
-                flusher,
-                writer,
-            } = self;
-            return Written {
-                rt: shared.rt,
-                flusher,
-                writer,
-                answer: Ok(()),
-                is_begun: false,
-            };
+            return Err(self);
         }
-        write_beside(self)
+        Ok(write_beside(self))
     }
 
-    // Makes turns until the hub is ended.
-    fn write(self, composers: Option<Composers>) -> Written<'a, D, L, R>
-        ensures written { HasWritten L.start self.entry.flusher result.flusher result.answer }
-        ensures begun { result.is_begun ≡ true }
+    /// Makes turns until the hub is ended.
+    pub(crate) fn write(self, composers: Option<Composers>) -> Written<'a, D, L, R>
+        ensures { HasWritten L.start self.entry.flusher result.flusher result.answer }
     {
         let Writing {
             shared,
@@ -97,8 +81,20 @@ impl<'a, D: Disk + Drop, L: Life, R: Threads + Wait + Sync, W: Watch<D>> Writing
             flusher,
             writer,
             answer,
-            is_begun: true,
         }
+    }
+
+    /// The flusher, where it wrote nothing.
+    pub(crate) fn into_flusher(self) -> Flusher<D, L>
+        ensures { result ≡ self.entry.flusher }
+    {
+        let Writing {
+            shared: _,
+            has_thread: _,
+            flusher,
+            writer: _writer,
+        } = self;
+        flusher
     }
 }
 
@@ -107,8 +103,7 @@ impl<'a, D: Disk + Drop, L: Life, R: Threads + Wait + Sync, W: Watch<D>> Writing
 fn write_beside<'a, D: Disk + Drop, L: Life, R: Threads + Wait + Sync, W: Watch<D>>(
     writing: Writing<'a, D, L, R, W>,
 ) -> Written<'a, D, L, R>
-    ensures written { HasWritten L.start writing.entry.flusher result.flusher result.answer }
-    ensures begun { result.is_begun ≡ true }
+    ensures { HasWritten L.start writing.entry.flusher result.flusher result.answer }
 {
     let rt = writing.shared.rt;
     let alloc = writing.shared.alloc;
@@ -118,8 +113,7 @@ fn write_beside<'a, D: Disk + Drop, L: Life, R: Threads + Wait + Sync, W: Watch<
                 rt,
                 move || compose_workers(rt, alloc, first, second, &OpenHalves),
                 move || -> Written<'_, D, L, R>
-                    ensures written { HasWritten L.start writing.entry.flusher result.flusher result.answer }
-                    ensures begun { result.is_begun ≡ true }
+                    ensures { HasWritten L.start writing.entry.flusher result.flusher result.answer }
                 { writing.write(Some(composers)) },
             );
             written
@@ -137,7 +131,8 @@ fn write_all<L: Life, R: Wait, D: Disk, W: Watch<D>>(
     composers: Option<Composers>,
 ) -> Result<(), Refusal>
     requires at { IsAt writer.old flusher.old }
-    ensures { HasWritten L.start flusher.old flusher.new result }
+    ensures written { HasWritten L.start flusher.old flusher.new result }
+    ensures all { OnOk result (IsAllPublished writer.new flusher.new) }
 {
     let mut moments: Moments<'_, D, W> = Moments::new(shared.watch);
     match flush_all(

@@ -9,14 +9,14 @@ use Rattle.recovery.specs.Moment.{Receipt}
 use Rattle.recovery.specs.declared.store.Store.{Store}
 use Rattle.revision.specs.State.{State}
 use Rattle.hub.specs.Legal.{Board}
-use Rattle.hub.specs.Runs.{ComesNext, Writer, counts_settled, counts_taken}
+use Rattle.hub.specs.Runs.{ComesNext, Writer, counts_ended, counts_settled, counts_taken}
 use Rattle.flusher.specs.declared.flusher.Flusher.{Flusher}
 use Rattle.flusher.specs.Holding.{KeepsBatches, told_of, committed_of, waiting_of, under_way}
 use Rattle.flusher.specs.Standing.{HaveBegun}
 use Rattle.flusher.specs.Upkeep.{KeepsUp}
 use Rattle.flusher.specs.Writing.{HasCommitted, HasPublished, HoldsNow, IsHeldBack}
 use Rattle.flusher.proofs.CallerLemmas.{commands-append}
-use Rattle.turns.specs.Counting.{IsAt}
+use Rattle.turns.specs.Counting.{IsAt, IsAllPublished}
 use Rattle.turns.specs.Writing.{told_count}
 
 module _ {D L : Type 0} {disk : Ghosts D} where
@@ -49,7 +49,7 @@ module _ {D L : Type 0} {disk : Ghosts D} where
 
   -- a hub of a board that has begun with the flusher, whatever seats it gave
   pub at_begun : (start : State) (store : Store D disk) (seats : ℕ) (flusher : Flusher D L disk) (begun board : Board) (writer : Writer) → HaveBegun start store seats flusher begun
-      → board.progress ≡ begun.progress → writer ≡ record { taken = board.progress.taken; settled = board.progress.settled } → IsAt writer flusher
+      → board.progress ≡ begun.progress → writer ≡ record { taken = board.progress.taken; settled = board.progress.settled; ended = 0 } → IsAt writer flusher
   at_begun start store seats flusher begun board writer has same is =
       let none : told_count flusher ≡ 0 = ap (λ (t : List (List Taken)). length (commands_of t)) has.told in
       record {
@@ -68,6 +68,21 @@ module _ {D L : Type 0} {disk : Ghosts D} where
   pub follows : (writer : Writer) (flusher : Flusher D L disk) → committed_of flusher ≡ [] → waiting_of flusher ≡ [] → IsAt writer flusher → writer.taken ≡ told_count flusher
   follows writer flusher committed waiting at =
       omega (arith, at.taken, ap (λ (t : List (List Taken)). length (commands_of t)) (nothing flusher committed waiting))
+
+  -- the writer was told that nothing comes any more
+  pub at_end : (writer after : Writer) (flusher : Flusher D L disk) → after ≡ counts_ended writer → IsAt writer flusher → IsAt after flusher
+  at_end writer after flusher is at = record {
+    settled = ap (λ (w : Writer). w.settled) is ∙ at.settled;
+    taken = ap (λ (w : Writer). w.taken) is ∙ at.taken;
+  }
+
+  -- and then all of the order is published, where nothing is under way
+  pub all_published : (writer after : Writer) (flusher : Flusher D L disk) → after ≡ counts_ended writer → committed_of flusher ≡ [] → waiting_of flusher ≡ [] → IsAt writer flusher
+      → IsAllPublished after flusher
+  all_published writer after flusher is committed waiting at = record {
+    ended = ap (λ (w : Writer). w.ended) is;
+    all = ap (λ (w : Writer). w.taken) is ∙ follows writer flusher committed waiting at;
+  }
 
   -- a run was taken off that has no command
   pub at_none : (writer after : Writer) (flusher : Flusher D L disk) → after ≡ counts_taken writer 0 → IsAt writer flusher → IsAt after flusher

@@ -8,7 +8,7 @@ ghost use Rattle.flusher.specs.Holding.{store_of, told_of, committed_of, waiting
 ghost use Rattle.hub.specs.Moves.{ComesOff};
 ghost use Rattle.hub.specs.Runs.{counts_taken};
 ghost use Rattle.flusher.specs.Writing.{IsFullForGood};
-ghost use Rattle.turns.specs.Counting.{IsAt};
+ghost use Rattle.turns.specs.Counting.{IsAt, IsAllPublished};
 ghost use Rattle.turns.specs.Writing.{Writes, IsTurnFailed};
 ghost use Rattle.turns.specs.Turning.{HasWritten, IsTurn};
 
@@ -229,6 +229,8 @@ pub fn flush_all<D: Disk, L: Life, R: Wait, G: Gate>(
     requires at { IsAt writer.old flusher.old }
     ensures at { IsAt writer.new flusher.new }
     ensures written { HasWritten L.start flusher.old flusher.new result }
+    // It ends well only where all of the order is published.
+    ensures all { OnOk result (IsAllPublished writer.new flusher.new) }
 {
     flusher.kept();
     let mut upkeep = Upkeep::new(alloc, every, composers, flusher.state());

@@ -1,6 +1,7 @@
 use Rattle.std.proofs.Common.{◌≡◌, ◌+◌, ap, sym, subst, arith, true, rules}
 use Rattle.std.specs.Prelude.{OnOk}
 use Rattle.flusher.specs.Holding.{store_of}
+use Rattle.turns.specs.Writing.{told_count}
 use Rattle.sockets.specs.Attendance.{visits_of, IsAttended}
 use Rattle.server_threads.specs.Connections.{EachHasServed}
 use Rattle.server_threads.specs.Held.{HaveEnded}
@@ -15,7 +16,7 @@ returns-in-Ok-hold_beside-clause-held g c =
     let closing = both.left.1 in
     let ended : HaveEnded (EachHasServed g.L.Life.start (visits_of both.left.0.attendance)) closing.told closing.ordered closing.tally.counted = search rules in
     has_held (EachHasServed g.L.Life.start (visits_of c.ending_of.result.1.attendance)) g.L.Life.start c.args.server.flusher c.in-Ok.both.0.flusher both.flusher
-    closing.told closing.ordered past.ordered past.published closing.tally.counted past.tally.counted both.written past.written (store_of past.flusher)
+    closing.told closing.ordered past.ordered (told_count past.flusher) closing.tally.counted past.tally.counted both.written past.written (store_of past.flusher)
     c.in-Ok.ensures.flusher c.in-Ok.ensures.kept c.in-Ok-hold_beside.ensures.written c.ending_of.ensures.written c.ending_of.ensures.tallied
     (subst (λ h. HaveEnded (EachHasServed g.L.Life.start (visits_of h.attendance)) closing.told closing.ordered closing.tally.counted) (sym c.ending_of.ensures.answer) ended)
 

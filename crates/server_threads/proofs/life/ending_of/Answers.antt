@@ -19,7 +19,7 @@ returns-clause-tallied g c desks tallied =
       begins = begins_longer (commands_of (told_of last ++ (committed_of last ++ waiting_of last))) c.ordered-ordered.result c.join.new.ordered
           c.ordered-ordered.ensures.begins c.join.ensures.before;
       found = found_longer closing.ordered c.join.new.ordered desks (subst (λ l. IsPrefix l c.join.new.ordered) c.of-found.ensures c.join.ensures.found) tallied.found;
-      so_many = c.len-published.ensures ∙ ap (λ t. length (commands_of t)) c.told.ensures;
+      so_many = ap (λ t. length (commands_of t)) c.covers.ensures.batches.told;
       told = told_longer closing.told (told_of last ++ committed_of last) desks c.covers.ensures.begins tallied.told;
       counts = tallied.counts;
     }

@@ -1,6 +1,7 @@
 use Rattle.std.proofs.Common.{◌≡◌, ◌+◌, length, sym, ap, subst, arith, rules}
 use Rattle.std.specs.Prelude.{IfErr}
 use Rattle.flusher.specs.Holding.{store_of}
+use Rattle.turns.specs.Writing.{told_count}
 use Rattle.serving.specs.declared.failure.ServingError.TheVariants.{Stream}
 use Rattle.server_threads.specs.Held.{HaveEnded}
 use Rattle.server_threads.specs.Streams.{ByOne, EndsAtHub}
@@ -25,7 +26,7 @@ returns-in-Ok-hold_beside-clause-held g c =
     closing.told closing.ordered closing.tally.counted = search rules in
     has_held (ByOne (EndsAtHub c.ending_of.result.1.1 g.L.Life.start (g.I.Input.remaining c.args.streams.input) (g.I.Input.remaining c.ending_of.result.1.0.input)
     (g.O.Output.contents c.args.streams.output) (g.O.Output.contents c.ending_of.result.1.0.output) (g.I.Input.has_failed c.ending_of.result.1.0.input) (g.O.Output.has_failed c.ending_of.result.1.0.output))) g.L.Life.start c.args.server.flusher c.in-Ok-make_ready.both.0.flusher both.flusher
-    closing.told closing.ordered past.ordered past.published closing.tally.counted past.tally.counted both.written past.written (store_of past.flusher)
+    closing.told closing.ordered past.ordered (told_count past.flusher) closing.tally.counted past.tally.counted both.written past.written (store_of past.flusher)
     c.in-Ok-make_ready.ensures.flusher c.in-Ok-make_ready.ensures.kept c.in-Ok-hold_beside.ensures.written c.ending_of.ensures.written c.ending_of.ensures.tallied
     (subst (λ a. HaveEnded (ByOne (EndsAtHub a.1 g.L.Life.start (g.I.Input.remaining c.args.streams.input) (g.I.Input.remaining a.0.input)
     (g.O.Output.contents c.args.streams.output) (g.O.Output.contents a.0.output) (g.I.Input.has_failed a.0.input) (g.O.Output.has_failed a.0.output)))

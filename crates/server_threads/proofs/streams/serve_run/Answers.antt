@@ -3,6 +3,7 @@ use Rattle.std.specs.Prelude.{Result, is_ok, Err, OnOk}
 use Rattle.refusal.specs.declared.Refusal.TheVariants.{NoMemory}
 use Rattle.recovery.specs.Open.{state_of, has_failed}
 use Rattle.flusher.specs.Holding.{store_of}
+use Rattle.turns.specs.Writing.{told_count}
 use Rattle.serving.specs.declared.failure.ServingError.{ServingError}
 use Rattle.serving.specs.declared.failure.ServingError.TheVariants.{Refused}
 use Rattle.hub_desk.specs.AtHub.{Desk}
@@ -19,20 +20,20 @@ returns-in-Ok-hold_at-clause-served g c =
     let after = c.in-Ok-hold_at.held.0 in
     let answer = c.in-Ok-hold_at.held.1 in
     let old = c.in-Ok.begun.1.flusher in
-    let written = c.end-store.result.1 in
+    let written = past.written in
     let ends : Result (Unit {0}) ServingError → Desk → Type 0 = λ r. EndsAtHub r g.L.Life.start (g.I.Input.remaining c.args.streams.input) (g.I.Input.remaining after.input)
     (g.O.Output.contents c.args.streams.output) (g.O.Output.contents after.output) (g.I.Input.has_failed after.input) (g.O.Output.has_failed after.output) in
-    let lived = lived_from (ByOne (ends answer)) g.L.Life.start old past.ordered past.published past.tally.counted past.written
-    written (store_of past.flusher) c.end-store.result.0 c.end-store.ensures.store c.in-Ok.ensures.ready.started c.in-Ok-hold_at.ensures.held c.end-store.ensures.counted in
+    let lived = lived_from (ByOne (ends answer)) g.L.Life.start old past.ordered (told_count past.flusher) past.tally.counted past.written
+    (store_of past.flusher) c.end-store.result c.end-store.ensures.store c.in-Ok.ensures.ready.started c.in-Ok-hold_at.ensures.held c.end-store.ensures.counted in
     subst (λ b. WasServed (ByOne (EndsAtHub b.served (state_of c.args.store) (g.I.Input.remaining c.args.streams.input) (g.I.Input.remaining b.input)
     (g.O.Output.contents c.args.streams.output) (g.O.Output.contents b.output) (g.I.Input.has_failed b.input) (g.O.Output.has_failed b.output)))
     (is_ok b.served) c.args.store b.store) (sym c.back-in-Ok-hold_at.ensures)
     (subst (λ s. WasServed (ByOne (EndsAtHub c.first_failure.result s (g.I.Input.remaining c.args.streams.input) (g.I.Input.remaining after.input)
-    (g.O.Output.contents c.args.streams.output) (g.O.Output.contents after.output) (g.I.Input.has_failed after.input) (g.O.Output.has_failed after.output))) (is_ok c.first_failure.result) c.args.store c.end-store.result.0) (sym c.requires.named.state)
-    (subst (λ s. WasServed (ByOne (ends c.first_failure.result)) (is_ok c.first_failure.result) s c.end-store.result.0) c.in-Ok.ensures.store
-    (subst (λ r. WasServed (ByOne (ends r)) (is_ok r) (store_of old) c.end-store.result.0) (sym c.first_failure.ensures)
+    (g.O.Output.contents c.args.streams.output) (g.O.Output.contents after.output) (g.I.Input.has_failed after.input) (g.O.Output.has_failed after.output))) (is_ok c.first_failure.result) c.args.store c.end-store.result) (sym c.requires.named.state)
+    (subst (λ s. WasServed (ByOne (ends c.first_failure.result)) (is_ok c.first_failure.result) s c.end-store.result) c.in-Ok.ensures.store
+    (subst (λ r. WasServed (ByOne (ends r)) (is_ok r) (store_of old) c.end-store.result) (sym c.first_failure.ensures)
     (served_as (ByOne (ends answer)) (ByOne (ends (first_of answer written))) (is_ok written) (is_ok (first_of answer written))
-    (store_of old) c.end-store.result.0
+    (store_of old) c.end-store.result
     (by_one (ends answer) (ends (first_of answer written))
     (λ desk is. ends_with g.L.Life.start (g.I.Input.remaining c.args.streams.input) (g.I.Input.remaining after.input)
     (g.O.Output.contents c.args.streams.output) (g.O.Output.contents after.output) (g.I.Input.has_failed after.input) (g.O.Output.has_failed after.output)
@@ -41,7 +42,7 @@ returns-in-Ok-hold_at-clause-served g c =
 
 pub returns-in-Ok-hold_at-clause-no_memory : goal.returns-in-Ok-hold_at-clause-no_memory
 returns-in-Ok-hold_at-clause-no_memory g c =
-    λ is. absurd (with_memory c.in-Ok-hold_at.held.1 c.end-store.result.1 c.in-Ok-hold_at.ensures.only
+    λ is. absurd (with_memory c.in-Ok-hold_at.held.1 c.in-Ok-hold_at.past.written c.in-Ok-hold_at.ensures.only
     (sym c.first_failure.ensures ∙ (sym (ap (λ b. b.served) c.back-in-Ok-hold_at.ensures) ∙ is)))
 
 pub returns-in-Ok-hold_at-clause-works : goal.returns-in-Ok-hold_at-clause-works
@@ -52,12 +53,12 @@ returns-in-Ok-hold_at-clause-works g c =
     let old = c.in-Ok.begun.1.flusher in
     let ends : Desk → Type 0 = EndsAtHub answer g.L.Life.start (g.I.Input.remaining c.args.streams.input) (g.I.Input.remaining after.input)
     (g.O.Output.contents c.args.streams.output) (g.O.Output.contents after.output) (g.I.Input.has_failed after.input) (g.O.Output.has_failed after.output) in
-    let lived = lived_from (ByOne ends) g.L.Life.start old past.ordered past.published past.tally.counted past.written
-    c.end-store.result.1 (store_of past.flusher) c.end-store.result.0 c.end-store.ensures.store c.in-Ok.ensures.ready.started c.in-Ok-hold_at.ensures.held c.end-store.ensures.counted in
+    let lived = lived_from (ByOne ends) g.L.Life.start old past.ordered (told_count past.flusher) past.tally.counted past.written
+    (store_of past.flusher) c.end-store.result c.end-store.ensures.store c.in-Ok.ensures.ready.started c.in-Ok-hold_at.ensures.held c.end-store.ensures.counted in
     subst (λ b. OnOk b.served (has_failed c.args.store ≡ false → has_failed b.store ≡ false)) (sym c.back-in-Ok-hold_at.ensures)
-    (subst (λ s. OnOk c.first_failure.result (has_failed s ≡ false → has_failed c.end-store.result.0 ≡ false)) c.in-Ok.ensures.store
-    (subst (λ r. OnOk r (has_failed (store_of old) ≡ false → has_failed c.end-store.result.0 ≡ false)) (sym c.first_failure.ensures)
-    (works_with answer c.end-store.result.1 (has_failed (store_of old)) (has_failed c.end-store.result.0) lived.fails)))
+    (subst (λ s. OnOk c.first_failure.result (has_failed s ≡ false → has_failed c.end-store.result ≡ false)) c.in-Ok.ensures.store
+    (subst (λ r. OnOk r (has_failed (store_of old) ≡ false → has_failed c.end-store.result ≡ false)) (sym c.first_failure.ensures)
+    (works_with answer past.written (has_failed (store_of old)) (has_failed c.end-store.result) lived.fails)))
 
 -- nothing was asked: no server began
 pub returns-in-Err-clause-served : goal.returns-in-Err-clause-served
