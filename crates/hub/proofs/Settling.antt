@@ -7,10 +7,12 @@ use mathlib.Core.List.{IsPrefix}
 use Rattle.revision.specs.Command.{Taken, Command}
 use Rattle.revision.specs.Acceptance.{Answer, Takes, Repeats, Refuses, answer}
 use Rattle.recovery.specs.Found.{commands_of}
+use Rattle.std.proofs.lemmas.List.{length-drop}
 use Rattle.recovery.proofs.CallerLemmas.{commands-append}
+use Rattle.published.proofs.CallerLemmas.{takens_long}
 use Rattle.world.specs.Progress.{Progress, submitted, submitted_by}
 use Rattle.world.specs.World.{Entry, entry_of, takens}
-use Rattle.hub.specs.Runs.{ComesNext, MaySettle, Writer}
+use Rattle.hub.specs.Runs.{ComesNext, MaySettle, Writer, untaken}
 use Rattle.hub.proofs.Placing.{takens-take, takens-drop}
 
 -- a command that is submitted is neither taken off nor settled by that
@@ -42,3 +44,7 @@ may_settle board writer batch told next settled taken (more, whole) =
       next = sym (takens-take (length batch) (drop board.settled board.order) ∙ ap (take (length batch)) (takens-drop board.settled board.order ∙ behind) ∙ take-append_seam batch more);
       count = settles board.settled board.taken (length batch) (length (commands_of told)) (omega (arith, next.taken, settled, taken)) long (omega (arith, next.some));
     }
+
+-- where nothing is left to take off, all of the order is taken off
+pub all_taken : (board : Progress Entry) → untaken board ≡ [] → length board.order ≤ board.taken
+all_taken board none = omega (arith, takens_long (drop board.taken board.order), ap (λ (l : List Taken). length l) none, length-drop board.taken board.order)

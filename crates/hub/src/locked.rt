@@ -205,6 +205,7 @@ impl<D, L: Life> Locked<D, L> {
     }
 
     // Notes that all of the order is taken off and nothing comes any more, which the writer counts from then on.
+    #[tactic(auto, using(crate::proofs::Settling::all_taken))]
     pub(crate) fn tell_end(&mut self, writer: &mut Writer<L>) -> Idle<L>
         requires ended { self.old.ended ≡ true }
         requires idle { untaken self.old.board.progress ≡ [] }
