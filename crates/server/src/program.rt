@@ -13,7 +13,7 @@ use crate::events::{OpenedStore, milliseconds};
 use crate::files::{disk_for, file_there, make_file, make_for, open_file, open_store, without};
 use crate::inspected::{Printed, check_file, tell_of_store};
 use crate::standard::NULL_DEVICE;
-use crate::watching::{Alone, ListeningWatch};
+use crate::watching::{Alone, OperatorWatch};
 use clap::error::ErrorKind;
 use disk::{Disk, FileDisk, Tried};
 use migration::{Copied, Numbered, Old, has_room_for, shape_of};
@@ -463,7 +463,7 @@ fn listen<
         Err(reason) => return Err(ProgramEnd::fault(LISTENING, how.address, reason)),
     };
     let opened = OpenedStore::of(&store, took);
-    let watch = ListeningWatch::new(rt, path, bound, how, opened, output, errors);
+    let watch = OperatorWatch::new(rt, path, bound, how, opened, output, errors);
     let connected = serve_on(rt, rt.alloc(), store, listener, every, how.idle, &watch);
     Err(watch.ended(how, connected.served))
 }

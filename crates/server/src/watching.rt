@@ -18,7 +18,7 @@ const MINUTE: u64 = 60_000;
 
 /// Tells on the standard streams what happens while a store is served to those who connect.
 #[derive(Drop)]
-pub(crate) struct ListeningWatch<'a, R: Wait, O, E> {
+pub(crate) struct OperatorWatch<'a, R: Wait, O, E> {
     rt: &'a R,
     path: &'a str,
     bound: SocketAddr,
@@ -52,7 +52,7 @@ struct OperatorStreams<'a, O, E> {
     stats_at: u64,
 }
 
-impl<'a, R: AllocGlobal + Clock + Wait, O: Write, E: Write> ListeningWatch<'a, R, O, E> {
+impl<'a, R: AllocGlobal + Clock + Wait, O: Write, E: Write> OperatorWatch<'a, R, O, E> {
     /// Of the store in this file, at this address.
     pub(crate) fn new(
         rt: &'a R,
@@ -62,8 +62,8 @@ impl<'a, R: AllocGlobal + Clock + Wait, O: Write, E: Write> ListeningWatch<'a, R
         opened: OpenedStore,
         output: &'a mut O,
         errors: &'a mut E,
-    ) -> ListeningWatch<'a, R, O, E> {
-        ListeningWatch {
+    ) -> OperatorWatch<'a, R, O, E> {
+        OperatorWatch {
             rt,
             path,
             bound,
@@ -81,7 +81,7 @@ impl<'a, R: AllocGlobal + Clock + Wait, O: Write, E: Write> ListeningWatch<'a, R
         how: Listening<'w>,
         served: Result<(), Refusal>,
     ) -> ProgramEnd<'w> {
-        let ListeningWatch {
+        let OperatorWatch {
             rt,
             path: _,
             bound: _,
@@ -222,7 +222,7 @@ impl<'a, O, E> OperatorStreams<'a, O, E> {
 }
 
 impl<R: AllocGlobal + Clock + Wait + Sync, O: Write + Send, E: Write + Send> Watch<FileDisk>
-    for ListeningWatch<'_, R, O, E> {
+    for OperatorWatch<'_, R, O, E> {
     fn begun(&self, sessions: usize, seats: usize) -> bool {
         let mut streams = self.streams.lock(self.rt);
         if sessions < seats {
