@@ -30,7 +30,7 @@ impl Display for FileCause<'_> {
 
 /// Why the program ends with status 1, or with 2.
 #[derive(Drop)]
-pub(crate) enum Ended<'a> {
+pub(crate) enum ProgramEnd<'a> {
     /// It was refused, which is printed on standard error, with the cause where the refusal has one.
     Refused(Refusal, Option<FileCause<'a>>),
     /// A standard stream failed, which is not printed.
@@ -39,10 +39,10 @@ pub(crate) enum Ended<'a> {
     Usage(clap::Error),
 }
 
-impl<'a> Ended<'a> {
+impl<'a> ProgramEnd<'a> {
     /// A call of the system failed.
-    pub(crate) fn fault(tried: &'static str, what: &'a str, reason: io::Error) -> Ended<'a> {
-        Ended::Refused(
+    pub(crate) fn fault(tried: &'static str, what: &'a str, reason: io::Error) -> ProgramEnd<'a> {
+        ProgramEnd::Refused(
             Refusal::Fault,
             Some(FileCause {
                 tried,
@@ -55,14 +55,14 @@ impl<'a> Ended<'a> {
     /// The refusal, where it is one.
     pub(crate) fn refusal(&self) -> Option<Refusal> {
         match self {
-            Ended::Refused(refusal, _) => Some(*refusal),
-            Ended::Stream | Ended::Usage(_) => None,
+            ProgramEnd::Refused(refusal, _) => Some(*refusal),
+            ProgramEnd::Stream | ProgramEnd::Usage(_) => None,
         }
     }
 
     /// It was refused while a store was read from a file or written to it.
-    pub(crate) fn over(path: &'a str, disk: &FileDisk, refusal: Refusal) -> Ended<'a> {
-        Ended::Refused(refusal, cause_of(path, disk, refusal))
+    pub(crate) fn over(path: &'a str, disk: &FileDisk, refusal: Refusal) -> ProgramEnd<'a> {
+        ProgramEnd::Refused(refusal, cause_of(path, disk, refusal))
     }
 
     /// It was refused while one file was read and another one written.
@@ -70,29 +70,29 @@ impl<'a> Ended<'a> {
         old: (&'a str, &FileDisk),
         new: (&'a str, &FileDisk),
         refusal: Refusal,
-    ) -> Ended<'a> {
+    ) -> ProgramEnd<'a> {
         let cause = match cause_of(old.0, old.1, refusal) {
             Some(cause) => Some(cause),
             None => cause_of(new.0, new.1, refusal),
         };
-        Ended::Refused(refusal, cause)
+        ProgramEnd::Refused(refusal, cause)
     }
 }
 
-impl From<ServingError> for Ended<'_> {
+impl From<ServingError> for ProgramEnd<'_> {
     fn from(failure: ServingError) -> Self {
         match failure {
-            ServingError::Refused(refusal) => Ended::Refused(refusal, None),
-            ServingError::Stream => Ended::Stream,
+            ServingError::Refused(refusal) => ProgramEnd::Refused(refusal, None),
+            ServingError::Stream => ProgramEnd::Stream,
         }
     }
 }
 
-impl From<LinesError> for Ended<'_> {
+impl From<LinesError> for ProgramEnd<'_> {
     fn from(fault: LinesError) -> Self {
         match fault {
-            LinesError::Usage(error) => Ended::Usage(error),
-            LinesError::Stream => Ended::Stream,
+            LinesError::Usage(error) => ProgramEnd::Usage(error),
+            LinesError::Stream => ProgramEnd::Stream,
         }
     }
 }

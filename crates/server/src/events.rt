@@ -16,17 +16,17 @@ const LAST_REFUSAL: u8 = 40;
 
 /// What a store held when it was opened, and how long that took.
 #[derive(Clone, Copy)]
-pub(crate) struct Opened {
+pub(crate) struct OpenedStore {
     shape: Shape,
     documents: u64,
     changes: u64,
     milliseconds: u64,
 }
 
-impl Opened {
+impl OpenedStore {
     /// Of this store, which was opened in so many milliseconds.
-    pub(crate) fn of(store: &Store<FileDisk>, milliseconds: u64) -> Opened {
-        Opened {
+    pub(crate) fn of(store: &Store<FileDisk>, milliseconds: u64) -> OpenedStore {
+        OpenedStore {
             shape: store.shape(),
             documents: store.state().documents().len() as u64,
             changes: changes_in(store.state()),
@@ -37,16 +37,16 @@ impl Opened {
 
 /// What is told of the batches that were written: how many, and of those since the last time the longest that one took, in milliseconds.
 #[derive(Clone, Copy)]
-pub(crate) struct Written {
+pub(crate) struct WrittenBatches {
     pub(crate) batches: u64,
     pub(crate) longest: u64,
 }
 
 /// What happened while a store was served.
 #[derive(Clone, Copy)]
-pub(crate) enum Event<'a> {
+pub(crate) enum OperatorEvent<'a> {
     /// So many sessions can be served.
-    Start(Opened, usize),
+    Start(OpenedStore, usize),
     /// All commands waited so many milliseconds for the writing of one batch.
     Waited(u64),
     /// The store has failed.
@@ -58,41 +58,45 @@ pub(crate) enum Event<'a> {
     /// So many were closed since they were idle.
     Idle(u64),
     /// What was counted since the start.
-    Stats(Peers, Written, &'a Counters),
+    Stats(Peers, WrittenBatches, &'a Counters),
     /// The program ends by this refusal, or since standard output failed.
     End(Option<Refusal>),
 }
 
-impl Display for Event<'_> {
+impl Display for OperatorEvent<'_> {
     fn fmt<W: fmt::Write>(&self, f: &mut Formatter<W>) -> fmt::Result {
         match self {
-            Event::Start(opened, sessions) => write_start(opened, *sessions, f),
-            Event::Waited(milliseconds) => write!(f, "waited milliseconds {milliseconds}"),
-            Event::Failed(refusal, None) => write!(f, "failed refusal {}", refusal.number()),
-            Event::Failed(refusal, Some(cause)) => {
+            OperatorEvent::Start(opened, sessions) => write_start(opened, *sessions, f),
+            OperatorEvent::Waited(milliseconds) => write!(f, "waited milliseconds {milliseconds}"),
+            OperatorEvent::Failed(refusal, None) => write!(
+                f,
+                "failed refusal {}",
+                refusal.number()
+            ),
+            OperatorEvent::Failed(refusal, Some(cause)) => {
                 write!(f, "failed refusal {} {cause}", refusal.number())
             }
-            Event::Full(closed) => write!(f, "full closed {closed}"),
-            Event::Slow(closed) => write!(f, "slow closed {closed}"),
-            Event::Idle(closed) => write!(f, "idle closed {closed}"),
-            Event::Stats(peers, written, counters) => {
+            OperatorEvent::Full(closed) => write!(f, "full closed {closed}"),
+            OperatorEvent::Slow(closed) => write!(f, "slow closed {closed}"),
+            OperatorEvent::Idle(closed) => write!(f, "idle closed {closed}"),
+            OperatorEvent::Stats(peers, written, counters) => {
                 write_peers(peers, f)?;
                 write_written(written, counters.taken(), f)?;
                 write_answers(counters, f)
             }
-            Event::End(Some(refusal)) => write!(f, "end refusal {}", refusal.number()),
-            Event::End(None) => f.write_str("end"),
+            OperatorEvent::End(Some(refusal)) => write!(f, "end refusal {}", refusal.number()),
+            OperatorEvent::End(None) => f.write_str("end"),
         }
     }
 }
 
 fn write_start<W: fmt::Write>(
-    opened: &Opened,
+    opened: &OpenedStore,
     sessions: usize,
     f: &mut Formatter<W>,
 ) -> fmt::Result {
     write_shape(&opened.shape, f)?;
-    let Opened {
+    let OpenedStore {
         shape: _,
         documents,
         changes,
@@ -135,11 +139,11 @@ fn write_peers<W: fmt::Write>(peers: &Peers, f: &mut Formatter<W>) -> fmt::Resul
 
 // The batches, and how many of the commands that were taken are in one, to a tenth.
 fn write_written<W: fmt::Write>(
-    written: &Written,
+    written: &WrittenBatches,
     taken: u64,
     f: &mut Formatter<W>,
 ) -> fmt::Result {
-    let Written { batches, longest } = written;
+    let WrittenBatches { batches, longest } = written;
     let tenths = taken.saturating_mul(10) / (*batches).max(1);
     let (whole, tenth) = (tenths / 10, tenths % 10);
     write!(
@@ -168,7 +172,7 @@ fn write_refused<W: fmt::Write>(number: u8, count: u64, f: &mut Formatter<W>) ->
 /// take it, the line is dropped.
 pub(crate) fn tell_event<R: AllocGlobal + Clock, E: Write>(
     rt: &R,
-    event: &Event<'_>,
+    event: &OperatorEvent<'_>,
     errors: &mut E,
 ) {
     let now = milliseconds(rt.since_1970());
@@ -178,7 +182,7 @@ pub(crate) fn tell_event<R: AllocGlobal + Clock, E: Write>(
     }
 }
 
-fn line_of(alloc: Global, now: u64, event: &Event<'_>) -> Result<String, AllocError> {
+fn line_of(alloc: Global, now: u64, event: &OperatorEvent<'_>) -> Result<String, AllocError> {
     let (seconds, thousandths) = (now / 1000, now % 1000);
     format!(in alloc; "{seconds}.{thousandths:03} {event}\n")
 }

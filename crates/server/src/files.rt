@@ -3,7 +3,7 @@ ghost use Rattle.std.specs.Prelude.{◌≡◌, ◌⊎◌, [], ◌∷◌, true, f
 ghost use Rattle.server.specs.Calls.{Found, Missed, Unseen, Opened, FailedOpening, Made, FailedMaking, Removed, IsOpened, IsMade, IsHad, IsKept};
 
 use crate::calls::Calls;
-use crate::ended::Ended;
+use crate::ended::ProgramEnd;
 use crate::reserving::write_zeros;
 use disk::{Disk, Fault, FileDisk, FileError, Tried};
 use recovery::{OpenFault, Pick, Shape, Store};
@@ -18,7 +18,7 @@ pub(crate) fn disk_for<'a, C: Calls>(
     path: &'a str,
     shape: Shape,
     reserve: bool,
-) -> Result<FileDisk, Ended<'a>>
+) -> Result<FileDisk, ProgramEnd<'a>>
     ensures had { IsHad path.now (C.made calls.old) (C.made calls.new) }
     ensures kept { OnOk result (IsKept path.now (C.made calls.old) (C.made calls.new)) }
     // A store that is there isn't written to here.
@@ -35,7 +35,7 @@ pub(crate) fn disk_for<'a, C: Calls>(
 pub(crate) fn file_there<'a, C: Calls>(
     calls: &mut C,
     path: &'a str,
-) -> Result<Option<FileDisk>, Ended<'a>>
+) -> Result<Option<FileDisk>, ProgramEnd<'a>>
     ensures there { IfOk result (λ found. IfSome found (λ _. C.made calls.new ≡ Opened path.now ∷ Found path.now ∷ C.made calls.old)) }
     ensures missing { IfOk result (λ found. IfNone found (C.made calls.new ≡ Missed path.now ∷ C.made calls.old)) }
     ensures untouched { IfOk result (λ found. IfSome found (λ disk. ⟦<FileDisk as Disk>⟧.past disk ≡ [])) }
@@ -56,12 +56,12 @@ pub(crate) fn make_for<'a, C: Calls>(
     path: &'a str,
     shape: Shape,
     reserve: bool,
-) -> Result<FileDisk, Ended<'a>>
+) -> Result<FileDisk, ProgramEnd<'a>>
     ensures made { IsMade path.now (C.made calls.old) (C.made calls.new) }
     ensures kept { OnOk result (C.made calls.new ≡ Made path.now ∷ C.made calls.old) }
 {
     if !shape.is_in_range() {
-        return Err(Ended::Refused(Refusal::BadShape, None));
+        return Err(ProgramEnd::Refused(Refusal::BadShape, None));
     }
     let disk = make_file(calls, path, shape.device_len())?;
     if reserve {
@@ -76,7 +76,7 @@ fn reserved<'a, C: Calls>(
     calls: &mut C,
     path: &'a str,
     disk: FileDisk,
-) -> Result<FileDisk, Ended<'a>>
+) -> Result<FileDisk, ProgramEnd<'a>>
     ensures good { OnOk result (C.made calls.new ≡ C.made calls.old) }
     ensures failed { OnErr result (C.made calls.new ≡ Removed path.now ∷ C.made calls.old) }
 {
@@ -85,13 +85,13 @@ fn reserved<'a, C: Calls>(
         Ok(()) => Ok(disk),
         Err(Fault) => {
             calls.remove(path);
-            Err(Ended::over(path, &disk, Refusal::Fault))
+            Err(ProgramEnd::over(path, &disk, Refusal::Fault))
         }
     }
 }
 
 // Whether a file is there.
-fn is_there<'a, C: Calls>(calls: &mut C, path: &'a str) -> Result<bool, Ended<'a>>
+fn is_there<'a, C: Calls>(calls: &mut C, path: &'a str) -> Result<bool, ProgramEnd<'a>>
     ensures there { result ≡ Ok true → C.made calls.new ≡ Found path.now ∷ C.made calls.old }
     ensures missing { result ≡ Ok false → C.made calls.new ≡ Missed path.now ∷ C.made calls.old }
     ensures failed { OnErr result (C.made calls.new ≡ Unseen path.now ∷ C.made calls.old) }
@@ -103,7 +103,10 @@ fn is_there<'a, C: Calls>(calls: &mut C, path: &'a str) -> Result<bool, Ended<'a
 }
 
 /// A device over a file that is there.
-pub(crate) fn open_file<'a, C: Calls>(calls: &mut C, path: &'a str) -> Result<FileDisk, Ended<'a>>
+pub(crate) fn open_file<'a, C: Calls>(
+    calls: &mut C,
+    path: &'a str,
+) -> Result<FileDisk, ProgramEnd<'a>>
     ensures good { OnOk result (C.made calls.new ≡ Opened path.now ∷ C.made calls.old) }
     ensures untouched { IfOk result (λ disk. ⟦<FileDisk as Disk>⟧.past disk ≡ []) }
     ensures failed { OnErr result (C.made calls.new ≡ FailedOpening path.now ∷ C.made calls.old) }
@@ -119,7 +122,7 @@ pub(crate) fn make_file<'a, C: Calls>(
     calls: &mut C,
     path: &'a str,
     len: u64,
-) -> Result<FileDisk, Ended<'a>>
+) -> Result<FileDisk, ProgramEnd<'a>>
     ensures good { OnOk result (C.made calls.new ≡ Made path.now ∷ C.made calls.old) }
     ensures failed { OnErr result (C.made calls.new ≡ FailedMaking path.now ∷ C.made calls.old) }
 {
@@ -130,13 +133,13 @@ pub(crate) fn make_file<'a, C: Calls>(
 }
 
 // A file can't be had, for this fault.
-fn failed(path: &str, fault: FileError) -> Ended<'_> {
+fn failed(path: &str, fault: FileError) -> ProgramEnd<'_> {
     without(fault.tried, path, fault.reason)
 }
 
 /// A file can't be had.
-pub(crate) fn without(tried: Tried, path: &str, reason: io::Error) -> Ended<'_> {
-    Ended::fault(tried.name(), path, reason)
+pub(crate) fn without(tried: Tried, path: &str, reason: io::Error) -> ProgramEnd<'_> {
+    ProgramEnd::fault(tried.name(), path, reason)
 }
 
 /// The store in a file.
@@ -145,13 +148,13 @@ pub(crate) fn open_store<'a, C: Calls>(
     calls: &mut C,
     path: &'a str,
     pick: Pick,
-) -> Result<Store<FileDisk>, Ended<'a>>
+) -> Result<Store<FileDisk>, ProgramEnd<'a>>
     ensures opened { IsOpened path.now (C.made calls.old) (C.made calls.new) }
     ensures good { OnOk result (C.made calls.new ≡ Opened path.now ∷ C.made calls.old) }
 {
     let disk = open_file(calls, path)?;
     match Store::open(alloc, disk, pick) {
         Ok(store) => Ok(store),
-        Err(OpenFault { disk, refusal }) => Err(Ended::over(path, &disk, refusal)),
+        Err(OpenFault { disk, refusal }) => Err(ProgramEnd::over(path, &disk, refusal)),
     }
 }

@@ -8,7 +8,7 @@ ghost use Rattle.server.specs.Calls.{Closed, IsRead, WasRead, IsUnwritten, IsUnw
 ghost use Rattle.server.specs.Checked.{checked_line};
 
 use crate::calls::Calls;
-use crate::ended::Ended;
+use crate::ended::ProgramEnd;
 use crate::files::open_file;
 use disk::{Disk, FileDisk};
 use inspection::{Checked, check, documents, info};
@@ -28,14 +28,18 @@ pub struct Printed<D> {
 
 impl Printed<FileDisk> {
     /// Closes the file, and answers what the program ends with.
-    pub(crate) fn ended<'a, C: Calls>(self, calls: &mut C, path: &'a str) -> Result<(), Ended<'a>>
+    pub(crate) fn ended<'a, C: Calls>(
+        self,
+        calls: &mut C,
+        path: &'a str,
+    ) -> Result<(), ProgramEnd<'a>>
         ensures { C.made calls.new ≡ Closed path.now (history_of ⟦<FileDisk as Disk>⟧ self.disk) ∷ C.made calls.old }
     {
         let Printed { disk, done } = self;
         let ended = match done {
             Ok(()) => Ok(()),
-            Err(ServingError::Refused(refusal)) => Err(Ended::over(path, &disk, refusal)),
-            Err(ServingError::Stream) => Err(Ended::Stream),
+            Err(ServingError::Refused(refusal)) => Err(ProgramEnd::over(path, &disk, refusal)),
+            Err(ServingError::Stream) => Err(ProgramEnd::Stream),
         };
         calls.close(path, disk);
         ended
@@ -49,7 +53,7 @@ pub(crate) fn tell_of_store<'a, C: Calls, O: Write>(
     path: &'a str,
     each: bool,
     output: &mut O,
-) -> Result<(), Ended<'a>>
+) -> Result<(), ProgramEnd<'a>>
     ensures read { IsRead IsUnwritten path.now (C.made calls.old) (C.made calls.new) }
     ensures kept { OnOk result (WasRead IsUnwritten path.now (C.made calls.old) (C.made calls.new)) }
 {
@@ -96,7 +100,7 @@ pub(crate) fn check_file<'a, C: Calls, O: Write>(
     calls: &mut C,
     path: &'a str,
     output: &mut O,
-) -> Result<(), Ended<'a>>
+) -> Result<(), ProgramEnd<'a>>
     ensures read { IsRead IsUnwrittenTwice path.now (C.made calls.old) (C.made calls.new) }
     ensures kept { OnOk result (WasRead IsUnwrittenTwice path.now (C.made calls.old) (C.made calls.new)) }
 {
@@ -114,7 +118,7 @@ pub(crate) fn check_file<'a, C: Calls, O: Write>(
             Ok(print_counts(alloc, documents, changes, &mut stream)?)
         }
         Err(OpenFault { disk, refusal }) => {
-            let ended = Ended::over(path, &disk, refusal);
+            let ended = ProgramEnd::over(path, &disk, refusal);
             calls.close(path, disk);
             Err(ended)
         }

@@ -8,12 +8,12 @@ ghost use Rattle.server.specs.Calls.{Asks, Keeps, AreHad, AreKept, IsHad, IsKept
 use crate::calls::{Calls, HostCalls};
 use crate::deltas::print_answer;
 use crate::documents::dump_store;
-use crate::ended::{Ended, LISTENING, tell};
-use crate::events::{Opened, milliseconds};
+use crate::ended::{LISTENING, ProgramEnd, tell};
+use crate::events::{OpenedStore, milliseconds};
 use crate::files::{disk_for, file_there, make_file, make_for, open_file, open_store, without};
 use crate::inspected::{Printed, check_file, tell_of_store};
 use crate::standard::NULL_DEVICE;
-use crate::watching::{Alone, Front};
+use crate::watching::{Alone, OperatorWatch};
 use clap::error::ErrorKind;
 use disk::{Disk, FileDisk, Tried};
 use migration::{Copied, Numbered, Old, has_room_for, shape_of};
@@ -125,7 +125,7 @@ fn invoke<
     input: &mut I,
     output: &mut O,
     errors: &mut E,
-) -> Result<(), Ended<'a>>
+) -> Result<(), ProgramEnd<'a>>
     ensures asks { Asks invocation.entry (C.made calls.old) (C.made calls.new) }
     ensures keeps { OnOk result (Keeps invocation.entry (C.made calls.old) (C.made calls.new)) }
 {
@@ -170,7 +170,7 @@ fn make_by<'a, I: Read, O: Write>(
     command: DeltaCommand<'a>,
     input: &mut I,
     output: &mut O,
-) -> Result<(), Ended<'a>> {
+) -> Result<(), ProgramEnd<'a>> {
     let DeltaCommand { making, deltas } = command;
     match deltas {
         Some((first, second)) => make(alloc, making, first, second, output),
@@ -184,7 +184,7 @@ fn make_of_lines<'a, I: Read, O: Write>(
     making: Making,
     input: &mut I,
     output: &mut O,
-) -> Result<(), Ended<'a>> {
+) -> Result<(), ProgramEnd<'a>> {
     let lines = Lines::read(alloc, input)?;
     let (first, second) = lines.both();
     make(alloc, making, first, second, output)
@@ -197,7 +197,7 @@ fn make<'a, O: Write>(
     first: &str,
     second: &str,
     output: &mut O,
-) -> Result<(), Ended<'a>> {
+) -> Result<(), ProgramEnd<'a>> {
     let mut stream = Stream::new(output);
     Ok(print_answer(alloc, making.task(first, second), &mut stream)?)
 }
@@ -209,7 +209,7 @@ fn dump_file<'a, C: Calls, O: Write>(
     path: &'a str,
     older: bool,
     output: &mut O,
-) -> Result<(), Ended<'a>>
+) -> Result<(), ProgramEnd<'a>>
     ensures read { IsRead IsUnwritten path.now (C.made calls.old) (C.made calls.new) }
     ensures kept { OnOk result (WasRead IsUnwritten path.now (C.made calls.old) (C.made calls.new)) }
 {
@@ -225,14 +225,14 @@ fn format_file<'a, C: Calls>(
     path: &'a str,
     shape: Shape,
     reserve: bool,
-) -> Result<(), Ended<'a>>
+) -> Result<(), ProgramEnd<'a>>
     ensures had { IsHad path.now (C.made calls.old) (C.made calls.new) }
     ensures kept { OnOk result (IsKept path.now (C.made calls.old) (C.made calls.new)) }
 {
     let mut disk = disk_for(calls, path, shape, reserve)?;
     match recovery::format_device(alloc, &mut disk, shape) {
         Ok(()) => Ok(()),
-        Err(refusal) => Err(Ended::over(path, &disk, refusal)),
+        Err(refusal) => Err(ProgramEnd::over(path, &disk, refusal)),
     }
 }
 
@@ -242,7 +242,7 @@ fn migrate<'a, C: Calls>(
     calls: &mut C,
     old: &'a str,
     new: &'a str,
-) -> Result<(), Ended<'a>>
+) -> Result<(), ProgramEnd<'a>>
     ensures had { AreHad old.now new.now (C.made calls.old) (C.made calls.new) }
     ensures kept { OnOk result (AreKept old.now new.now (C.made calls.old) (C.made calls.new)) }
 {
@@ -259,7 +259,7 @@ fn migrate_from<'a, C: Calls>(
     from: &mut FileDisk,
     old: &'a str,
     new: &'a str,
-) -> Result<(), Ended<'a>>
+) -> Result<(), ProgramEnd<'a>>
     ensures had { IsHad new.now (C.made calls.old) (C.made calls.new) }
     ensures kept { OnOk result (IsKept new.now (C.made calls.old) (C.made calls.new)) }
     ensures unwritten { IsSyncedTwice (history_of ⟦<FileDisk as Disk>⟧ from.old) (history_of ⟦<FileDisk as Disk>⟧ from.new) }
@@ -267,7 +267,7 @@ fn migrate_from<'a, C: Calls>(
     let mut to = new_for(alloc, calls, from, old, new)?;
     match migration::migrate(alloc, from, &mut to) {
         Ok(()) => Ok(()),
-        Err(refusal) => Err(Ended::over_two((old, from), (new, &to), refusal)),
+        Err(refusal) => Err(ProgramEnd::over_two((old, from), (new, &to), refusal)),
     }
 }
 
@@ -278,7 +278,7 @@ fn new_for<'a, C: Calls>(
     from: &mut FileDisk,
     old: &'a str,
     new: &'a str,
-) -> Result<FileDisk, Ended<'a>>
+) -> Result<FileDisk, ProgramEnd<'a>>
     ensures had { IsHad new.now (C.made calls.old) (C.made calls.new) }
     ensures kept { OnOk result (IsKept new.now (C.made calls.old) (C.made calls.new)) }
     ensures unwritten { IsAtMostOneStep IsSync (history_of ⟦<FileDisk as Disk>⟧ from.old)
@@ -288,7 +288,7 @@ fn new_for<'a, C: Calls>(
         Some(disk) => Ok(disk),
         None => match Old::read(alloc, from) {
             Ok(read) => make_file(calls, new, read.device_len()),
-            Err(refusal) => Err(Ended::over(old, from, refusal)),
+            Err(refusal) => Err(ProgramEnd::over(old, from, refusal)),
         },
     }
 }
@@ -300,7 +300,7 @@ fn copy<'a, C: Calls>(
     old: &'a str,
     new: &'a str,
     given: ShapeOptions,
-) -> Result<(), Ended<'a>>
+) -> Result<(), ProgramEnd<'a>>
     ensures had { AreHad old.now new.now (C.made calls.old) (C.made calls.new) }
     ensures kept { OnOk result (AreKept old.now new.now (C.made calls.old) (C.made calls.new)) }
 {
@@ -314,7 +314,7 @@ fn copy<'a, C: Calls>(
 #[derive(Drop)]
 struct Brought<'a> {
     from: FileDisk,
-    done: Result<(), Ended<'a>>,
+    done: Result<(), ProgramEnd<'a>>,
 }
 
 // Copies the store on a device.
@@ -344,7 +344,7 @@ fn copy_from<'a, C: Calls>(
     let numbers = match shape {
         Ok(numbers) => numbers,
         Err(refusal) => {
-            let done = Err(Ended::over(old, &from, refusal));
+            let done = Err(ProgramEnd::over(old, &from, refusal));
             return Brought { from, done };
         }
     };
@@ -359,14 +359,14 @@ fn copy_from<'a, C: Calls>(
             }
         },
         None => {
-            let done = Err(Ended::Refused(Refusal::BadShape, None));
+            let done = Err(ProgramEnd::Refused(Refusal::BadShape, None));
             return Brought { from, done };
         }
     };
     let Copied { old: from, made } = migration::copy(alloc, from, &mut to, shape);
     let done = match made {
         Ok(()) => Ok(()),
-        Err(refusal) => Err(Ended::over_two((old, &from), (new, &to), refusal)),
+        Err(refusal) => Err(ProgramEnd::over_two((old, &from), (new, &to), refusal)),
     };
     Brought { from, done }
 }
@@ -406,7 +406,7 @@ fn serve<
     input: &mut I,
     output: &mut O,
     errors: &mut E,
-) -> Result<(), Ended<'a>>
+) -> Result<(), ProgramEnd<'a>>
     ensures { ServesBy path.now listening.entry (C.made calls.old) (C.made calls.new) }
 {
     match listening {
@@ -427,7 +427,7 @@ fn serve_alone<'a, R: AllocGlobal + Threads + Wait + Sync, I: Read, O: Write, E:
     input: &mut I,
     output: &mut O,
     errors: &mut E,
-) -> Result<(), Ended<'a>> {
+) -> Result<(), ProgramEnd<'a>> {
     let watch = Alone::new(rt, path, errors);
     let input = InputStream::new(input);
     let output = Stream::new(output);
@@ -452,7 +452,7 @@ fn listen<
     pick: Pick,
     output: &mut O,
     errors: &mut E,
-) -> Result<(), Ended<'a>>
+) -> Result<(), ProgramEnd<'a>>
     ensures { IsServed path.now how.entry.address.now (C.made calls.old) (C.made calls.new) }
 {
     let before = milliseconds(rt.monotonic());
@@ -460,24 +460,24 @@ fn listen<
     let took = milliseconds(rt.monotonic()).saturating_sub(before);
     let (listener, bound) = match calls.listen(how.address) {
         Ok(found) => found,
-        Err(reason) => return Err(Ended::fault(LISTENING, how.address, reason)),
+        Err(reason) => return Err(ProgramEnd::fault(LISTENING, how.address, reason)),
     };
-    let opened = Opened::of(&store, took);
-    let watch = Front::new(rt, path, bound, how, opened, output, errors);
+    let opened = OpenedStore::of(&store, took);
+    let watch = OperatorWatch::new(rt, path, bound, how, opened, output, errors);
     let connected = serve_on(rt, rt.alloc(), store, listener, every, how.idle, &watch);
     Err(watch.ended(how, connected.served))
 }
 
-fn tell_end<O: Write, E: Write>(ended: Ended<'_>, output: &mut O, errors: &mut E) -> u8
+fn tell_end<O: Write, E: Write>(ended: ProgramEnd<'_>, output: &mut O, errors: &mut E) -> u8
     ensures { result ≤ 2 }
 {
     match ended {
-        Ended::Refused(refusal, cause) => {
+        ProgramEnd::Refused(refusal, cause) => {
             tell(refusal, cause, errors);
             1
         }
-        Ended::Stream => 1,
-        Ended::Usage(fault) => show_usage(&fault, output, errors),
+        ProgramEnd::Stream => 1,
+        ProgramEnd::Usage(fault) => show_usage(&fault, output, errors),
     }
 }
 

@@ -1,6 +1,6 @@
 //! What the program tells while it serves.
-use crate::ended::{Ended, LISTENING, cause_of, tell};
-use crate::events::{Event, Opened, Written, milliseconds, tell_event};
+use crate::ended::{LISTENING, ProgramEnd, cause_of, tell};
+use crate::events::{OpenedStore, OperatorEvent, WrittenBatches, milliseconds, tell_event};
 use disk::FileDisk;
 use refusal::Refusal;
 use server_threads::{Counters, Moment, Peers, Watch};
@@ -18,15 +18,15 @@ const MINUTE: u64 = 60_000;
 
 /// Tells on the standard streams what happens while a store is served to those who connect.
 #[derive(Drop)]
-pub(crate) struct Front<'a, R: Wait, O, E> {
+pub(crate) struct OperatorWatch<'a, R: Wait, O, E> {
     rt: &'a R,
     path: &'a str,
     bound: SocketAddr,
     how: Listening<'a>,
-    opened: Opened,
+    opened: OpenedStore,
     counters: Counters,
     pace: Mutex<Pace>,
-    told: Mutex<Told<'a, O, E>>,
+    streams: Mutex<OperatorStreams<'a, O, E>>,
 }
 
 // How batches are written.
@@ -34,12 +34,12 @@ pub(crate) struct Front<'a, R: Wait, O, E> {
 struct Pace {
     /// When the one began that is being written.
     began: Option<u64>,
-    written: Written,
+    written: WrittenBatches,
 }
 
 // The streams, and what has happened.
 #[derive(Drop)]
-struct Told<'a, O, E> {
+struct OperatorStreams<'a, O, E> {
     output: &'a mut O,
     errors: &'a mut E,
     has_output_failed: bool,
@@ -52,18 +52,18 @@ struct Told<'a, O, E> {
     stats_at: u64,
 }
 
-impl<'a, R: AllocGlobal + Clock + Wait, O: Write, E: Write> Front<'a, R, O, E> {
+impl<'a, R: AllocGlobal + Clock + Wait, O: Write, E: Write> OperatorWatch<'a, R, O, E> {
     /// Of the store in this file, at this address.
     pub(crate) fn new(
         rt: &'a R,
         path: &'a str,
         bound: SocketAddr,
         how: Listening<'a>,
-        opened: Opened,
+        opened: OpenedStore,
         output: &'a mut O,
         errors: &'a mut E,
-    ) -> Front<'a, R, O, E> {
-        Front {
+    ) -> OperatorWatch<'a, R, O, E> {
+        OperatorWatch {
             rt,
             path,
             bound,
@@ -71,13 +71,17 @@ impl<'a, R: AllocGlobal + Clock + Wait, O: Write, E: Write> Front<'a, R, O, E> {
             opened,
             counters: Counters::new(),
             pace: Mutex::new(Pace::new()),
-            told: Mutex::new(Told::new(output, errors)),
+            streams: Mutex::new(OperatorStreams::new(output, errors)),
         }
     }
 
     /// Why the program ends, which served so and was answered so. A store that failed was told of at that moment.
-    pub(crate) fn ended<'w>(self, how: Listening<'w>, served: Result<(), Refusal>) -> Ended<'w> {
-        let Front {
+    pub(crate) fn ended<'w>(
+        self,
+        how: Listening<'w>,
+        served: Result<(), Refusal>,
+    ) -> ProgramEnd<'w> {
+        let OperatorWatch {
             rt,
             path: _,
             bound: _,
@@ -85,48 +89,48 @@ impl<'a, R: AllocGlobal + Clock + Wait, O: Write, E: Write> Front<'a, R, O, E> {
             opened: _,
             counters: _,
             pace: _pace,
-            told,
+            streams,
         } = self;
-        let told = told.into_inner();
-        let ended = told.ended(how, served);
+        let streams = streams.into_inner();
+        let ended = streams.ended(how, served);
         if how.log {
-            tell_event(rt, &Event::End(ended.refusal()), told.errors);
+            tell_event(rt, &OperatorEvent::End(ended.refusal()), streams.errors);
         }
         ended
     }
 
     // Where lines are asked for, tells this.
-    fn log(&self, event: &Event<'_>, errors: &mut E) {
+    fn log(&self, event: &OperatorEvent<'_>, errors: &mut E) {
         if self.how.log {
             tell_event(self.rt, event, errors);
         }
     }
 
     // Tells of the connections that were closed, and of what was counted, where it is time to.
-    fn tell_of(&self, peers: Peers, told: &mut Told<'a, O, E>) {
+    fn tell_of(&self, peers: Peers, streams: &mut OperatorStreams<'a, O, E>) {
         let now = self.now();
-        if peers.slow > told.peers.slow {
-            let closed = peers.slow - told.peers.slow;
-            told.peers.slow = peers.slow;
-            self.log(&Event::Slow(closed), &mut *told.errors);
+        if peers.slow > streams.peers.slow {
+            let closed = peers.slow - streams.peers.slow;
+            streams.peers.slow = peers.slow;
+            self.log(&OperatorEvent::Slow(closed), &mut *streams.errors);
         }
-        if peers.idle > told.peers.idle {
-            let closed = peers.idle - told.peers.idle;
-            told.peers.idle = peers.idle;
-            self.log(&Event::Idle(closed), &mut *told.errors);
+        if peers.idle > streams.peers.idle {
+            let closed = peers.idle - streams.peers.idle;
+            streams.peers.idle = peers.idle;
+            self.log(&OperatorEvent::Idle(closed), &mut *streams.errors);
         }
-        if peers.turned_away > told.peers.turned_away && now >= told.full_at {
-            let closed = peers.turned_away - told.peers.turned_away;
-            told.peers.turned_away = peers.turned_away;
-            told.full_at = now.saturating_add(MINUTE);
-            self.log(&Event::Full(closed), &mut *told.errors);
+        if peers.turned_away > streams.peers.turned_away && now >= streams.full_at {
+            let closed = peers.turned_away - streams.peers.turned_away;
+            streams.peers.turned_away = peers.turned_away;
+            streams.full_at = now.saturating_add(MINUTE);
+            self.log(&OperatorEvent::Full(closed), &mut *streams.errors);
         }
-        if self.how.stats > 0 && now >= told.stats_at {
-            told.stats_at = self.after_stats(now);
+        if self.how.stats > 0 && now >= streams.stats_at {
+            streams.stats_at = self.after_stats(now);
             let written = self.pace.lock(self.rt).take();
             self.log(
-                &Event::Stats(peers, written, &self.counters),
-                &mut *told.errors,
+                &OperatorEvent::Stats(peers, written, &self.counters),
+                &mut *streams.errors,
             );
         }
     }
@@ -145,7 +149,7 @@ impl Pace {
     fn new() -> Pace {
         Pace {
             began: None,
-            written: Written {
+            written: WrittenBatches {
                 batches: 0,
                 longest: 0,
             },
@@ -171,16 +175,16 @@ impl Pace {
     }
 
     // What was written, from which on the longest time is taken anew.
-    fn take(&mut self) -> Written {
+    fn take(&mut self) -> WrittenBatches {
         let written = self.written;
         self.written.longest = 0;
         written
     }
 }
 
-impl<'a, O, E> Told<'a, O, E> {
-    fn new(output: &'a mut O, errors: &'a mut E) -> Told<'a, O, E> {
-        Told {
+impl<'a, O, E> OperatorStreams<'a, O, E> {
+    fn new(output: &'a mut O, errors: &'a mut E) -> OperatorStreams<'a, O, E> {
+        OperatorStreams {
             output,
             errors,
             has_output_failed: false,
@@ -198,60 +202,63 @@ impl<'a, O, E> Told<'a, O, E> {
     }
 
     // Why the program ends, where serving was answered so.
-    fn ended<'w>(&self, how: Listening<'w>, served: Result<(), Refusal>) -> Ended<'w> {
+    fn ended<'w>(&self, how: Listening<'w>, served: Result<(), Refusal>) -> ProgramEnd<'w> {
         if self.has_output_failed {
-            return Ended::Stream;
+            return ProgramEnd::Stream;
         }
         if self.has_store_failed && how.exit_on_failure {
-            return Ended::Refused(Refusal::StoreFailed, None);
+            return ProgramEnd::Refused(Refusal::StoreFailed, None);
         }
         if let Err(refusal) = served {
             if !self.has_store_failed {
-                return Ended::Refused(refusal, None);
+                return ProgramEnd::Refused(refusal, None);
             }
         }
         match self.listener {
-            Some(reason) => Ended::fault(LISTENING, how.address, reason),
-            None => Ended::Refused(Refusal::Fault, None),
+            Some(reason) => ProgramEnd::fault(LISTENING, how.address, reason),
+            None => ProgramEnd::Refused(Refusal::Fault, None),
         }
     }
 }
 
 impl<R: AllocGlobal + Clock + Wait + Sync, O: Write + Send, E: Write + Send> Watch<FileDisk>
-    for Front<'_, R, O, E> {
+    for OperatorWatch<'_, R, O, E> {
     fn begun(&self, sessions: usize, seats: usize) -> bool {
-        let mut told = self.told.lock(self.rt);
+        let mut streams = self.streams.lock(self.rt);
         if sessions < seats {
-            let _ = writeln!(told.errors, "richd: {sessions} of {seats} sessions");
-            let _ = told.errors.flush();
+            let _ = writeln!(streams.errors, "richd: {sessions} of {seats} sessions");
+            let _ = streams.errors.flush();
         }
         let bound = self.bound;
-        let shown = writeln!(told.output, "listening {bound}").is_ok()
-            && told.output.flush().is_ok();
-        told.has_output_failed = !shown;
-        told.stats_at = self.after_stats(self.now());
-        self.log(&Event::Start(self.opened, sessions), &mut *told.errors);
+        let shown = writeln!(streams.output, "listening {bound}").is_ok()
+            && streams.output.flush().is_ok();
+        streams.has_output_failed = !shown;
+        streams.stats_at = self.after_stats(self.now());
+        self.log(
+            &OperatorEvent::Start(self.opened, sessions),
+            &mut *streams.errors,
+        );
         shown
     }
 
     fn listener_failed(&self, reason: io::Error) {
-        self.told.lock(self.rt).listener = Some(reason);
+        self.streams.lock(self.rt).listener = Some(reason);
     }
 
     fn store_failed(&self, why: Refusal, device: &FileDisk) {
-        let mut told = self.told.lock(self.rt);
-        told.has_store_failed = true;
+        let mut streams = self.streams.lock(self.rt);
+        streams.has_store_failed = true;
         let cause = cause_of(self.path, device, why);
-        tell(why, cause, &mut *told.errors);
-        self.log(&Event::Failed(why, cause), &mut *told.errors);
+        tell(why, cause, &mut *streams.errors);
+        self.log(&OperatorEvent::Failed(why, cause), &mut *streams.errors);
     }
 
     fn goes_on(&self, peers: Peers) -> bool {
-        let mut told = self.told.lock(self.rt);
+        let mut streams = self.streams.lock(self.rt);
         if self.how.log {
-            self.tell_of(peers, &mut told);
+            self.tell_of(peers, &mut streams);
         }
-        !(self.how.exit_on_failure && told.has_store_failed)
+        !(self.how.exit_on_failure && streams.has_store_failed)
     }
 
     fn writes(&self, at: Moment) {
@@ -264,8 +271,8 @@ impl<R: AllocGlobal + Clock + Wait + Sync, O: Write + Send, E: Write + Send> Wat
             Moment::AfterCommit => {
                 let took = self.pace.lock(self.rt).end(now);
                 if took >= LONG {
-                    let mut told = self.told.lock(self.rt);
-                    self.log(&Event::Waited(took), &mut *told.errors);
+                    let mut streams = self.streams.lock(self.rt);
+                    self.log(&OperatorEvent::Waited(took), &mut *streams.errors);
                 }
             }
         }
