@@ -169,6 +169,7 @@ fn serve_in<
     watch: &W,
 ) -> Leavings<K, N, G>
     requires room { HasRoom (vec_len desks) begun × HasRoom (vec_len desks) attendants }
+    requires none { taken_in door ≡ 0 }
     ensures attended { HaveAttended K.does hall.now.ended.id desks.items result.attendants.items }
     ensures counted { came (N.arrivals result.listener) + taken_in door ≡ came (N.arrivals listener) + taken_in result.door }
     ensures accounted { accounted_for result.door ≡ accounted_for door }
@@ -178,7 +179,8 @@ fn serve_in<
         thread::scope_env(),
         rt,
         |scope| -> Leavings<K, N, G>
-            requires { HasRoom (vec_len desks) begun × HasRoom (vec_len desks) attendants }
+            requires room { HasRoom (vec_len desks) begun × HasRoom (vec_len desks) attendants }
+            requires none { taken_in door ≡ 0 }
             ensures attended { HaveAttended K.does hall.entry.now.ended.id desks.items result.attendants.items }
             ensures counted { came (N.arrivals result.listener) + taken_in door ≡ came (N.arrivals listener) + taken_in result.door }
             ensures accounted { accounted_for result.door ≡ accounted_for door }
@@ -188,7 +190,7 @@ fn serve_in<
             let mut door = door;
             let begun = begin_all(scope, rt, alloc, hall, lobby, desks, begun);
             let has_failed = accept_all(rt, lobby, &mut door, &mut listener, watch);
-            hall.end(rt);
+            hall.end(rt, &door);
             lobby.close(rt);
             Leavings {
                 attendants: end_all(rt, begun, attendants),

@@ -1,7 +1,10 @@
 //! What the sessions of all desks share: for how long a peer may be idle, and that they end.
-ghost use Rattle.std.specs.Prelude.{◌≡◌, IfSome};
+ghost use Rattle.std.specs.Prelude.{◌≡◌, false, IfSome};
+ghost use Rattle.sockets.specs.Door.{lets_in};
 
+use crate::door::Door;
 use std::sync::atomic::{AtomicUsize, Ordering};
+use std::sync::ledger::Ledger;
 use std::sync::{OnceLock, OnceToken, Wait};
 
 /// What all sessions of a listener share.
@@ -33,8 +36,11 @@ impl Hall {
         self.idle
     }
 
-    /// Ends the hall: each session ends at its next turn, or where a write takes no byte.
-    pub fn end(&self, rt: &impl Wait) {
+    /// Ends the hall, whose door is shut, so that nobody is let in any more: each session ends at its next turn, or where a write takes no byte.
+    pub fn end<G: Ledger>(&self, rt: &impl Wait, door: &Door<G>)
+        requires { lets_in door.now ≡ false }
+    {
+        let _ = door;
         drop(self.ended.set(rt, ()));
     }
 

@@ -7,7 +7,7 @@ pub end_all-requires : goal.end_all-requires
 end_all-requires g c =
     let desks = c.captures.desks in
     let begun = c.begin_all-begun.result in
-    let room = c.requires.1 in
+    let room = c.requires.room.1 in
     (room.0, omega (arith, room.1, as_many_begun g.K.Desk.does _ (vec_items desks) (vec_items begun) c.begin_all-begun.ensures, desks.ok.0, begun.ok.0))
 
 pub returns : goal.returns
