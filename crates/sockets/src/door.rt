@@ -53,7 +53,6 @@ impl<G: Ledger> Door<G> {
         ensures taken { taken_in self.new ≡ taken_in self.old }
         ensures accounted { accounted_for self.new ≡ accounted_for self.old }
     {
-        let _ = listener;
         self.is_shut = true;
     }
 
