@@ -1,5 +1,5 @@
 //! The loop that takes connections.
-ghost use Rattle.std.specs.Prelude.{◌≡◌, ◌+◌, ◌∷◌, true, false, IfSome};
+ghost use Rattle.std.specs.Prelude.{◌≡◌, ◌+◌, ◌∷◌, true, IfSome};
 ghost use Rattle.sockets.specs.Socket.{AcceptFailed, Event, came, HasFailedSince};
 ghost use Rattle.sockets.specs.Door.{accounted_for, lets_in, taken_in, MayBeShut};
 
@@ -44,10 +44,10 @@ pub fn accept_all<G: Ledger, R: Wait + Clock, N: Listen, W: ListenerWatch>(
     watch: &W,
 ) -> bool
     requires { taken_in door.old ≡ 0 }
-    // Each connection that came has a part, and nobody more is let in.
+    // Each connection that came has a part.
     ensures counted { came (N.arrivals listener.new) + taken_in door.old ≡ came (N.arrivals listener.old) + taken_in door.new }
     ensures accounted { accounted_for door.new ≡ accounted_for door.old }
-    ensures shut { lets_in door.new ≡ false }
+    ensures shut { door.new.is_shut ≡ true }
     ensures failed { result ≡ true → HasFailedSince (N.arrivals listener.old) (N.arrivals listener.new) }
 {
     let has_failed = accept_each(rt, lobby, door, listener, watch);

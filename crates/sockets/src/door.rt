@@ -1,5 +1,5 @@
 //! The count of those who came, and of those who are accounted for.
-ghost use Rattle.std.specs.Prelude.{◌≡◌, ◌≤◌, ◌+◌, [], true, false, length};
+ghost use Rattle.std.specs.Prelude.{◌≡◌, ◌≤◌, ◌+◌, [], true, length};
 
 use crate::guests::{Guest, Guests, Part};
 use crate::raw::{HostPeer, Listen, Visits};
@@ -49,7 +49,7 @@ impl<G: Ledger> Door<G> {
     /// Shuts the door: it lets nobody in from now on. The newest call of its listener failed, or it lets nobody in as it is, or nobody came by it.
     pub fn shut<N: Listen>(&mut self, listener: &N)
         requires { MayBeShut (N.arrivals listener.now) self.old }
-        ensures shut { lets_in self.new ≡ false }
+        ensures shut { self.new.is_shut ≡ true }
         ensures taken { taken_in self.new ≡ taken_in self.old }
         ensures accounted { accounted_for self.new ≡ accounted_for self.old }
     {

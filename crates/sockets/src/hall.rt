@@ -1,6 +1,5 @@
 //! What the sessions of all desks share: for how long a peer may be idle, and that they end.
-ghost use Rattle.std.specs.Prelude.{◌≡◌, false, IfSome};
-ghost use Rattle.sockets.specs.Door.{lets_in};
+ghost use Rattle.std.specs.Prelude.{◌≡◌, true, IfSome};
 ghost use Rattle.sockets.specs.Hall.{IsGuestbookOf};
 
 use crate::door::Door;
@@ -52,11 +51,10 @@ impl Hall {
         self.idle
     }
 
-    /// Ends the hall, where the door of its guests is shut, so that nobody is let in any more: each session ends at its next turn, or where a
-    /// write takes no byte.
+    /// Ends the hall, where the door of its guests is shut: each session ends at its next turn, or where a write takes no byte.
     pub fn end<G: Ledger>(&self, rt: &impl Wait, guestbook: &Guestbook<G>, door: &Door<G>)
         requires of { IsGuestbookOf self.now guestbook.now }
-        requires shut { lets_in door.now ≡ false }
+        requires shut { door.now.is_shut ≡ true }
     {
         drop(self.ended.set(rt, ()));
     }
