@@ -1,4 +1,4 @@
-use Rattle.std.proofs.Common.{◌≡◌, arith}
+use Rattle.std.proofs.Common.{arith}
 use Rattle.std.specs.Prelude.{vec_items}
 use Rattle.sockets.proofs.Ended.{as_many_begun, all_attended}
 use Rattle.sockets.proofs.desks.fn.serve_in.scope.Goals as goal
