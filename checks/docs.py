@@ -52,7 +52,7 @@ PHRASES = {
 
 # names that types of two crates or more have today (docs/WORDS.md says what some of them mean). A new type gets a name of its own.
 TWICE = {
-    "Ahead", "Answer", "AreMarked", "AreParts", "Begun", "Call", "Change", "ComesOf", "Content", "Cursor",
+    "Ahead", "Answer", "AreMarked", "AreParts", "Call", "Change", "ComesOf", "Content", "Cursor",
     "Desk", "Event", "Exchange", "Fits", "FitsNow", "Found", "Front", "HasRoom", "IsAppended", "IsFree", "IsKeptFrom", "IsNext",
     "IsPart", "IsReadAs", "IsStep", "IsWritten", "Kept", "Key", "Kind", "Log", "Moment", "Moments", "News", "Nothing",
     "Order", "Part", "Place", "Record", "Reply", "Run", "Sent", "Shown", "Shows", "Spells", "Stands", "StandsFor", "State", "Step", "Stops",

@@ -9,7 +9,7 @@ use Rattle.core.proofs.ledger.Share.TheSendSync as share
 use Rattle.core.proofs.once.OnceLock.TheSendSync as once
 use Rattle.sockets.specs.contracts.raw.HostPeer as host
 use Rattle.sockets.specs.contracts.guests.Guests as guests
-use Rattle.sockets.specs.contracts.guests.Part as part
+use Rattle.sockets.specs.contracts.guests.PeerPart as part
 use Rattle.sockets.specs.contracts.guests.Guest as guest
 use Rattle.sockets.specs.contracts.hall.Hall as hall
 use Rattle.sockets.specs.contracts.lobby.Lobby as lobby

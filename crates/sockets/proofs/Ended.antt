@@ -3,8 +3,8 @@ use Rattle.std.proofs.Common.{◌++◌, ◌≡◌, ℕ, suc, List, [], ◌∷◌
 use Rattle.std.specs.Prelude.{map}
 use Rattle.std.specs.declared.thread.Promise as promise
 use Rattle.session.specs.Exchange.{Exchange}
-use Rattle.sockets.specs.declared.begun.Begun.{Begun}
-use Rattle.sockets.specs.declared.begun.Begun.TheVariants.{InThread, WithoutThread}
+use Rattle.sockets.specs.declared.begun.BegunWork.{BegunWork}
+use Rattle.sockets.specs.declared.begun.BegunWork.TheVariants.{InThread, WithoutThread}
 use Rattle.sockets.specs.declared.threads.Attendant.{Attendant}
 use Rattle.sockets.specs.declared.threads.ServedBy.{ServedBy}
 use Rattle.sockets.specs.Begun.{EndsAs, EndAs, HasAttended, HaveAttended, IsBegun, AreBegun}
@@ -12,7 +12,7 @@ use Rattle.sockets.specs.Desks.{HaveServed}
 
 module _ {T P : Type 0} (g : promise.Ghosts P T) where
   -- one more has ended
-  pub one_more_ended : (front : List (Begun T P)) (results : List T) (one : Begun T P) (result : T) → EndAs g front results → EndsAs g one result
+  pub one_more_ended : (front : List (BegunWork T P)) (results : List T) (one : BegunWork T P) (result : T) → EndAs g front results → EndsAs g one result
       → EndAs g (front ++ one ∷ []) (results ++ result ∷ [])
   one_more_ended [] [] one result ended ends = (ends, tt)
   one_more_ended [] (r ∷ results) one result ended ends = absurd ended
@@ -21,7 +21,7 @@ module _ {T P : Type 0} (g : promise.Ghosts P T) where
 
 module _ {D G : Type 0} (does : D → Exchange → D → Type 0) (hall : ℕ) where
   -- one more was begun
-  pub one_more_begun : (front : List D) (begun : List (Begun (Attendant D G) (ServedBy D))) (desk : D) (one : Begun (Attendant D G) (ServedBy D)) → AreBegun does hall front begun
+  pub one_more_begun : (front : List D) (begun : List (BegunWork (Attendant D G) (ServedBy D))) (desk : D) (one : BegunWork (Attendant D G) (ServedBy D)) → AreBegun does hall front begun
       → IsBegun does hall desk one → AreBegun does hall (front ++ desk ∷ []) (begun ++ one ∷ [])
   one_more_begun [] [] desk one before is = (is, tt)
   one_more_begun [] (o ∷ others) desk one before is = absurd before
@@ -29,7 +29,7 @@ module _ {D G : Type 0} (does : D → Exchange → D → Type 0) (hall : ℕ) wh
   one_more_begun (d ∷ desks) (o ∷ others) desk one (first, before) is = (first, one_more_begun desks others desk one before is)
 
   -- as many as there are desks
-  pub as_many_begun : (desks : List D) (begun : List (Begun (Attendant D G) (ServedBy D))) → AreBegun does hall desks begun → length begun ≡ length desks
+  pub as_many_begun : (desks : List D) (begun : List (BegunWork (Attendant D G) (ServedBy D))) → AreBegun does hall desks begun → length begun ≡ length desks
   as_many_begun [] [] are = refl
   as_many_begun [] (o ∷ others) are = absurd are
   as_many_begun (d ∷ desks) [] are = absurd are
@@ -37,14 +37,14 @@ module _ {D G : Type 0} (does : D → Exchange → D → Type 0) (hall : ℕ) wh
 
   module _ (g : promise.Ghosts (ServedBy D) (Attendant D G))
       (keeps : (by : ServedBy D) (one : Attendant D G) → g.kept_by by one → HasAttended does by.1.value.ended.id by.0.value one) where
-    attended : (desk : D) (after : Attendant D G) (one : Begun (Attendant D G) (ServedBy D)) → IsBegun does hall desk one → EndsAs g one after → HasAttended does hall desk after
+    attended : (desk : D) (after : Attendant D G) (one : BegunWork (Attendant D G) (ServedBy D)) → IsBegun does hall desk one → EndsAs g one after → HasAttended does hall desk after
     attended desk after (InThread thread) (is, named) ends =
         subst (λ (d : D). HasAttended does hall d after) is
         (subst (λ (h : ℕ). HasAttended does h thread.promise.0.value after) named (keeps thread.promise after ends))
     attended desk after (WithoutThread came) is ends = subst (λ (one : Attendant D G). HasAttended does hall desk one) (sym ends) is
 
     -- what was begun has ended, so each desk has served
-    pub all_attended : (desks : List D) (begun : List (Begun (Attendant D G) (ServedBy D))) (results : List (Attendant D G)) → AreBegun does hall desks begun → EndAs g begun results
+    pub all_attended : (desks : List D) (begun : List (BegunWork (Attendant D G) (ServedBy D))) (results : List (Attendant D G)) → AreBegun does hall desks begun → EndAs g begun results
         → HaveAttended does hall desks results
     all_attended [] [] [] are ended = tt
     all_attended [] [] (r ∷ results) are ended = absurd ended

@@ -2,20 +2,20 @@
 use Rattle.std.specs.Prelude.{◌≡◌, ℕ, List, [], ◌∷◌}
 use Rattle.std.specs.declared.thread.Promise as promise
 use Rattle.session.specs.Exchange.{Exchange}
-use Rattle.sockets.specs.declared.begun.Begun.{Begun}
-use Rattle.sockets.specs.declared.begun.Begun.TheVariants.{InThread, WithoutThread}
+use Rattle.sockets.specs.declared.begun.BegunWork.{BegunWork}
+use Rattle.sockets.specs.declared.begun.BegunWork.TheVariants.{InThread, WithoutThread}
 use Rattle.sockets.specs.declared.threads.Attendant.{Attendant}
 use Rattle.sockets.specs.declared.threads.ServedBy.{ServedBy}
 use Rattle.sockets.specs.Desks.{ServesVisits}
 
 module _ {T P : Type 0} (g : promise.Ghosts P T) where
   -- what comes of work keeps its thread's promise, or is what came of it without one
-  abbrev pub EndsAs : Begun T P → T → Type 0
+  abbrev pub EndsAs : BegunWork T P → T → Type 0
   EndsAs (InThread thread) result = g.kept_by thread.promise result
   EndsAs (WithoutThread came) result = result ≡ came
 
   -- each, in their order
-  abbrev pub EndAs : List (Begun T P) → List T → Type 0
+  abbrev pub EndAs : List (BegunWork T P) → List T → Type 0
   EndAs [] [] = Unit {0}
   EndAs (one ∷ others) (result ∷ results) = EndsAs one result × EndAs others results
   EndAs [] (result ∷ results) = ⊥
@@ -34,12 +34,12 @@ module _ {D G : Type 0} (does : D → Exchange → D → Type 0) (hall : ℕ) wh
   HaveAttended (desk ∷ desks) [] = ⊥
 
   -- this desk was given a thread, which promises what comes of it, or this came of it without one
-  abbrev pub IsBegun : D → Begun (Attendant D G) (ServedBy D) → Type 0
+  abbrev pub IsBegun : D → BegunWork (Attendant D G) (ServedBy D) → Type 0
   IsBegun desk (InThread thread) = (thread.promise.0.value ≡ desk) × (thread.promise.1.value.ended.id ≡ hall)
   IsBegun desk (WithoutThread came) = HasAttended desk came
 
   -- each desk was, in their order
-  abbrev pub AreBegun : List D → List (Begun (Attendant D G) (ServedBy D)) → Type 0
+  abbrev pub AreBegun : List D → List (BegunWork (Attendant D G) (ServedBy D)) → Type 0
   AreBegun [] [] = Unit {0}
   AreBegun (desk ∷ desks) (one ∷ others) = IsBegun desk one × AreBegun desks others
   AreBegun [] (one ∷ others) = ⊥

@@ -9,6 +9,7 @@ pub mod Reads
 pub mod Desks
 pub mod Room
 pub mod Door
+pub mod Hall
 pub mod Attendance
 pub mod Begun
 pub mod Idle

@@ -60,6 +60,10 @@ came [] = 0
 came (Came ∷ events) = came events + 1
 came (event ∷ events) = came events
 
+-- the newest of these calls of a listener failed to take a connection
+abbrev pub HasFailed : List Event → Type 0
+HasFailed events = (before : List Event) × (events ≡ AcceptFailed ∷ before)
+
 -- Behind these calls of a listener there were others, and the newest of them failed to take a connection.
 abbrev pub HasFailedSince : List Event → List Event → Type 0
 HasFailedSince old new = (since : List Event) × (new ≡ AcceptFailed ∷ (since ++ old))

@@ -1,7 +1,7 @@
 //! The loop that takes connections.
-ghost use Rattle.std.specs.Prelude.{◌≡◌, ◌+◌, ◌∷◌, true, IfSome, nat_lt};
+ghost use Rattle.std.specs.Prelude.{◌≡◌, ◌+◌, ◌∷◌, true, IfSome};
 ghost use Rattle.sockets.specs.Socket.{AcceptFailed, Event, came, HasFailedSince};
-ghost use Rattle.sockets.specs.Door.{accounted_for, taken_in};
+ghost use Rattle.sockets.specs.Door.{accounted_for, lets_in, taken_in, MayBeShut};
 
 use crate::door::Door;
 use crate::guests::Guest;
@@ -34,7 +34,8 @@ const ENOTSOCK: i32 = 88;
 
 /// Takes connections until the listener can't work any more, where there are threads that serve them, and as long as the watch asks for it:
 /// then those that have come are closed, and no further one is waited for. Each other error of the listener concerns one connection or may
-/// pass: it is waited out, and the next connection is taken then. Answers whether it ended with a call of the listener that failed.
+/// pass: it is waited out, and the next connection is taken then. In the end the door is shut. Answers whether it ended with a call of the
+/// listener that failed.
 pub fn accept_all<G: Ledger, R: Wait + Clock, N: Listen, W: ListenerWatch>(
     rt: &R,
     lobby: &Lobby<G>,
@@ -42,9 +43,30 @@ pub fn accept_all<G: Ledger, R: Wait + Clock, N: Listen, W: ListenerWatch>(
     listener: &mut N,
     watch: &W,
 ) -> bool
+    requires { taken_in door.old ≡ 0 }
     // Each connection that came has a part.
     ensures counted { came (N.arrivals listener.new) + taken_in door.old ≡ came (N.arrivals listener.old) + taken_in door.new }
     ensures accounted { accounted_for door.new ≡ accounted_for door.old }
+    ensures shut { door.new.is_shut ≡ true }
+    ensures failed { result ≡ true → HasFailedSince (N.arrivals listener.old) (N.arrivals listener.new) }
+{
+    let has_failed = accept_each(rt, lobby, door, listener, watch);
+    door.shut(listener);
+    has_failed
+}
+
+// Takes connections, until the door may be shut. Answers whether it ended with a call of the listener that failed.
+fn accept_each<G: Ledger, R: Wait + Clock, N: Listen, W: ListenerWatch>(
+    rt: &R,
+    lobby: &Lobby<G>,
+    door: &mut Door<G>,
+    listener: &mut N,
+    watch: &W,
+) -> bool
+    requires { taken_in door.old ≡ 0 }
+    ensures counted { came (N.arrivals listener.new) + taken_in door.old ≡ came (N.arrivals listener.old) + taken_in door.new }
+    ensures accounted { accounted_for door.new ≡ accounted_for door.old }
+    ensures over { MayBeShut (N.arrivals listener.new) door.new }
     ensures failed { result ≡ true → HasFailedSince (N.arrivals listener.old) (N.arrivals listener.new) }
 {
     let threads = lobby.free(rt);
@@ -86,7 +108,7 @@ fn accept_one<G: Ledger, N: Listen>(
     listener: &mut N,
     is_going: bool,
 ) -> Option<io::Error>
-    requires { nat_lt 1 door.old.left ≡ true }
+    requires { lets_in door.old ≡ true }
     ensures counted { came (N.arrivals listener.new) + taken_in door.old ≡ came (N.arrivals listener.old) + taken_in door.new }
     ensures accounted { accounted_for door.new ≡ accounted_for door.old }
     ensures one { (event : Event) × (N.arrivals listener.new ≡ event ∷ N.arrivals listener.old) }

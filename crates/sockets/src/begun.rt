@@ -7,7 +7,7 @@ use std::thread::{Promise, PromisedHandle, Threads};
 
 /// Work that runs in a thread, which promises what comes of it; or what came of it, where the system gave no thread.
 #[derive(Drop)]
-pub enum Begun<T, P: Promise<T>> {
+pub enum BegunWork<T, P: Promise<T>> {
     InThread(PromisedHandle<T, P>),
     WithoutThread(T),
 }
@@ -15,7 +15,7 @@ pub enum Begun<T, P: Promise<T>> {
 /// What comes of all work, in its order, once it has ended.
 pub fn end_all<T: Drop, P: Promise<T>, R: Threads>(
     rt: &R,
-    begun: Vec<Begun<T, P>>,
+    begun: Vec<BegunWork<T, P>>,
     ended: Vec<T>,
 ) -> Vec<T>
     requires { HasRoom (vec_len begun) ended }
@@ -31,11 +31,11 @@ pub fn end_all<T: Drop, P: Promise<T>, R: Threads>(
 }
 
 // What comes of work once it has ended.
-fn end<T, P: Promise<T>, R: Threads>(rt: &R, begun: Begun<T, P>) -> T
+fn end<T, P: Promise<T>, R: Threads>(rt: &R, begun: BegunWork<T, P>) -> T
     ensures { EndsAs P.Promise begun result }
 {
     match begun {
-        Begun::InThread(thread) => thread.join(rt),
-        Begun::WithoutThread(result) => result,
+        BegunWork::InThread(thread) => thread.join(rt),
+        BegunWork::WithoutThread(result) => result,
     }
 }

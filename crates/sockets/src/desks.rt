@@ -4,16 +4,17 @@ ghost use Rattle.sockets.specs.Attendance.{count_all, lists_of, turned_away_of, 
 ghost use Rattle.sockets.specs.Host.{are_unasked};
 ghost use Rattle.sockets.specs.Begun.{HaveAttended};
 ghost use Rattle.sockets.specs.Door.{accounted_for, taken_in};
+ghost use Rattle.sockets.specs.Hall.{IsGuestbookOf};
 ghost use Rattle.sockets.specs.Room.{HasRoom};
 ghost use Rattle.sockets.specs.Desks.{HaveServed, HaveServedInHall};
 ghost use Rattle.sockets.specs.Socket.{came, HasFailedSince};
 
 use crate::accepting::accept_all;
 use crate::attendance::{Attendance, Attended};
-use crate::begun::{Begun, end_all};
+use crate::begun::{BegunWork, end_all};
 use crate::door::Door;
 use crate::guests::Guests;
-use crate::hall::Hall;
+use crate::hall::{Guestbook, Hall};
 use crate::lobby::Lobby;
 use crate::raw::{Listen, Visits};
 use crate::threads::{Attendant, ServedBy, begin_all};
@@ -82,13 +83,15 @@ fn serve_counted<
         Ok(room) => {
             let Room {
                 hall,
+                guestbook,
                 lobby,
                 begun,
                 attendants,
                 seats,
             } = room;
             let held = serve_in(
-                rt, alloc, &hall, &lobby, door, desks, listener, begun, attendants, watch,
+                rt, alloc, &hall, &guestbook, &lobby, door, desks, listener, begun, attendants,
+                watch,
             );
             Ok(end(held, lobby, seats))
         }
@@ -101,8 +104,9 @@ fn serve_counted<
 /// All the memory that serving takes beside that of its sessions.
 struct Room<K: Desk + Drop, G: Ledger> {
     hall: Hall,
+    guestbook: Guestbook<G>,
     lobby: Lobby<G>,
-    begun: Vec<Begun<Attendant<K, G>, ServedBy<K>>>,
+    begun: Vec<BegunWork<Attendant<K, G>, ServedBy<K>>>,
     attendants: Vec<Attendant<K, G>>,
     seats: Seats<K>,
 }
@@ -123,11 +127,14 @@ impl<K: Desk + Drop, G: Ledger> Room<K, G> {
         nobody: Guests<G>,
     ) -> Result<Room<K, G>, AllocError>
         requires { nobody.visits.list ≡ [] }
+        ensures of { IfOk result (λ room. IsGuestbookOf room.hall room.guestbook) }
         ensures room { IfOk result (λ room. HasRoom desks room.begun × HasRoom desks room.attendants) }
         ensures seats { IfOk result (λ room. HasRoom desks room.seats.desks × HasRoom desks room.seats.visits) }
     {
+        let (hall, guestbook) = Hall::new(idle);
         Ok(Room {
-            hall: Hall::new(idle),
+            hall,
+            guestbook,
             lobby: Lobby::new(alloc, desks, nobody)?,
             begun: Vec::with_capacity(alloc, desks)?,
             attendants: Vec::with_capacity(alloc, desks)?,
@@ -160,15 +167,18 @@ fn serve_in<
     rt: &R,
     alloc: Global,
     hall: &Hall,
+    guestbook: &Guestbook<G>,
     lobby: &Lobby<G>,
     door: Door<G>,
     desks: Vec<K>,
     listener: N,
-    begun: Vec<Begun<Attendant<K, G>, ServedBy<K>>>,
+    begun: Vec<BegunWork<Attendant<K, G>, ServedBy<K>>>,
     attendants: Vec<Attendant<K, G>>,
     watch: &W,
 ) -> Leavings<K, N, G>
     requires room { HasRoom (vec_len desks) begun × HasRoom (vec_len desks) attendants }
+    requires of { IsGuestbookOf hall.now guestbook.now }
+    requires none { taken_in door ≡ 0 }
     ensures attended { HaveAttended K.does hall.now.ended.id desks.items result.attendants.items }
     ensures counted { came (N.arrivals result.listener) + taken_in door ≡ came (N.arrivals listener) + taken_in result.door }
     ensures accounted { accounted_for result.door ≡ accounted_for door }
@@ -178,7 +188,9 @@ fn serve_in<
         thread::scope_env(),
         rt,
         |scope| -> Leavings<K, N, G>
-            requires { HasRoom (vec_len desks) begun × HasRoom (vec_len desks) attendants }
+            requires room { HasRoom (vec_len desks) begun × HasRoom (vec_len desks) attendants }
+            requires of { IsGuestbookOf hall.now guestbook.now }
+            requires none { taken_in door ≡ 0 }
             ensures attended { HaveAttended K.does hall.entry.now.ended.id desks.items result.attendants.items }
             ensures counted { came (N.arrivals result.listener) + taken_in door ≡ came (N.arrivals listener) + taken_in result.door }
             ensures accounted { accounted_for result.door ≡ accounted_for door }
@@ -188,7 +200,7 @@ fn serve_in<
             let mut door = door;
             let begun = begin_all(scope, rt, alloc, hall, lobby, desks, begun);
             let has_failed = accept_all(rt, lobby, &mut door, &mut listener, watch);
-            hall.end(rt);
+            hall.end(rt, guestbook, &door);
             lobby.close(rt);
             Leavings {
                 attendants: end_all(rt, begun, attendants),

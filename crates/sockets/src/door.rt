@@ -1,21 +1,23 @@
 //! The count of those who came, and of those who are accounted for.
-ghost use Rattle.std.specs.Prelude.{◌≡◌, ◌≤◌, ◌+◌, [], true, length, nat_lt};
+ghost use Rattle.std.specs.Prelude.{◌≡◌, ◌≤◌, ◌+◌, [], true, length};
 
-use crate::guests::{Guest, Guests, Part};
-use crate::raw::{HostPeer, Visits};
+use crate::guests::{Guest, Guests, PeerPart};
+use crate::raw::{HostPeer, Listen, Visits};
 use std::sync::ledger::{Blank, Book, Ledger, Share};
 
-/// Counts the peers that a listener took by a ledger. Each has a part of it. Where all parts have come back, all peers are accounted for.
+/// Counts the peers that a listener took by a ledger. Each has a part of it. Where all parts have come back, all peers are accounted for. Once
+/// it is shut it lets nobody in.
 #[derive(Drop)]
 pub struct Door<G: Ledger> {
     book: Book<G>,
     share: Share<G>,
     left: u64,
+    is_shut: bool,
     ghost parts: { left ≤ share.parts },
 }
 
 impl<G: Ledger> Door<G> {
-    ghost use Rattle.sockets.specs.Door.{accounted_for, taken_in};
+    ghost use Rattle.sockets.specs.Door.{accounted_for, lets_in, taken_in, MayBeShut};
 
     /// A door by which nobody came yet, and guests of the same ledger: nobody yet.
     pub fn new(blank: Blank) -> (Door<G>, Guests<G>)
@@ -32,25 +34,36 @@ impl<G: Ledger> Door<G> {
             book,
             share,
             left: u64::MAX,
+            is_shut: false,
         };
         (door, nobody)
     }
 
-    /// Whether there is a part for one more, and one that is left then.
+    /// Whether one more is let in: the door isn't shut, and there is a part for one more, and one that is left then.
     pub fn is_open(&self) -> bool
-        ensures { result ≡ nat_lt 1 self.now.left }
+        ensures { result ≡ lets_in self.now }
     {
-        1 < self.left
+        !self.is_shut && 1 < self.left
+    }
+
+    /// Shuts the door: it lets nobody in from now on. The newest call of its listener failed, or it lets nobody in as it is, or nobody came by it.
+    pub fn shut<N: Listen>(&mut self, listener: &N)
+        requires { MayBeShut (N.arrivals listener.now) self.old }
+        ensures shut { self.new.is_shut ≡ true }
+        ensures taken { taken_in self.new ≡ taken_in self.old }
+        ensures accounted { accounted_for self.new ≡ accounted_for self.old }
+    {
+        self.is_shut = true;
     }
 
     /// One more came, who gets a part.
     pub fn take_in(&mut self, peer: HostPeer) -> Guest<G>
-        requires { nat_lt 1 self.old.left ≡ true }
+        requires { lets_in self.old ≡ true }
         ensures taken { taken_in self.new ≡ taken_in self.old + 1 }
         ensures accounted { accounted_for self.new ≡ accounted_for self.old }
     {
         self.book.add(&mut self.share, 1);
-        let part = Part::new(self.share.split_off(1, 1));
+        let part = PeerPart::new(self.share.split_off(1, 1));
         self.left -= 1;
         Guest { peer, part }
     }

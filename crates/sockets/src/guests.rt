@@ -7,19 +7,19 @@ use std::sync::ledger::{Ledger, Share};
 
 /// A peer's part of the ledger that counts all of them.
 #[derive(Drop)]
-pub struct Part<G: Ledger> {
+pub struct PeerPart<G: Ledger> {
     share: Share<G>,
     ghost one: { share.parts ≡ 1 },
     ghost counts: { share.amount ≡ 1 },
 }
 
-impl<G: Ledger> Part<G> {
+impl<G: Ledger> PeerPart<G> {
     /// One part, that counts one.
-    pub fn new(share: Share<G>) -> Part<G>
+    pub fn new(share: Share<G>) -> PeerPart<G>
         requires { (share.parts ≡ 1) × (share.amount ≡ 1) }
         ensures { result.share ≡ share }
     {
-        Part { share }
+        PeerPart { share }
     }
 }
 
@@ -27,7 +27,7 @@ impl<G: Ledger> Part<G> {
 #[derive(Drop)]
 pub struct Guest<G: Ledger> {
     pub peer: HostPeer,
-    pub part: Part<G>,
+    pub part: PeerPart<G>,
 }
 
 /// Visits that have ended, with the part of each.
@@ -62,7 +62,7 @@ impl<G: Ledger> Guests<G> {
     }
 
     /// One visit more has ended.
-    pub fn add(&mut self, visit: Visit, part: Part<G>)
+    pub fn add(&mut self, visit: Visit, part: PeerPart<G>)
         ensures { self.new.visits.list ≡ self.old.visits.list ++ visit ∷ [] }
     {
         self.visits.add(visit);

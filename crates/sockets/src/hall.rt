@@ -1,7 +1,12 @@
 //! What the sessions of all desks share: for how long a peer may be idle, and that they end.
-ghost use Rattle.std.specs.Prelude.{◌≡◌, IfSome};
+ghost use Rattle.std.specs.Prelude.{◌≡◌, true, IfSome};
+ghost use Rattle.sockets.specs.Hall.{IsGuestbookOf};
 
+use crate::door::Door;
+use std::marker::PhantomData;
+use std::snapshot::Snapshot;
 use std::sync::atomic::{AtomicUsize, Ordering};
+use std::sync::ledger::Ledger;
 use std::sync::{OnceLock, OnceToken, Wait};
 
 /// What all sessions of a listener share.
@@ -14,16 +19,29 @@ pub struct Hall {
     without_thread: AtomicUsize,
 }
 
+/// Shows by which ledger the guests of a hall are counted.
+#[derive(Drop)]
+pub struct Guestbook<G: Ledger> {
+    hall: Snapshot<Hall>,
+    ledger: PhantomData<G>,
+}
+
 impl Hall {
-    /// A hall whose peers may be idle for so many seconds, 0 for ever.
-    pub fn new(idle: u32) -> Hall
-        ensures { result.idle ≡ idle }
+    /// A hall whose peers may be idle for so many seconds, 0 for ever. Its guests are counted by one ledger.
+    pub fn new<G: Ledger>(idle: u32) -> (Hall, Guestbook<G>)
+        ensures idle { result.0.idle ≡ idle }
+        ensures of { IsGuestbookOf result.0 result.1 }
     {
-        Hall {
+        let hall = Hall {
             ended: OnceLock::new(),
             idle,
             without_thread: AtomicUsize::new(usize::MAX),
-        }
+        };
+        let guestbook = Guestbook {
+            hall: Snapshot::of(&hall),
+            ledger: PhantomData,
+        };
+        (hall, guestbook)
     }
 
     /// For how many seconds a peer may be idle; 0 is for ever.
@@ -33,8 +51,11 @@ impl Hall {
         self.idle
     }
 
-    /// Ends the hall: each session ends at its next turn, or where a write takes no byte.
-    pub fn end(&self, rt: &impl Wait) {
+    /// Ends the hall, where the door of its guests is shut: each session ends at its next turn, or where a write takes no byte.
+    pub fn end<G: Ledger>(&self, rt: &impl Wait, guestbook: &Guestbook<G>, door: &Door<G>)
+        requires of { IsGuestbookOf self.now guestbook.now }
+        requires shut { door.now.is_shut ≡ true }
+    {
         drop(self.ended.set(rt, ()));
     }
 

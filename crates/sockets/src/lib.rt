@@ -61,6 +61,7 @@
 //! A visit is what a connection was asked that is closed: `raw.rt` alone makes one, of a connection, and a list of visits, of such. Each peer has
 //! a part of a ledger (`door.rt`), which its visit brings back, or its turning away. So where all parts are back, nobody was dropped, and the visits are as many
 //! as came by the listener's calls (`specs/Attendance.antt`). Of those who were turned away nothing was read, and nothing was written to them.
+//! The hall's end, which cuts conversations, asks that the door is shut: nobody is let in after it.
 //!
 //! Tested, since no clause says it: that a connection is served where a desk is free, and that places are given again. So is which error of the listener is
 //! waited out: the listener is a parameter, so that a test can give one that fails. What `raw.rt` notes is what the system answered: its few lines are to be read.

@@ -3,7 +3,7 @@ ghost use Rattle.std.specs.Prelude.{vec_len};
 ghost use Rattle.sockets.specs.Begun.{HasAttended, IsBegun, AreBegun};
 ghost use Rattle.sockets.specs.Room.{HasRoom};
 
-use crate::begun::Begun;
+use crate::begun::BegunWork;
 use crate::connection::serve_peer;
 use crate::guests::{Guest, Guests};
 use crate::hall::Hall;
@@ -40,8 +40,8 @@ pub fn begin_all<'s, E, G: Ledger + Send + Sync, K: Desk + Send + Drop + 's, R: 
     hall: &'s Hall,
     lobby: &'s Lobby<G>,
     desks: Vec<K>,
-    begun: Vec<Begun<Attendant<K, G>, ServedBy<K>>>,
-) -> Vec<Begun<Attendant<K, G>, ServedBy<K>>>
+    begun: Vec<BegunWork<Attendant<K, G>, ServedBy<K>>>,
+) -> Vec<BegunWork<Attendant<K, G>, ServedBy<K>>>
     requires { HasRoom (vec_len desks) begun }
     ensures { AreBegun K.does hall.now.ended.id desks.items result.items }
 {
@@ -64,7 +64,7 @@ fn begin<'s, E, G: Ledger + Send + Sync, K: Desk + Send + Drop + 's, R: Wait + S
     lobby: &'s Lobby<G>,
     place: usize,
     desk: K,
-) -> Begun<Attendant<K, G>, ServedBy<K>>
+) -> BegunWork<Attendant<K, G>, ServedBy<K>>
     ensures { IsBegun K.does hall.now.ended.id desk result }
 {
     let promise = ServedBy(Snapshot::of(&desk), Snapshot::of(hall));
@@ -74,11 +74,11 @@ fn begin<'s, E, G: Ledger + Send + Sync, K: Desk + Send + Drop + 's, R: Wait + S
     ) {
         Ok(thread) => {
             lobby.free_one(rt);
-            Begun::InThread(thread)
+            BegunWork::InThread(thread)
         }
         Err(refused) => {
             hall.turn_away(place);
-            Begun::WithoutThread((refused.value)())
+            BegunWork::WithoutThread((refused.value)())
         }
     }
 }

@@ -1,5 +1,4 @@
-use Rattle.std.proofs.Common.{◌≡◌, ◌∙◌, ap, arith, refl}
-use Rattle.sockets.specs.Socket.{Came, AcceptFailed, came}
+use Rattle.sockets.specs.Socket.{Came, AcceptFailed}
 use Rattle.sockets.proofs.accepting.accept_one.Goals as goal
 
 pub returns-in-Ok-clause-one : goal.returns-in-Ok-clause-one

@@ -1,6 +1,5 @@
-use Rattle.std.proofs.Common.{◌≡◌, ◌≤◌, ◌+◌, ◌∙◌, ℕ, List, length, sym, ap, subst, arith}
-use Rattle.std.specs.Prelude.{map, vec_items, vec_len, vec_capacity}
-use Rattle.sockets.specs.Attendance.{visits_of}
+use Rattle.std.proofs.Common.{◌≡◌, sym, subst, arith}
+use Rattle.std.specs.Prelude.{map, vec_items, vec_len}
 use Rattle.sockets.specs.Desks.{HaveServed}
 use Rattle.sockets.proofs.Ended.{as_many_attended, served_apart}
 use Rattle.sockets.proofs.desks.serve_counted.Goals as goal

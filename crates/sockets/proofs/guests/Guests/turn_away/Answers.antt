@@ -1,4 +1,4 @@
-use Rattle.std.proofs.Common.{◌≡◌, ◌∙◌, true, ap}
+use Rattle.std.proofs.Common.{◌∙◌, ap}
 use Rattle.sockets.specs.Host.{are_unasked}
 use Rattle.sockets.proofs.Unasked.{one_more_unasked}
 use Rattle.sockets.proofs.guests.Guests.turn_away.Goals as goal

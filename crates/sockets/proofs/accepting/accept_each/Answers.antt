@@ -1,6 +1,6 @@
 use Rattle.std.proofs.Common.{◌≡◌, ◌∙◌, ◌++◌, ◌∷◌, List, ap, arith}
 use Rattle.sockets.specs.Socket.{Event, came}
-use Rattle.sockets.proofs.accepting.accept_all.Goals as goal
+use Rattle.sockets.proofs.accepting.accept_each.Goals as goal
 
 -- one call more of the listener
 one_more : (old mid new : List Event) → (since : List Event) × (mid ≡ since ++ old) → (event : Event) × (new ≡ event ∷ mid)

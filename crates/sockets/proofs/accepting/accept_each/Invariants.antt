@@ -1,7 +1,7 @@
 use Rattle.std.proofs.Common.{◌≡◌, ◌+◌, ◌++◌, List}
 use Rattle.sockets.specs.Socket.{Event, came}
 use Rattle.sockets.specs.Door.{accounted_for, taken_in}
-use Rattle.sockets.proofs.accepting.accept_all.Given as goal
+use Rattle.sockets.proofs.accepting.accept_each.Given as goal
 
 -- each connection that came so far has a part, and the calls of the listener so far stand behind those before
 abbrev pub invariant-peers : goal.invariant-peers
