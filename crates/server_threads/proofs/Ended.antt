@@ -90,5 +90,5 @@ module _ {D L : Type 0} {disk : Ghosts D} where
   -- all of a board's order is published where the writing ended well
   pub all_ordered : (writer : Writer) (flusher : Flusher D L disk) (board : Progress Entry) (written : Result (Unit {0}) Refusal) → OnOk written (IsAllPublished writer flusher)
       → IsCountedBy writer board → OnOk written (length board.order ≡ told_count flusher)
-  all_ordered writer flusher board (Ok answer) all left = sym (left.all all.ended) ∙ all.all
+  all_ordered writer flusher board (Ok answer) all left = sym (left.all all.0) ∙ all.1
   all_ordered writer flusher board (Err refusal) all left = tt

@@ -79,10 +79,8 @@ module _ {D L : Type 0} {disk : Ghosts D} where
   -- and then all of the order is published, where nothing is under way
   pub all_published : (writer after : Writer) (flusher : Flusher D L disk) → after ≡ counts_ended writer → committed_of flusher ≡ [] → waiting_of flusher ≡ [] → IsAt writer flusher
       → IsAllPublished after flusher
-  all_published writer after flusher is committed waiting at = record {
-    ended = ap (λ (w : Writer). w.ended) is;
-    all = ap (λ (w : Writer). w.taken) is ∙ follows writer flusher committed waiting at;
-  }
+  all_published writer after flusher is committed waiting at =
+      (ap (λ (w : Writer). w.ended) is, ap (λ (w : Writer). w.taken) is ∙ follows writer flusher committed waiting at)
 
   -- a run was taken off that has no command
   pub at_none : (writer after : Writer) (flusher : Flusher D L disk) → after ≡ counts_taken writer 0 → IsAt writer flusher → IsAt after flusher

@@ -14,6 +14,5 @@ module _ {D L : Type 0} {disk : Ghosts D} where
     pub taken : writer.taken ≡ told_count flusher + length (commands_of (committed_of flusher ++ waiting_of flusher))
 
   -- All of the order is published: the writer was told that nothing comes any more, and all that it took off is published.
-  pub record IsAllPublished (writer : Writer) (flusher : Flusher D L disk) : Type 0 where
-    pub ended : writer.ended ≡ 1
-    pub all : writer.taken ≡ told_count flusher
+  abbrev pub IsAllPublished : Writer → Flusher D L disk → Type 0
+  IsAllPublished writer flusher = (writer.ended ≡ 1) × (writer.taken ≡ told_count flusher)
