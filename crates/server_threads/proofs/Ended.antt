@@ -15,6 +15,9 @@ use Rattle.world.specs.Progress.{Progress}
 use Rattle.world.specs.World.{Entry}
 use Rattle.hub.specs.Runs.{IsCountedBy, Writer}
 use Rattle.flusher.specs.declared.flusher.Flusher.{Flusher}
+use Rattle.flusher.specs.Holding.{told_of}
+use Rattle.revision.specs.Command.{Taken}
+use Rattle.recovery.specs.Found.{commands_of}
 use Rattle.turns.specs.Counting.{IsAllPublished}
 use Rattle.turns.specs.Writing.{told_count}
 use Rattle.hub_desk.specs.AtHub.{Desk, PassesAtHub}
@@ -92,3 +95,9 @@ module _ {D L : Type 0} {disk : Ghosts D} where
       → IsCountedBy writer board → OnOk written (length board.order ≡ told_count flusher)
   all_ordered writer flusher board (Ok answer) all left = sym (left.all all.0) ∙ all.1
   all_ordered writer flusher board (Err refusal) all left = tt
+
+  -- what is published stays
+  pub still_published : (writer : Writer) (old new : Flusher D L disk) (written : Result (Unit {0}) Refusal) → told_of new ≡ told_of old → OnOk written (IsAllPublished writer old)
+      → OnOk written (IsAllPublished writer new)
+  still_published writer old new (Ok answer) told all = (all.0, all.1 ∙ sym (ap (λ (t : List (List Taken)). length (commands_of t)) told))
+  still_published writer old new (Err refusal) told all = tt

@@ -1,4 +1,5 @@
 //! Writing in a thread of its own, beside the sessions in this thread.
+ghost use Rattle.std.proofs.Props.{props};
 ghost use Rattle.std.specs.Prelude.{◌≡◌, IfOk, IfErr, OnOk};
 ghost use Rattle.flusher.specs.Holding.{store_of};
 ghost use Rattle.server_threads.specs.Served.{IsStarted};
@@ -25,7 +26,7 @@ pub(crate) struct Both<A, C, D: Disk, L: Life> {
     pub(crate) written: Result<(), Refusal>,
     pub(crate) writer: Writer<L>,
     pub(crate) left: (A, C),
-    ghost all: { OnOk written (IsAllPublished writer flusher) },
+    ghost all: { OnOk written (IsAllPublished writer flusher) } by { Prim.hlevel props },
 }
 
 /// Holds sessions in this thread, as `hold` does, while another thread writes until the hub is ended, which `hold` is to do once they have

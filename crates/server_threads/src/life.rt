@@ -1,4 +1,5 @@
 //! The life of a server: how it begins, and how it ends.
+ghost use Rattle.std.proofs.Props.{props};
 ghost use Rattle.std.specs.Prelude.{◌≡◌, ◌+◌, IfOk, IfSome, IfErr, OnOk, List};
 ghost use Rattle.flusher.specs.Holding.{store_of};
 ghost use Rattle.turns.specs.Counting.{IsAt, IsAllPublished};
@@ -187,7 +188,7 @@ pub(crate) struct Ending<D: Disk, L: Life> {
     pub(crate) rights: Rights<L>,
     pub(crate) ordered: Ordered<L>,
     pub(crate) tally: Tally<L>,
-    ghost all: { OnOk written (IsAllPublished rights.writer flusher) },
+    ghost all: { OnOk written (IsAllPublished rights.writer flusher) } by { Prim.hlevel props },
 }
 
 /// What is left where the sessions' desks are tallied and the writing has ended, with what the sessions answered. Each desk was told of no more than

@@ -1,4 +1,5 @@
 //! What comes of the thread that writes.
+ghost use Rattle.std.proofs.Props.{props};
 ghost use Rattle.std.specs.Prelude.{OnOk};
 ghost use Rattle.turns.specs.Counting.{IsAllPublished};
 
@@ -20,7 +21,7 @@ pub(crate) struct Written<'a, D: Disk + Drop, L: Life, R: Wait> {
     pub(crate) flusher: Flusher<D, L>,
     pub(crate) writer: Writer<L>,
     pub(crate) answer: Result<(), Refusal>,
-    ghost all: { OnOk answer (IsAllPublished writer flusher) },
+    ghost all: { OnOk answer (IsAllPublished writer flusher) } by { Prim.hlevel props },
 }
 
 impl<D: Disk + Drop, L: Life, R: Wait> Drop for Written<'_, D, L, R> {

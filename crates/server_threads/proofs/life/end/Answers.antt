@@ -5,8 +5,8 @@ use Rattle.server_threads.proofs.life.end.Goals as goal
 pub returns-clause-counted : goal.returns-clause-counted
 returns-clause-counted g c = record {
   progress = c.into_board-board.result.progress;
-  run = c.end-_ordered.ensures.run;
-  begins = c.end-_ordered.ensures.begins;
-  counts = c.end-_ordered.ensures.counts;
+  run = c.end-ordered.ensures.run;
+  begins = c.end-ordered.ensures.begins;
+  counts = c.end-ordered.ensures.counts;
   all = all_ordered c.args.past.rights.writer c.args.past.flusher c.into_board-board.result.progress c.args.past.written c.args.past.all c.into_board-board.ensures;
 }

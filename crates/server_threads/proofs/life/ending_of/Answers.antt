@@ -2,6 +2,7 @@ use Rattle.std.proofs.Common.{◌++◌, ◌∙◌, length, ap, subst}
 use mathlib.Core.List.{IsPrefix}
 use Rattle.recovery.specs.Found.{commands_of}
 use Rattle.flusher.specs.Holding.{told_of, committed_of, waiting_of}
+use Rattle.server_threads.proofs.Ended.{still_published}
 use Rattle.server_threads.proofs.Tallied.{begins_longer, found_longer, told_longer}
 use Rattle.server_threads.proofs.life.ending_of.Goals as goal
 
@@ -23,3 +24,9 @@ returns-clause-tallied g c desks tallied =
       told = told_longer closing.told (told_of last ++ committed_of last) desks c.covers.ensures.begins tallied.told;
       counts = tallied.counts;
     }
+
+-- what is published stays
+pub invariant_of-past : goal.invariant_of-past
+invariant_of-past g c = record {
+  all = still_published c.args.both.writer c.args.both.flusher c.covers.new.self c.args.both.written c.covers.ensures.batches.told c.args.both.all;
+}
