@@ -1,6 +1,6 @@
 //! Documents that are adopted at a revision, without their past.
 use crate::asking::Answer::{Again, Not, Now};
-use crate::asking::{Row, What, after, doc, empty, roomy};
+use crate::asking::{Answer, Row, What, after, doc, empty, roomy};
 use crate::steps::{Step, delta_of};
 use document::Document;
 use refusal::Refusal;
@@ -75,20 +75,26 @@ fn adopt_deleted(
 #[test]
 fn a_deleted_document_is_adopted_empty(rt: HostRuntime) {
     let mut state = roomy(&rt, false);
-    let full = adopt_deleted(
-        &rt,
-        &mut state,
-        &[Step::Plain("ab")],
-        4,
-        Window::of_one(2, 3),
-    );
-    assert_eq!(rt; full, Err(Refusal::Stranger));
-    // A creation makes the first revision.
-    let first = adopt_deleted(&rt, &mut state, &[], 1, Window::of_one(1, 1));
-    assert_eq!(rt; first, Err(Refusal::Stranger));
-    let empty = adopt_deleted(&rt, &mut state, &[], 4, Window::of_one(2, 3));
-    assert_eq!(rt; empty, Ok(()));
+    full_is_strange(&rt, &mut state);
+    first_is_strange(&rt, &mut state);
+    is_adopted_deleted(&rt, &mut state, 4);
     after(&rt, state, ASKED_OF_DELETED);
+}
+
+fn full_is_strange(rt: &(impl Abort + AllocGlobal), state: &mut State) {
+    let full = adopt_deleted(rt, state, &[Step::Plain("ab")], 4, Window::of_one(2, 3));
+    assert_eq!(rt; full, Err(Refusal::Stranger));
+}
+
+// a creation makes the first revision
+fn first_is_strange(rt: &(impl Abort + AllocGlobal), state: &mut State) {
+    let first = adopt_deleted(rt, state, &[], 1, Window::of_one(1, 1));
+    assert_eq!(rt; first, Err(Refusal::Stranger));
+}
+
+fn is_adopted_deleted(rt: &(impl Abort + AllocGlobal), state: &mut State, revision: u64) {
+    let empty = adopt_deleted(rt, state, &[], revision, Window::of_one(2, 3));
+    assert_eq!(rt; empty, Ok(()));
 }
 
 /// The last revision that a document comes to.
@@ -119,20 +125,19 @@ fn no_revision_comes_after_the_last(rt: HostRuntime) {
     assert_eq!(rt; adopt(&rt, &mut state, "d", LAST), Ok(()));
     after(&rt, state, ASKED_AT_THE_LAST);
     let mut state = roomy(&rt, false);
-    let empty = adopt_deleted(&rt, &mut state, &[], LAST, Window::of_one(2, 3));
-    assert_eq!(rt; empty, Ok(()));
+    is_adopted_deleted(&rt, &mut state, LAST);
     after(&rt, state, ASKED_OF_DELETED_AT_THE_LAST);
 }
 
 /// The entry of a deletion has 26 bytes where its source's name has three.
 #[test]
 fn a_deletion_keeps_the_width(rt: HostRuntime) {
-    let deletion = ("ann", "d", 3, What::Delete, Not(Refusal::TooWide));
-    let mut state = empty(&rt, 20_000, 25);
-    assert_eq!(rt; adopt(&rt, &mut state, "d", 4), Ok(()));
-    after(&rt, state, &[deletion]);
-    let deletion = ("ann", "d", 3, What::Delete, Now(5));
-    let mut state = empty(&rt, 20_000, 26);
-    assert_eq!(rt; adopt(&rt, &mut state, "d", 4), Ok(()));
-    after(&rt, state, &[deletion]);
+    is_answered_within(&rt, 25, Not(Refusal::TooWide));
+    is_answered_within(&rt, 26, Now(5));
+}
+
+fn is_answered_within(rt: &(impl Abort + AllocGlobal), width: u32, wanted: Answer) {
+    let mut state = empty(rt, 20_000, width);
+    assert_eq!(rt; adopt(rt, &mut state, "d", 4), Ok(()));
+    after(rt, state, &[("ann", "d", 3, What::Delete, wanted)]);
 }

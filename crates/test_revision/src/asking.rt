@@ -2,7 +2,7 @@
 use crate::steps::{Step, delta_of};
 use document::Document;
 use refusal::Refusal;
-use revision::{Command, Limits, Name, Plan, Reply, State, Taken};
+use revision::{Command, DocState, Limits, Name, Plan, Reply, State, Taken};
 use std::process::Abort;
 
 /// What is asked for.
@@ -70,9 +70,18 @@ pub fn command(
     number: u64,
     what: What,
 ) -> Result<Command, Refusal> {
+    command_of(rt, doc(rt, name), source, number, what)
+}
+
+fn command_of(
+    rt: &(impl Abort + AllocGlobal),
+    name: Name,
+    source: &str,
+    number: u64,
+    what: What,
+) -> Result<Command, Refusal> {
     assert!(rt; 1 <= number && number < 1 << 53);
     let source = Name::source(rt.alloc(), source).expect(rt, "a source");
-    let name = doc(rt, name);
     match what {
         What::Create(steps) => Command::create(name, source, number, delta_of(rt, steps)),
         What::Edit(base, steps) => Command::edit(name, source, number, base, delta_of(rt, steps)),
@@ -115,12 +124,15 @@ pub fn wide(
     what: What,
     wanted: Result<u64, Refusal>,
 ) {
-    let width = match planned(rt, state, "d", number, what) {
+    assert_eq!(rt; width_of(planned(rt, state, "d", number, what)), wanted);
+}
+
+fn width_of(planned: Result<Plan, Refusal>) -> Result<u64, Refusal> {
+    match planned {
         Ok(Plan::Taken(taken)) => Ok(taken.width()),
         Ok(Plan::Again { rev }) => Ok(rev),
         Err(refusal) => Err(refusal),
-    };
-    assert_eq!(rt; width, wanted);
+    }
 }
 
 /// A copy of a command is decided with this reply.
@@ -135,10 +147,15 @@ pub fn asked(rt: &(impl Abort + AllocGlobal), state: &mut State, row: &Row) {
 /// The state that commands in order make of one, where each is decided with its reply.
 pub fn after(rt: &(impl Abort + AllocGlobal), state: State, rows: &[Row]) -> State {
     let mut state = state;
-    for row in rows {
-        asked(rt, &mut state, row);
-    }
+    are_asked(rt, &mut state, rows);
     state
+}
+
+// Commands in order are each decided with their replies.
+fn are_asked(rt: &(impl Abort + AllocGlobal), state: &mut State, rows: &[Row]) {
+    for row in rows {
+        asked(rt, state, row);
+    }
 }
 
 /// The document `d` is what these steps make at a revision.
@@ -160,14 +177,21 @@ pub fn taken_as(rt: &(impl Abort + AllocGlobal), state: &State, revision: u64, s
     assert!(rt; !since.is_empty() && since[0] == delta_of(rt, steps));
 }
 
+fn line_of(rt: &(impl Abort + AllocGlobal), record: &DocState) -> String {
+    let name = record.name().as_str();
+    let (revision, floor) = (record.revision(), record.floor());
+    format!(in rt.alloc(); "{name} {revision} {floor}\n").expect(rt, "memory")
+}
+
+fn push_line(rt: &(impl Abort + AllocGlobal), lines: &mut String, line: &str) {
+    lines.push_str(line).expect(rt, "memory");
+}
+
 /// The documents of a state, each by its name, its revision and its floor.
 pub fn holds(rt: &(impl Abort + AllocGlobal), state: &State, wanted: &str) {
     let mut lines = String::new(rt.alloc());
     for record in state.documents() {
-        let name = record.name().as_str();
-        let line = format!(in rt.alloc(); "{name} {} {}\n", record.revision(), record.floor());
-        let line = line.expect(rt, "memory");
-        assert!(rt; lines.push_str(line.as_str()).is_ok());
+        push_line(rt, &mut lines, line_of(rt, record).as_str());
     }
     assert_eq!(rt; lines.as_str(), wanted);
 }

@@ -18,10 +18,18 @@ const D: &[Row] = &[("a", "d", 1, Z, Now(1))];
 
 const E: &[Row] = &[("a", "e", 1, Z, Now(1))];
 
+const FIRST: Row = ("a", "d", 1, Z, Now(1));
+
+const SECOND: Row = ("a", "d", 2, Y, Now(2));
+
+const THIRD: Row = ("a", "d", 3, Y, Now(3));
+
 const EDITED: &[Row] = &[("a", "d", 1, Z, Now(1)), ("a", "d", 2, Y, Now(2))];
 
 /// What a state has taken, what another one has taken, and a command that the other one takes then; the first one's lines.
-const STRANGERS: [(&[Row], &[Row], Row, &str); 6] = [
+type Strange = (&'static [Row], &'static [Row], Row, &'static str);
+
+const STRANGERS: [Strange; 6] = [
     // the second document comes before the first, and the first one after it
     (NONE, D, ("a", "e", 1, NOTHING, Now(1)), ""),
     (D, NONE, ("a", "e", 1, NOTHING, Now(1)), "d 1 0\n"),
@@ -36,17 +44,20 @@ const STRANGERS: [(&[Row], &[Row], Row, &str); 6] = [
 
 #[test]
 fn strangers_are_not_added(rt: HostRuntime) {
-    for (here, there, row, lines) in &STRANGERS {
-        let stranger = taken_by(&rt, there, row);
-        is_stranger(&rt, after(&rt, small(&rt), here), &stranger, lines);
+    for row in &STRANGERS {
+        is_not_added(&rt, row);
     }
+}
+
+fn is_not_added(rt: &(impl Abort + AllocGlobal), row: &Strange) {
+    let stranger = taken_by(rt, row.1, &row.2);
+    is_stranger(rt, after(rt, small(rt), row.0), &stranger, row.3);
 }
 
 // what is added for a command where these were taken before
 fn taken_by(rt: &(impl Abort + AllocGlobal), before: &[Row], row: &Row) -> Taken {
     let state = after(rt, small(rt), before);
-    let (_, name, number, what, _) = row;
-    taken(rt, &state, name, *number, *what)
+    taken(rt, &state, row.1, row.2, row.3)
 }
 
 // The creation that weighs 124 and is 45 bytes wide.
@@ -66,11 +77,11 @@ fn is_stranger(rt: &(impl Abort + AllocGlobal), state: State, taken: &Taken, lin
 
 // the creation of a document, and an edit of it, which is the next one, or comes after that
 fn pair(rt: &(impl Abort + AllocGlobal), is_next: bool) -> [Taken; 2] {
-    let first = taken_by(rt, NONE, &("a", "d", 1, Z, Now(1)));
+    let first = taken_by(rt, NONE, &FIRST);
     let second = if is_next {
-        taken_by(rt, D, &("a", "d", 2, Y, Now(2)))
+        taken_by(rt, D, &SECOND)
     } else {
-        taken_by(rt, EDITED, &("a", "d", 3, Y, Now(3)))
+        taken_by(rt, EDITED, &THIRD)
     };
     [first, second]
 }
@@ -78,11 +89,21 @@ fn pair(rt: &(impl Abort + AllocGlobal), is_next: bool) -> [Taken; 2] {
 #[test]
 fn a_batch_is_added_as_a_whole(rt: HostRuntime) {
     let mut state = small(&rt);
-    let added = state.absorb_all(rt.alloc(), &pair(&rt, false), &[]);
-    assert_eq!(rt; added, Err(Refusal::Stranger));
+    is_added(&rt, &mut state, false, Err(Refusal::Stranger));
     holds(&rt, &state, "");
-    assert_eq!(rt; state.absorb_all(rt.alloc(), &pair(&rt, true), &[]), Ok(()));
+    is_added(&rt, &mut state, true, Ok(()));
     holds(&rt, &state, "d 2 0\n");
+}
+
+// what comes of adding both
+fn is_added(
+    rt: &(impl Abort + AllocGlobal),
+    state: &mut State,
+    is_next: bool,
+    wanted: Result<(), Refusal>,
+) {
+    let pair = pair(rt, is_next);
+    assert_eq!(rt; state.absorb_all(rt.alloc(), &pair, &[]), wanted);
 }
 
 #[test]
@@ -118,7 +139,7 @@ fn unprepared(rt: &(impl Abort + AllocGlobal), state: State, batch: &[Taken]) ->
 /// What is known to continue the state is added without a look.
 #[test]
 fn what_continues_the_state_is_added(rt: HostRuntime) {
-    let edit = taken_by(&rt, D, &("a", "d", 2, Y, Now(2)));
+    let edit = taken_by(&rt, D, &SECOND);
     let state = added(&rt, after(&rt, small(&rt), D), &edit);
     holds(&rt, &state, "d 2 0\n");
     made(&rt, &state, 2, &[Step::Plain("yz")]);

@@ -1,6 +1,6 @@
 //! Creations under small limits.
 use crate::asking::Answer::{Again, Not, Now};
-use crate::asking::{Row, What, asked, command, empty, holds, made, small, wide};
+use crate::asking::{Row, What, after, command, empty, holds, made, small, wide};
 use crate::steps::Step;
 use refusal::Refusal;
 use std::process::Abort;
@@ -148,10 +148,7 @@ const ASKED: [Row; 17] = [
 
 #[test]
 fn how_creations_are_answered(rt: HostRuntime) {
-    let mut state = small(&rt);
-    for row in &ASKED {
-        asked(&rt, &mut state, row);
-    }
+    let state = after(&rt, small(&rt), &ASKED);
     holds(&rt, &state, "d 1 0\nD 1 0\n");
     made(&rt, &state, 1, &[Step::Plain("abcde")]);
 }

@@ -58,11 +58,15 @@ fn a_document_is_deleted_and_created_again(rt: HostRuntime) {
     holds(&rt, &state, "d 3 3\n");
     not_read(&rt, &state);
     let state = after(&rt, state, &CREATED_AGAIN);
-    holds(&rt, &state, "d 7 7\n");
-    made(&rt, &state, 7, &[Step::Plain("n")]);
-    let copy = state.copy(rt.alloc()).expect(&rt, "memory");
-    holds(&rt, &copy, "d 7 7\n");
-    made(&rt, &copy, 7, &[Step::Plain("n")]);
+    is_created_again(&rt, &state);
+    is_created_again(&rt, &state.copy(rt.alloc()).expect(&rt, "memory"));
+}
+
+const NEW: [Step; 1] = [Step::Plain("n")];
+
+fn is_created_again(rt: &(impl Abort + AllocGlobal), state: &State) {
+    holds(rt, state, "d 7 7\n");
+    made(rt, state, 7, &NEW);
 }
 
 // nothing of a deleted document is read, at any revision
@@ -97,23 +101,23 @@ fn deleted_documents_count_and_keep_their_sources(rt: HostRuntime) {
     holds(&rt, &state, "d 4 4\ne 1 0\n");
 }
 
+const CREATED: [Row; 1] = [("a", "d", 1, Z, Now(1))];
+
+const CREATED_EMPTY: [Row; 1] = [("a", "d", 1, What::Create(&[]), Now(1))];
+
+const LIGHTER: [Row; 2] = [
+    ("a", "d", 2, What::Edit(1, &[]), Not(Refusal::TooHeavy)),
+    ("a", "d", 2, What::Delete, Now(2)),
+];
+
 /// A creation weighs 76 and is 42 bytes wide, an edit's entry 28 and a deletion's 24.
 #[test]
 fn a_deletion_weighs_its_sources_alone(rt: HostRuntime) {
-    let first: [Row; 1] = [("a", "d", 1, Z, Now(1))];
-    let state = after(&rt, empty(&rt, 76, 237), &first);
+    let state = after(&rt, empty(&rt, 76, 237), &CREATED);
     wide(&rt, &state, 2, What::Delete, Ok(24));
-    let deleted: [Row; 2] = [
-        ("a", "d", 2, What::Edit(1, &[]), Not(Refusal::TooHeavy)),
-        ("a", "d", 2, What::Delete, Now(2)),
-    ];
-    let state = after(&rt, state, &deleted);
+    let state = after(&rt, state, &LIGHTER);
     wide(&rt, &state, 3, N, Err(Refusal::TooHeavy));
-    let state = after(
-        &rt,
-        empty(&rt, 64, 237),
-        &[("a", "d", 1, What::Create(&[]), Now(1))],
-    );
+    let state = after(&rt, empty(&rt, 64, 237), &CREATED_EMPTY);
     wide(&rt, &state, 2, What::Delete, Err(Refusal::TooHeavy));
 }
 
@@ -121,23 +125,27 @@ fn a_deletion_weighs_its_sources_alone(rt: HostRuntime) {
 fn widths_of_both(rt: HostRuntime) {
     let state = after(&rt, roomy(&rt, true), &DELETED);
     wide(&rt, &state, 4, N, Ok(38));
-    let plan = taken(&rt, &state, "d", 4, N);
-    assert!(rt; plan.width() == 38 && plan.name().is_none());
+    is_unnamed(&rt, &taken(&rt, &state, "d", 4, N));
 }
+
+fn is_unnamed(rt: &impl Abort, taken: &Taken) {
+    assert!(rt; taken.width() == 38 && taken.name().is_none());
+}
+
+const RISING: [Row; 7] = [
+    ("a", "d", 1, Z, Now(1)),
+    ("a", "d", 2, OF_1, Now(2)),
+    ("a", "d", 3, What::Delete, Now(3)),
+    ("a", "d", 4, N, Now(4)),
+    ("a", "d", 5, OF_4, Now(5)),
+    ("a", "d", 6, What::Undo, Now(6)),
+    ("a", "d", 7, What::Edit(5, &[Step::Plain("y")]), Now(7)),
+];
 
 /// A deletion and a creation again in the midst of edits, decided on a state that holds two revisions, so that floors rise.
 #[test]
 fn floors_rise_to_deletions(rt: HostRuntime) {
-    let rows: [Row; 7] = [
-        ("a", "d", 1, Z, Now(1)),
-        ("a", "d", 2, edit(1), Now(2)),
-        ("a", "d", 3, What::Delete, Now(3)),
-        ("a", "d", 4, N, Now(4)),
-        ("a", "d", 5, edit(4), Now(5)),
-        ("a", "d", 6, What::Undo, Now(6)),
-        ("a", "d", 7, edit(5), Now(7)),
-    ];
-    let state = after(&rt, roomy(&rt, false), &rows);
+    let state = after(&rt, roomy(&rt, false), &RISING);
     holds(&rt, &state, "d 7 5\n");
     made(&rt, &state, 7, &[Step::Plain("yn")]);
     made(&rt, &state, 5, &[Step::Plain("yn")]);
@@ -146,23 +154,20 @@ fn floors_rise_to_deletions(rt: HostRuntime) {
 /// Many deletions and creations, so that what lies below the floor is let go of each time.
 #[test]
 fn deleted_again_and_again(rt: HostRuntime) {
-    let mut state = after(&rt, roomy(&rt, true), &[("a", "d", 1, Z, Now(1))]);
+    let mut state = after(&rt, roomy(&rt, true), &CREATED);
     for turn in 1..40u64 {
         let revision = 3 * turn;
-        asked(
-            &rt,
-            &mut state,
-            &("a", "d", revision - 1, What::Delete, Now(revision - 1)),
-        );
-        asked(&rt, &mut state, &("a", "d", revision, N, Now(revision)));
-        asked(
-            &rt,
-            &mut state,
-            &("a", "d", revision + 1, edit(revision), Now(revision + 1)),
-        );
+        is_asked(&rt, &mut state, revision - 1, What::Delete);
+        is_asked(&rt, &mut state, revision, N);
+        is_asked(&rt, &mut state, revision + 1, edit(revision));
         made(&rt, &state, revision, &[Step::Plain("n")]);
         made(&rt, &state, revision + 1, &[Step::Plain("yn")]);
     }
+}
+
+// what makes the revision of its number
+fn is_asked(rt: &(impl Abort + AllocGlobal), state: &mut State, number: u64, what: What) {
+    asked(rt, state, &("a", "d", number, what, Now(number)));
 }
 
 /// Edits with a deletion and a creation again between them, as one batch.
@@ -175,20 +180,24 @@ const TURNED: [Row; 4] = [
 
 // what is taken of each of these, in order, on a document that was created
 fn batch(rt: &(impl Abort + AllocGlobal), rows: &[Row]) -> Vec<Taken> {
-    let mut state = after(rt, roomy(rt, true), &[("a", "d", 1, Z, Now(1))]);
+    let mut state = after(rt, roomy(rt, true), &CREATED);
     let mut batch = Vec::new(rt.alloc());
     for row in rows {
-        let (_, name, number, what, _) = row;
-        assert!(rt; batch.push(taken(rt, &state, name, *number, *what)).is_ok());
+        push_taken(rt, &mut batch, &state, row);
         asked(rt, &mut state, row);
     }
     batch
 }
 
+fn push_taken(rt: &(impl Abort + AllocGlobal), batch: &mut Vec<Taken>, state: &State, row: &Row) {
+    let taken = taken(rt, state, row.1, row.2, row.3);
+    batch.push(taken).expect(rt, "memory");
+}
+
 #[test]
 fn a_batch_with_a_deletion_between_edits(rt: HostRuntime) {
     let turned = batch(&rt, &TURNED);
-    let state = after(&rt, roomy(&rt, true), &[("a", "d", 1, Z, Now(1))]);
+    let state = after(&rt, roomy(&rt, true), &CREATED);
     let state = forgotten(&rt, state, turned.as_slice());
     holds(&rt, &state, "d 1 0\n");
     made(&rt, &state, 1, &[Step::Plain("z")]);
@@ -217,23 +226,39 @@ fn forgotten(rt: &(impl Abort + AllocGlobal), state: State, batch: &[Taken]) -> 
     }
 }
 
+const EDITED_SECOND: [Row; 2] = [("a", "d", 1, Z, Now(1)), ("a", "d", 2, OF_1, Now(2))];
+
+const DELETED_SECOND: [Row; 2] = [
+    ("a", "d", 1, Z, Now(1)),
+    ("a", "d", 2, What::Delete, Now(2)),
+];
+
 /// What is taken of one state, edited or deleted by its second command, doesn't suit the mark of the other.
 #[test]
 fn steps_suit_the_mark(rt: HostRuntime) {
-    let edited: [Row; 2] = [("a", "d", 1, Z, Now(1)), ("a", "d", 2, edit(1), Now(2))];
-    let deleted: [Row; 2] = [
-        ("a", "d", 1, Z, Now(1)),
-        ("a", "d", 2, What::Delete, Now(2)),
-    ];
-    strange(&rt, &edited, edit(2), &deleted);
-    strange(&rt, &edited, What::Delete, &deleted);
-    strange(&rt, &deleted, N, &edited);
+    strange(&rt, &EDITED_SECOND, OF_2, &DELETED_SECOND);
+    strange(&rt, &EDITED_SECOND, What::Delete, &DELETED_SECOND);
+    strange(&rt, &DELETED_SECOND, N, &EDITED_SECOND);
 }
 
 fn strange(rt: &(impl Abort + AllocGlobal), here: &[Row], what: What, there: &[Row]) {
+    let third = third_of(rt, here, what);
+    is_absorbed(rt, there, &third, Err(Refusal::Stranger));
+    is_absorbed(rt, here, &third, Ok(()));
+}
+
+// what is taken of the third command behind others
+fn third_of(rt: &(impl Abort + AllocGlobal), here: &[Row], what: What) -> Taken {
+    taken(rt, &after(rt, roomy(rt, true), here), "d", 3, what)
+}
+
+// what is added behind others, or isn't
+fn is_absorbed(
+    rt: &(impl Abort + AllocGlobal),
+    here: &[Row],
+    taken: &Taken,
+    wanted: Result<(), Refusal>,
+) {
     let mut state = after(rt, roomy(rt, true), here);
-    let third = taken(rt, &state, "d", 3, what);
-    let mut other = after(rt, roomy(rt, true), there);
-    assert_eq!(rt; other.absorb(rt.alloc(), &third), Err(Refusal::Stranger));
-    assert_eq!(rt; state.absorb(rt.alloc(), &third), Ok(()));
+    assert_eq!(rt; state.absorb(rt.alloc(), taken), wanted);
 }

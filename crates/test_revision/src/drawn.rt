@@ -3,7 +3,7 @@ use attributes::{Attrs, Change};
 use delta::{Builder, Delta, Op, OpRef};
 use document::Document;
 use refusal::Refusal;
-use revision::{Command, Name, Reply, State};
+use revision::{Command, DocState, Name, Reply, State};
 use std::process::Abort;
 use test_plain_rule::{Action, Draws, Limits, Mark, REFUSALS, Rule};
 
@@ -28,10 +28,14 @@ fn op_of(rt: &(impl Abort + AllocGlobal), mark: Mark) -> Op {
     }
 }
 
+fn push(rt: &impl Abort, builder: &mut Builder, op: Op) {
+    assert!(rt; builder.push(op).is_ok());
+}
+
 fn delta_of(rt: &(impl Abort + AllocGlobal), marks: &[Mark]) -> Delta {
     let mut builder = Builder::new(rt.alloc());
     for mark in marks {
-        assert!(rt; builder.push(op_of(rt, *mark)).is_ok());
+        push(rt, &mut builder, op_of(rt, *mark));
     }
     builder.finish()
 }
@@ -73,37 +77,60 @@ fn has_letters(rt: &(impl Abort + AllocGlobal), document: &Document, wanted: &[u
     let content = document.as_delta(rt.alloc()).expect(rt, "memory");
     let mut letters = Vec::new(rt.alloc());
     for op in content.ops() {
-        if let OpRef::Text(text, _) = op.get() {
-            assert!(rt; letters.extend_from_slice(text.as_bytes()).is_ok());
-        }
+        push_letters(rt, &mut letters, op);
     }
     assert!(rt; letters.as_slice() == wanted);
+}
+
+fn push_letters(rt: &impl Abort, letters: &mut Vec<u8>, op: &Op) {
+    if let OpRef::Text(text, _) = op.get() {
+        assert!(rt; letters.extend_from_slice(text.as_bytes()).is_ok());
+    }
 }
 
 // A revision of a document reads the same, or is refused alike.
 fn is_read(rt: &(impl Abort + AllocGlobal), state: &State, rule: &Rule, doc: &str, revision: u64) {
     let name = Name::doc(rt.alloc(), doc).expect(rt, "a name");
-    match (
-        state.at(rt.alloc(), &name, revision),
-        rule.read(doc, revision),
-    ) {
-        (Ok(document), Ok(letters)) => has_letters(rt, &document, letters),
-        (Err(found), Err(wanted)) => assert_eq!(rt; found, wanted),
-        _ => panic!(rt; "{doc} at {revision}"),
+    match rule.read(doc, revision) {
+        Ok(letters) => is_held(rt, state, &name, revision, letters),
+        Err(wanted) => {
+            let found = refusal_at(rt, state, &name, revision);
+            assert_eq!(rt; found, Some(wanted), "{doc} at {revision}");
+        }
     }
+}
+
+fn is_held(
+    rt: &(impl Abort + AllocGlobal),
+    state: &State,
+    name: &Name,
+    revision: u64,
+    letters: &[u8],
+) {
+    match state.at(rt.alloc(), name, revision) {
+        Ok(document) => has_letters(rt, &document, letters),
+        Err(refusal) => panic!(rt; "{refusal} at {revision}"),
+    }
+}
+
+fn refusal_at(rt: &impl AllocGlobal, state: &State, name: &Name, revision: u64) -> Option<Refusal> {
+    state.at(rt.alloc(), name, revision).err()
 }
 
 // A state has the documents of the plain program, with their revisions and floors.
 fn has_documents(rt: &(impl Abort + AllocGlobal), state: &State, rule: &Rule) {
     assert_eq!(rt; state.documents().len(), rule.count());
     for (place, found) in state.documents().iter().enumerate() {
-        let name = rule.name(place);
-        assert_eq!(rt; found.name().as_str(), name);
-        assert_eq!(rt;
-            (found.revision(), found.floor()),
-            (rule.revision(name), rule.floor(name))
-        );
+        is_document(rt, found, rule, rule.name(place));
     }
+}
+
+fn is_document(rt: &impl Abort, found: &DocState, rule: &Rule, name: &str) {
+    assert_eq!(rt; found.name().as_str(), name);
+    assert_eq!(rt;
+        (found.revision(), found.floor()),
+        (rule.revision(name), rule.floor(name))
+    );
 }
 
 // The next drawn command is answered alike. What comes is its refusal, where it is refused.

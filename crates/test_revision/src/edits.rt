@@ -3,6 +3,7 @@ use crate::asking::Answer::{Again, Not, Now};
 use crate::asking::{Row, What, after, asked, holds, made, roomy, small, taken_as};
 use crate::steps::Step;
 use refusal::Refusal;
+use revision::State;
 use std::process::Abort;
 
 const Z: What = What::Create(&[Step::Plain("z")]);
@@ -152,12 +153,15 @@ const OF_18: [Row; 4] = [
     ("a", "d", 18, Y, Again(18)),
 ];
 
+fn is_next(rt: &(impl Abort + AllocGlobal), state: &mut State, number: u64) {
+    asked(rt, state, &("a", "d", number, Y, Now(number)));
+}
+
 #[test]
 fn a_window_has_16_numbers(rt: HostRuntime) {
     let mut state = after(&rt, roomy(&rt, true), &[("a", "d", 1, Z, Now(1))]);
     for number in 2..18u64 {
-        let row = ("a", "d", number, Y, Now(number));
-        asked(&rt, &mut state, &row);
+        is_next(&rt, &mut state, number);
     }
     let state = after(&rt, state, &OF_17);
     after(&rt, state, &OF_18);
@@ -191,13 +195,20 @@ const TEXTS: [(u64, &[Step]); 7] = [
     (6, &[Step::Plain("a")]),
 ];
 
+/// And the delta behind some of them.
+const BACK: [(u64, &[Step]); 3] = [
+    (3, &[Step::Keep(2), Step::Plain("b")]),
+    (4, &[Step::Keep(2), Step::Drop(1)]),
+    (5, &[Step::Drop(1)]),
+];
+
 #[test]
 fn an_undo_takes_the_last_change_of_its_source_back(rt: HostRuntime) {
     let state = after(&rt, roomy(&rt, true), &UNDONE);
-    for (revision, steps) in &TEXTS {
-        made(&rt, &state, *revision, steps);
+    for row in &TEXTS {
+        made(&rt, &state, row.0, row.1);
     }
-    taken_as(&rt, &state, 3, &[Step::Keep(2), Step::Plain("b")]);
-    taken_as(&rt, &state, 4, &[Step::Keep(2), Step::Drop(1)]);
-    taken_as(&rt, &state, 5, &[Step::Drop(1)]);
+    for row in &BACK {
+        taken_as(&rt, &state, row.0, row.1);
+    }
 }

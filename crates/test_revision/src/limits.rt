@@ -3,6 +3,7 @@ use crate::asking::Answer::{Not, Now};
 use crate::asking::{Row, What, after, holds, roomy, small, wide};
 use crate::steps::Step;
 use refusal::Refusal;
+use std::process::Abort;
 
 const Z: What = What::Create(&[Step::Plain("z")]);
 
@@ -30,10 +31,12 @@ const FULL: [Row; 2] = [
 
 #[test]
 fn an_edit_keeps_the_weight(rt: HostRuntime) {
-    let state = after(&rt, small(&rt), &HEAVY);
-    holds(&rt, &state, "d 2 0\n");
-    let state = after(&rt, small(&rt), &FULL);
-    holds(&rt, &state, "d 1 0\n");
+    come_to(&rt, &HEAVY, "d 2 0\n");
+    come_to(&rt, &FULL, "d 1 0\n");
+}
+
+fn come_to(rt: &(impl Abort + AllocGlobal), rows: &[Row], lines: &str) {
+    holds(rt, &after(rt, small(rt), rows), lines);
 }
 
 /// Removals of names of ten bytes, and of one more; and how wide the edit's entry is.

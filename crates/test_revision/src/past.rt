@@ -2,8 +2,9 @@
 use crate::asking::Answer::{Not, Now};
 use crate::asking::{Row, What, after, asked, doc, holds, is_made, made, roomy, taken_as};
 use crate::steps::{Step, inserted};
+use document::Document;
 use refusal::Refusal;
-use revision::State;
+use revision::{Name, State};
 use std::process::Abort;
 
 const Z: What = What::Create(&[Step::Plain("z")]);
@@ -90,13 +91,24 @@ fn read(
     wanted: Result<usize, Refusal>,
 ) {
     let name = doc(rt, name);
-    let count = match state.since(&name, revision) {
+    assert_eq!(rt;
+        count_since(state, &name, revision),
+        wanted,
+        "since {revision}"
+    );
+    let refused = refusal_at(rt, state, &name, revision);
+    assert_eq!(rt; refused, wanted.err(), "at {revision}");
+}
+
+fn count_since(state: &State, name: &Name, revision: u64) -> Result<usize, Refusal> {
+    match state.since(name, revision) {
         Ok(deltas) => Ok(deltas.len()),
         Err(refusal) => Err(refusal),
-    };
-    assert_eq!(rt; count, wanted, "since {revision}");
-    let refused = state.at(rt.alloc(), &name, revision).err();
-    assert_eq!(rt; refused, wanted.err(), "at {revision}");
+    }
+}
+
+fn refusal_at(rt: &impl AllocGlobal, state: &State, name: &Name, revision: u64) -> Option<Refusal> {
+    state.at(rt.alloc(), name, revision).err()
 }
 
 const A: &[Step] = &[Step::Plain("a")];
@@ -108,13 +120,16 @@ const B: &[Step] = &[Step::Plain("b")];
 fn a_long_past(rt: HostRuntime) {
     let mut state = after(&rt, roomy(&rt, true), &[("a", "d", 1, Z, Now(1))]);
     for base in 1..1101u64 {
-        let steps = if base % 2 == 1 { A } else { B };
-        in_front(&rt, &mut state, base, steps);
+        in_front(&rt, &mut state, base, letter(base));
     }
     holds(&rt, &state, "d 1101 1085\n");
     reads(&rt, &state, 1101, 550);
     reads(&rt, &state, 1085, 542);
     read(&rt, &state, "d", 1084, Err(Refusal::TooOld));
+}
+
+fn letter(base: u64) -> &'static [Step] {
+    if base % 2 == 1 { A } else { B }
 }
 
 // the source's edit of this number, which was made on the revision of the same number
@@ -129,12 +144,13 @@ fn in_front(rt: &(impl Abort + AllocGlobal), state: &mut State, base: u64, steps
 
 // the document at a revision has so many pairs of letters in front
 fn reads(rt: &(impl Abort + AllocGlobal), state: &State, revision: u64, pairs: u64) {
-    let wanted = long(rt, pairs);
-    let document = state
-        .at(rt.alloc(), &doc(rt, "d"), revision)
-        .expect(rt, "held");
+    let document = state.at(rt.alloc(), &doc(rt, "d"), revision);
+    is_text(rt, &document.expect(rt, "held"), long(rt, pairs).as_str());
+}
+
+fn is_text(rt: &(impl Abort + AllocGlobal), document: &Document, wanted: &str) {
     let content = document.as_delta(rt.alloc()).expect(rt, "memory");
-    assert!(rt; content == inserted(rt, wanted.as_str()));
+    assert!(rt; content == inserted(rt, wanted));
 }
 
 fn long(rt: &(impl Abort + AllocGlobal), pairs: u64) -> String {

@@ -119,11 +119,15 @@ fn op_of(rt: &(impl Abort + AllocGlobal), step: Step) -> Op {
     }
 }
 
+fn push(rt: &impl Abort, builder: &mut Builder, op: Op) {
+    assert!(rt; builder.push(op).is_ok());
+}
+
 /// The delta of these steps.
 pub fn delta_of(rt: &(impl Abort + AllocGlobal), steps: &[Step]) -> Delta {
     let mut builder = Builder::new(rt.alloc());
     for step in steps {
-        assert!(rt; builder.push(op_of(rt, *step)).is_ok());
+        push(rt, &mut builder, op_of(rt, *step));
     }
     builder.finish()
 }
@@ -131,10 +135,6 @@ pub fn delta_of(rt: &(impl Abort + AllocGlobal), steps: &[Step]) -> Delta {
 /// The delta that inserts a text.
 pub fn inserted(rt: &(impl Abort + AllocGlobal), plain: &str) -> Delta {
     let mut builder = Builder::new(rt.alloc());
-    assert!(rt;
-        builder
-            .push(text(rt, plain, Attrs::new(rt.alloc())))
-            .is_ok()
-    );
+    push(rt, &mut builder, text(rt, plain, Attrs::new(rt.alloc())));
     builder.finish()
 }

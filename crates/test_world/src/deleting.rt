@@ -2,7 +2,7 @@
 use crate::steps::Step::{
     Ack, Compose, Crash, Device, Open, Publish, Resend, Settle, Submit, Take,
 };
-use crate::steps::{Row, Said, Seen, TAKEN, WRITTEN, go_on, inserted};
+use crate::steps::{Row, Said, Seen, TAKEN, WRITTEN, go_on_by_all, inserted};
 use refusal::Refusal;
 use revision::{Command, Limits, Name, Reply};
 use std::process::Abort;
@@ -174,9 +174,7 @@ fn each_step_of_deletions_makes_what_is_seen(rt: HostRuntime) {
     for parts in &SCHEDULES {
         let mut world = World::new(rt.alloc(), Limits::new(2, 4, 1000, 237, 16));
         for rows in *parts {
-            for row in *rows {
-                go_on(&rt, &mut world, &commands, row);
-            }
+            go_on_by_all(&rt, &mut world, &commands, rows);
         }
     }
 }

@@ -203,7 +203,8 @@ fn command(rt: &(impl Abort + AllocGlobal), number: u64) -> Command {
 // The command of a number.
 fn numbered<'a>(rt: &impl Abort, commands: &'a [Command], number: usize) -> &'a Command {
     let place = number.saturating_sub(1);
-    commands.get(place).expect(rt, "a command")
+    assert!(rt; place < commands.len());
+    &commands[place]
 }
 
 fn follow(rt: &(impl Abort + AllocGlobal), world: &mut World, commands: &[Command], step: &Step) {
@@ -286,6 +287,17 @@ pub(crate) fn go_on(
     assert!(rt; is_seen(rt, world, commands, &row.1));
 }
 
+pub(crate) fn go_on_by_all(
+    rt: &(impl Abort + AllocGlobal),
+    world: &mut World,
+    commands: &[Command],
+    rows: &[Row],
+) {
+    for row in rows {
+        go_on(rt, world, commands, row);
+    }
+}
+
 // In a store each document holds two revisions below its newest one.
 #[test]
 fn each_step_makes_what_is_seen(rt: HostRuntime) {
@@ -297,8 +309,6 @@ fn each_step_makes_what_is_seen(rt: HostRuntime) {
     ];
     for rows in &SCHEDULES {
         let mut world = World::new(rt.alloc(), Limits::new(2, 4, 1000, 237, 2));
-        for row in *rows {
-            go_on(&rt, &mut world, &commands, row);
-        }
+        go_on_by_all(&rt, &mut world, &commands, rows);
     }
 }

@@ -4,7 +4,6 @@ use attributes::{Attrs, Change, Key, Value};
 use compose::compose;
 use delta::{Builder, Delta, MAX_LEN, Op};
 use refusal::Refusal;
-use std::alloc::Global;
 use std::process::Abort;
 use xform::{move_past, move_past_all, transform};
 
@@ -14,38 +13,55 @@ type Edit = (u64, bool, &'static str, u64);
 /// Two deltas, and what comes of them.
 type Row = (Edit, Edit, &'static str);
 
-fn bold(alloc: Global) -> Result<Change, Refusal> {
-    let mut change = Change::new(alloc);
-    change.set(Key::new(alloc, "bold")?, Some(Value::flag(true)))?;
-    Ok(change)
+fn bold(rt: &(impl Abort + AllocGlobal)) -> Change {
+    let mut change = Change::new(rt.alloc());
+    let key = Key::new(rt.alloc(), "bold").expect(rt, "a name");
+    assert!(rt; change.set(key, Some(Value::flag(true))).is_ok());
+    change
 }
 
-fn kept(alloc: Global, edit: &Edit) -> Result<Op, Refusal> {
-    let change = if edit.1 {
-        bold(alloc)?
+fn kept(rt: &(impl Abort + AllocGlobal), len: u64, is_bold: bool) -> Op {
+    let change = if is_bold {
+        bold(rt)
     } else {
-        Change::new(alloc)
+        Change::new(rt.alloc())
     };
-    Ok(Op::retain(edit.0, change))
+    Op::retain(len, change)
 }
 
-fn text(alloc: Global, text: &str) -> Result<Op, Refusal> {
-    Ok(Op::text(String::from_str(alloc, text)?, Attrs::new(alloc)))
+fn text(rt: &(impl Abort + AllocGlobal), text: &str) -> Op {
+    let text = String::from_str(rt.alloc(), text).expect(rt, "memory");
+    Op::text(text, Attrs::new(rt.alloc()))
 }
 
-fn delta_of(alloc: Global, edit: &Edit) -> Result<Delta, Refusal> {
-    let mut builder = Builder::new(alloc);
-    builder.push(kept(alloc, edit)?)?;
-    builder.push(text(alloc, edit.2)?)?;
-    builder.push(Op::delete(edit.3))?;
-    Ok(builder.finish())
+// an operation is taken
+fn takes(rt: &impl Abort, builder: &mut Builder, op: Op) {
+    assert!(rt; builder.push(op).is_ok());
 }
 
-// the text of a delta, or the refusal as it is told
-fn told(alloc: Global, outcome: Result<Delta, Refusal>) -> Result<String, Refusal> {
+fn delta_of(rt: &(impl Abort + AllocGlobal), edit: &Edit) -> Delta {
+    let mut builder = Builder::new(rt.alloc());
+    takes(rt, &mut builder, kept(rt, edit.0, edit.1));
+    takes(rt, &mut builder, text(rt, edit.2));
+    takes(rt, &mut builder, Op::delete(edit.3));
+    builder.finish()
+}
+
+fn is_written(rt: &(impl Abort + AllocGlobal), delta: &Delta, wanted: &str) {
+    let text = write_delta(rt.alloc(), delta).expect(rt, "memory");
+    assert_eq!(rt; text.as_str(), wanted);
+}
+
+fn is_refused(rt: &(impl Abort + AllocGlobal), refusal: Refusal, wanted: &str) {
+    let text = refusal.to_string(rt.alloc()).expect(rt, "memory");
+    assert_eq!(rt; text.as_str(), wanted);
+}
+
+// the text of a delta, or the refusal, is told as this
+fn is_told(rt: &(impl Abort + AllocGlobal), outcome: Result<Delta, Refusal>, wanted: &str) {
     match outcome {
-        Ok(delta) => Ok(write_delta(alloc, &delta)?),
-        Err(refusal) => Ok(refusal.to_string(alloc)?),
+        Ok(delta) => is_written(rt, &delta, wanted),
+        Err(refusal) => is_refused(rt, refusal, wanted),
     }
 }
 
@@ -99,33 +115,47 @@ const COMPOSED: [Row; 3] = [
     ),
 ];
 
-// from a borrowed delta, from one that is given away, and past a list of one
-fn transforms(rt: &impl Abort, alloc: Global, row: &Row) {
-    let first = delta_of(alloc, &row.0).expect(rt, "first");
-    let second = delta_of(alloc, &row.1).expect(rt, "second");
-    let after = transform(alloc, &first, &second, true);
-    assert_eq!(rt; told(alloc, after).expect(rt, "told").as_str(), row.2);
-    let copy = second.copy(alloc).expect(rt, "copy");
-    let moved = move_past(alloc, &first, second);
-    assert_eq!(rt; told(alloc, moved).expect(rt, "told").as_str(), row.2);
-    let past = move_past_all(alloc, &[first], copy);
-    assert_eq!(rt; told(alloc, past).expect(rt, "told").as_str(), row.2);
+// No clause is kept of what comes of it, so the caller is checked faster.
+fn transformed(rt: &impl AllocGlobal, first: &Delta, second: &Delta) -> Result<Delta, Refusal> {
+    transform(rt.alloc(), first, second, true)
 }
 
-fn composes(rt: &impl Abort, alloc: Global, row: &Row) {
-    let first = delta_of(alloc, &row.0).expect(rt, "first");
-    let second = delta_of(alloc, &row.1).expect(rt, "second");
-    let one = compose(alloc, &first, &second);
-    assert_eq!(rt; told(alloc, one).expect(rt, "told").as_str(), row.2);
+// from a borrowed delta
+fn transforms(rt: &(impl Abort + AllocGlobal), row: &Row) {
+    let first = delta_of(rt, &row.0);
+    let second = delta_of(rt, &row.1);
+    is_told(rt, transformed(rt, &first, &second), row.2);
+}
+
+// from one that is given away
+fn moves(rt: &(impl Abort + AllocGlobal), row: &Row) {
+    let first = delta_of(rt, &row.0);
+    let moved = move_past(rt.alloc(), &first, delta_of(rt, &row.1));
+    is_told(rt, moved, row.2);
+}
+
+// and past a list of one
+fn moves_past_all(rt: &(impl Abort + AllocGlobal), row: &Row) {
+    let first = delta_of(rt, &row.0);
+    let copy = delta_of(rt, &row.1).copy(rt.alloc()).expect(rt, "copy");
+    is_told(rt, move_past_all(rt.alloc(), &[first], copy), row.2);
+}
+
+fn composes(rt: &(impl Abort + AllocGlobal), row: &Row) {
+    let first = delta_of(rt, &row.0);
+    let second = delta_of(rt, &row.1);
+    is_told(rt, compose(rt.alloc(), &first, &second), row.2);
 }
 
 #[test]
 fn results_keep_the_bound(rt: HostRuntime) {
     for row in &TRANSFORMED {
-        transforms(&rt, rt.alloc(), row);
+        transforms(&rt, row);
+        moves(&rt, row);
+        moves_past_all(&rt, row);
     }
     for row in &COMPOSED {
-        composes(&rt, rt.alloc(), row);
+        composes(&rt, row);
     }
 }
 
@@ -137,43 +167,31 @@ fn refuses(rt: &impl Abort, builder: &mut Builder, op: Op) {
 #[test]
 fn a_full_builder_refuses(rt: HostRuntime) {
     let mut builder = Builder::new(rt.alloc());
-    builder.push(Op::delete(MAX_LEN)).expect(&rt, "2^48");
+    takes(&rt, &mut builder, Op::delete(MAX_LEN));
     refuses(&rt, &mut builder, Op::delete(1));
     refuses(&rt, &mut builder, Op::delete(u64::MAX));
-    refuses(&rt, &mut builder, Op::retain(1, Change::new(rt.alloc())));
-    builder
-        .push(text(rt.alloc(), "a").expect(&rt, "a"))
-        .expect(&rt, "no base");
+    refuses(&rt, &mut builder, kept(&rt, 1, false));
+    takes(&rt, &mut builder, text(&rt, "a"));
     let delta = builder.finish();
     assert_eq!(rt; (delta.base_len(), delta.out_len()), (MAX_LEN, 1));
-    assert_eq!(rt;
-        told(rt.alloc(), Ok(delta)).expect(&rt, "told").as_str(),
-        "{\"ops\":[{\"insert\":\"a\"},{\"delete\":281474976710656}]}"
-    );
+    let wanted = "{\"ops\":[{\"insert\":\"a\"},{\"delete\":281474976710656}]}";
+    is_told(&rt, Ok(delta), wanted);
+}
+
+fn image(rt: &(impl Abort + AllocGlobal)) -> Op {
+    let attrs = Attrs::new(rt.alloc());
+    Op::embed(rt.alloc(), "image", Value::flag(true), attrs).expect(rt, "image")
 }
 
 #[test]
 fn a_builder_full_on_both_sides_refuses(rt: HostRuntime) {
     let mut builder = Builder::new(rt.alloc());
-    builder
-        .push(Op::retain(MAX_LEN, Change::new(rt.alloc())))
-        .expect(&rt, "2^48");
-    refuses(&rt, &mut builder, Op::retain(1, Change::new(rt.alloc())));
-    refuses(
-        &rt,
-        &mut builder,
-        Op::retain(u64::MAX, Change::new(rt.alloc())),
-    );
-    refuses(&rt, &mut builder, text(rt.alloc(), "a").expect(&rt, "a"));
+    takes(&rt, &mut builder, kept(&rt, MAX_LEN, false));
+    refuses(&rt, &mut builder, kept(&rt, 1, false));
+    refuses(&rt, &mut builder, kept(&rt, u64::MAX, false));
+    refuses(&rt, &mut builder, text(&rt, "a"));
     refuses(&rt, &mut builder, Op::delete(1));
-    let embed = Op::embed(
-        rt.alloc(),
-        "image",
-        Value::flag(true),
-        Attrs::new(rt.alloc()),
-    );
-    refuses(&rt, &mut builder, embed.expect(&rt, "image"));
-    let nothing = kept(rt.alloc(), &(0, true, "", 0)).expect(&rt, "bold");
-    builder.push(nothing).expect(&rt, "no unit");
+    refuses(&rt, &mut builder, image(&rt));
+    takes(&rt, &mut builder, kept(&rt, 0, true));
     assert_eq!(rt; builder.finish().ops().len(), 0);
 }

@@ -2,19 +2,23 @@
 use algebra::Task;
 use attributes::Attrs;
 use delta::{Builder, Op, OpRef};
-use refusal::Refusal;
-use std::alloc::Global;
 use std::process::Abort;
 
+// puts a text behind another one
+fn push_text(rt: &impl Abort, text: &mut String, more: &str) {
+    assert!(rt; text.push_str(more).is_ok());
+}
+
 // a word of so many operations of one text
-fn repeated(alloc: Global, ops: &str, count: usize) -> Result<String, Refusal> {
-    let mut text = String::from_str(alloc, "{\"ops\":[")?;
+fn repeated(rt: &(impl Abort + AllocGlobal), ops: &str, count: usize) -> String {
+    let mut text = String::new(rt.alloc());
+    push_text(rt, &mut text, "{\"ops\":[");
     for i in 0..count {
-        text.push_str(if i == 0 { "" } else { "," })?;
-        text.push_str(ops)?;
+        push_text(rt, &mut text, if i == 0 { "" } else { "," });
+        push_text(rt, &mut text, ops);
     }
-    text.push_str("]}")?;
-    Ok(text)
+    push_text(rt, &mut text, "]}");
+    text
 }
 
 /// Two words, each a text of operations that stands in it so many times.
@@ -74,21 +78,24 @@ fn task<'a>(call: &str, first: &'a str, second: &'a str) -> Task<'a> {
 }
 
 // what a call comes to, or the refusal as it is told
-fn told(alloc: Global, call: &str, words: &Words) -> Result<String, Refusal> {
-    let first = repeated(alloc, words.0, words.1)?;
-    let second = repeated(alloc, words.2, words.3)?;
-    match task(call, first.as_str(), second.as_str()).answer(alloc) {
-        Ok(text) => Ok(text),
-        Err(refusal) => Ok(refusal.to_string(alloc)?),
+fn told(rt: &(impl Abort + AllocGlobal), call: &str, first: &str, second: &str) -> String {
+    match task(call, first, second).answer(rt.alloc()) {
+        Ok(text) => text,
+        Err(refusal) => refusal.to_string(rt.alloc()).expect(rt, "memory"),
     }
+}
+
+fn is_told(rt: &(impl Abort + AllocGlobal), call: &str, words: &Words, wanted: &str) {
+    let first = repeated(rt, words.0, words.1);
+    let second = repeated(rt, words.2, words.3);
+    let found = told(rt, call, first.as_str(), second.as_str());
+    assert_eq!(rt; found.as_str(), wanted, "{call}");
 }
 
 #[test]
 fn a_thousand_operations_stay_apart(rt: HostRuntime) {
     for (call, words, made) in &UNMERGED {
-        let found = told(rt.alloc(), call, words).expect(&rt, "told");
-        let wanted = repeated(rt.alloc(), made, 512).expect(&rt, "wanted");
-        assert_eq!(rt; found.as_str(), wanted.as_str(), "{call}");
+        is_told(&rt, call, words, repeated(&rt, made, 512).as_str());
     }
 }
 
@@ -108,26 +115,28 @@ const COUNTED: [(Words, &str); 4] = [
 #[test]
 fn at_most_1024_operations_are_read(rt: HostRuntime) {
     for (words, wanted) in &COUNTED {
-        let found = told(rt.alloc(), "compose", words).expect(&rt, "told");
-        assert_eq!(rt; found.as_str(), *wanted);
+        is_told(&rt, "compose", words, wanted);
     }
 }
 
 // ten bytes and seven code units
 const PIECE: &str = "ab😀cdé";
 
-fn push_piece(alloc: Global, builder: &mut Builder) -> Result<(), Refusal> {
-    let text = String::from_str(alloc, PIECE)?;
-    builder.push(Op::text(text, Attrs::new(alloc)))?;
-    Ok(())
+fn insert_of(rt: &(impl Abort + AllocGlobal), text: &str) -> Op {
+    let text = String::from_str(rt.alloc(), text).expect(rt, "memory");
+    Op::text(text, Attrs::new(rt.alloc()))
+}
+
+fn push(rt: &impl Abort, builder: &mut Builder, op: Op) {
+    assert!(rt; builder.push(op).is_ok());
 }
 
 #[test]
 fn a_text_is_merged_of_many_pieces(rt: HostRuntime) {
     let mut builder = Builder::new(rt.alloc());
-    builder.push(Op::delete(1)).expect(&rt, "delete");
+    push(&rt, &mut builder, Op::delete(1));
     for _ in 0..7_000 {
-        push_piece(rt.alloc(), &mut builder).expect(&rt, "piece");
+        push(&rt, &mut builder, insert_of(&rt, PIECE));
     }
     let delta = builder.finish();
     assert_eq!(rt; (delta.ops().len(), delta.out_len()), (2, 49_000));
