@@ -288,7 +288,7 @@ export class Browser {
     const lease = store.leases.lend(message.doc, this.#holder);
     if (lease instanceof Promise) return this.#find(slot, lease, (found) => found === undefined && (slot.reply ??= REFUSAL.TooManySources));
     if (lease === undefined) slot.reply = REFUSAL.TooManySources;
-    else if (kind === "lease") slot.reply = leaseLine(message.doc, lease);
+    else if (kind === "lease") slot.reply = leaseLine(message.doc, Object.assign(lease, { isTold: true }));
     else if (message.do === "undo" && lease.epoch > 1 && !lease.isOwn) {
       if (this.#slots.some((it) => it !== slot && isWaiting(it) && it.message.doc === message.doc)) return false; // it may become one's own
       slot.reply = REFUSAL.NothingToUndo; // what there is was another's
