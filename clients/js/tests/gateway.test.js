@@ -3,7 +3,7 @@
 import assert from "node:assert/strict";
 import { once } from "node:events";
 import test from "node:test";
-import { connect as connectPlain } from "../richd.js";
+import { Client, connect as connectPlain } from "../richd.js";
 import { connect } from "../offline.js";
 import { Browser } from "./browser.js";
 import { served, until } from "./fake.js";
@@ -348,6 +348,27 @@ test("a gateway that ends, or whose store was cut, or whose user has other right
   await until(() => sessions() === 4);
   await heard(client, "connected");
   assert.deepEqual([client.state, document.isClosed], ["connected", false]);
+});
+
+test("a function that gives the url is asked each time, and what it fails by ends nothing", async (t) => {
+  const asked = [];
+  class Refusing {
+    constructor(url) {
+      asked.push(url);
+      queueMicrotask(() => this.onclose({ code: 1006 }));
+    }
+  }
+  const urls = ["ws://a/?token=1", new TypeError("no network"), Promise.reject(new RangeError("none")), Promise.resolve("ws://a/?token=2")];
+  urls[2].catch(() => {});
+  const url = () => {
+    const next = urls.shift() ?? "ws://a/?token=3";
+    if (next instanceof Error) throw next;
+    return next;
+  };
+  const client = new Client({ url, WebSocket: Refusing, source: "ann" });
+  t.after(() => client.close());
+  await until(() => asked.length === 3);
+  assert.deepEqual([asked, client.state], [["ws://a/?token=1", "ws://a/?token=2", "ws://a/?token=3"], "offline"]);
 });
 
 test("a gateway that is full is tried again, and the state says so", needsWebSockets, async (t) => {
