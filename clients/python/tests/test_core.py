@@ -102,18 +102,14 @@ class Requests(CoreTest):
         self.assertEqual(answer.only, Contents(1, [{"insert": "é"}]))
 
     def test_a_long_line_isnt_copied_for_each_piece_of_it(self):
-        def seconds(size):
-            answer = Answer()
-            self.core.fetch("d", None, answer)
-            self.core.to_send()
-            line = json.dumps({"doc": "d", "ok": "doc", "ops": [{"insert": "x" * size}], "rev": 1}).encode() + b"\n"
-            began = time.perf_counter()
-            for at in range(0, len(line), 1_000):
-                self.core.received(line[at : at + 1_000])
-            self.assertEqual(answer.only.rev, 1)
-            return time.perf_counter() - began
-
-        self.assertLess(min(seconds(8_000_000) for _ in range(3)), 40 * min(seconds(500_000) for _ in range(3)))
+        answer = Answer()
+        self.core.fetch("d", None, answer)
+        line = json.dumps({"doc": "d", "ok": "doc", "ops": [{"insert": "x" * 20_000_000}], "rev": 1}).encode() + b"\n"
+        began = time.perf_counter()
+        for at in range(0, len(line), 1_000):
+            self.core.received(line[at : at + 1_000])
+        self.assertEqual(answer.only.rev, 1)
+        self.assertLess(time.perf_counter() - began, 10)  # else some 200 GB are copied
 
     def test_a_refusal_has_its_code_and_its_name(self):
         answer = Answer()
