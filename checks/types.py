@@ -40,6 +40,7 @@ RIGHT = [
     'await connect({ port: 7000, signal: new AbortController().signal });',
     'await connect({ command: "richd", args: ["serve", "store"] });',
     'await connect({ url: "ws://127.0.0.1:8080/", source: "ann" });',
+    'await connect({ url: async () => `wss://notes.example/?token=${await (await fetch("/token")).text()}` });',
     'client.addEventListener("cut", () => {}, { once: true });',
     'letter.addEventListener("change", ({ delta }) => { const moved: number = delta.transformPosition(3); return moved; });',
     'letter.addEventListener("trouble", ({ error }) => { if (error.name === "TooHeavy") console.log(error.code); });',

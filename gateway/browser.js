@@ -3,6 +3,7 @@
 
 import { MOST_LINE, KIND, PROBE, REFUSAL, codeOf, isAgain, readMessage, revOf } from "./messages.js";
 import { Subscription, endedLine } from "./news.js";
+import { nameOf } from "./users.js";
 
 const MOST_WAITING = 64; // messages without a reply; then no more are read
 const MOST_READS = 8; // reads that are asked at the same time; one where a reply was large
@@ -37,6 +38,7 @@ const UNKNOWN = [21, 22]; // a command that is refused so may have been taken
 export class Browser {
   #gateway;
   #socket;
+  #given;
   #unread = EMPTY;
   #skips = false; // the rest of a line that is too long
   /** @type {Slot[]} */
@@ -50,7 +52,7 @@ export class Browser {
   #out = [];
   #outBytes = 0;
   #readsAtOnce = MOST_READS;
-  #given = 0; // bytes
+  #givenBytes = 0;
   #taken = 0; // of them, at the last look
   #isAlive = true;
   #wasSlow = false; // at the last look
@@ -66,12 +68,14 @@ export class Browser {
    * @param {any} gateway  what the gateway has for its browsers, see gateway.js
    * @param {any} socket
    * @param {import("./users.js").User} user
+   * @param {any} given  the user as `authorize` gave him for this session
    * @param {number} id
    */
-  constructor(gateway, socket, user, id) {
+  constructor(gateway, socket, user, given, id) {
     this.#gateway = gateway;
     this.#socket = socket;
     this.user = user;
+    this.#given = given;
     this.id = id;
     socket.on("message", (bytes) => this.#read(bytes));
     socket.on("pong", () => (this.#isAlive = true));
@@ -81,7 +85,7 @@ export class Browser {
 
   /** Its user's name, as others see it. */
   get shownName() {
-    return this.user.name;
+    return nameOf(this.#given);
   }
 
   /** Whether it has so much to take that it gets nothing unasked. */
@@ -115,7 +119,7 @@ export class Browser {
 
   /** Looks whether it is there: it has answered the last ping, or taken bytes since the last look. */
   look() {
-    const taken = this.#given - this.#socket.bufferedAmount;
+    const taken = this.#givenBytes - this.#socket.bufferedAmount;
     const isSilent = !this.#isAlive && !this.#socket.isPaused; // its pong isn't read while no more messages are
     const isStuck = this.isSlow && this.#wasSlow;
     if (taken <= this.#taken && (isSilent || isStuck)) {
@@ -201,7 +205,7 @@ export class Browser {
     const slot = { kind: KIND[message.do], message, since: performance.now() };
     this.#slots.push(slot);
     this.#open.set(message.doc, (this.#open.get(message.doc) ?? 0) + 1);
-    const verdict = this.#gateway.judge(this.user, message);
+    const verdict = this.#gateway.judge(this.#given, message);
     if (typeof verdict === "boolean") this.#judged(slot, verdict);
     else verdict.then((isAllowed) => this.#judged(slot, isAllowed), () => (slot.reply ??= REFUSAL.NoMemory)).then(() => this.#pump());
   }
@@ -284,7 +288,7 @@ export class Browser {
     const lease = store.leases.lend(message.doc, this.#holder);
     if (lease instanceof Promise) return this.#find(slot, lease, (found) => found === undefined && (slot.reply ??= REFUSAL.TooManySources));
     if (lease === undefined) slot.reply = REFUSAL.TooManySources;
-    else if (kind === "lease") slot.reply = leaseLine(message.doc, lease);
+    else if (kind === "lease") slot.reply = leaseLine(message.doc, Object.assign(lease, { isTold: true }));
     else if (message.do === "undo" && lease.epoch > 1 && !lease.isOwn) {
       if (this.#slots.some((it) => it !== slot && isWaiting(it) && it.message.doc === message.doc)) return false; // it may become one's own
       slot.reply = REFUSAL.NothingToUndo; // what there is was another's
@@ -332,7 +336,7 @@ export class Browser {
       store.news.taken(doc, line);
     }
     if (result !== "refused" && isCreation && !isOthers) this.#gateway.places.created(doc);
-    if (result !== "refused" && base !== PROBE) this.#gateway.taken(this.user, slot.message, revOf(line), result === "again");
+    if (result !== "refused" && base !== PROBE) this.#gateway.taken(this.#given, slot.message, revOf(line), result === "again");
     if (this.isGone) return;
     if (code === FULL_STORE && isCreation) return this.#sendElsewhere(slot, store, line, this.#gateway.places.move(doc, store.name));
     if (code === NO_DOCUMENT) return this.#lookAgain(slot, store, line);
@@ -458,7 +462,7 @@ export class Browser {
   #give(line) {
     this.#out.push(line);
     this.#outBytes += line.length;
-    this.#given += line.length;
+    this.#givenBytes += line.length;
   }
 
   #flush() {

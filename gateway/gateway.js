@@ -204,14 +204,14 @@ export class Gateway {
 
   // What follows is for browsers.
 
-  /** Whether a user may send a message: a promise where that isn't known at once. Where it can't be found out the promise fails. */
+  /** Whether a user, as `authorize` gave him, may send a message: a promise where that isn't known at once. Where it can't be found out the promise fails. */
   judge(user, message) {
     if (this.#can === undefined && this.#onCommand === undefined) return true;
     const { do: what, doc } = message;
     try {
-      const verdict = chain(this.#mayDo(user.given, doc, what), (may) => {
+      const verdict = chain(this.#mayDo(user, doc, what), (may) => {
         if (!may || KIND[what] !== "command" || this.#onCommand === undefined) return may;
-        return chain(this.#onCommand({ user: user.given, doc, message }), (it) => it !== false);
+        return chain(this.#onCommand({ user, doc, message }), (it) => it !== false);
       });
       return chain(verdict, Boolean);
     } catch (error) {
@@ -224,7 +224,7 @@ export class Gateway {
     if (this.#onTaken === undefined) return;
     const failed = (error) => this.log("onTaken failed", { error: error.message });
     try {
-      chain(this.#onTaken({ user: user.given, doc: message.doc, message, rev, isAgain }), () => {})?.catch(failed);
+      chain(this.#onTaken({ user, doc: message.doc, message, rev, isAgain }), () => {})?.catch(failed);
     } catch (error) {
       failed(error);
     }
@@ -268,7 +268,7 @@ export class Gateway {
   #open(webSocket, given) {
     const { limits } = this.#settings;
     const id = idOf(given);
-    const user = this.#users.get(id) ?? new User(given, limits.userMessages);
+    const user = this.#users.get(id) ?? new User(id, limits.userMessages);
     if (this.#browsers.size >= limits.sessions || user.browsers.size >= limits.userSessions) {
       this.log("full", { user: id, sessions: this.#browsers.size, ofUser: user.browsers.size });
       webSocket.on("error", () => {});
@@ -278,7 +278,7 @@ export class Gateway {
     }
     this.#users.set(id, user);
     this.#count += 1;
-    const browser = new Browser(this, webSocket, user, this.#count);
+    const browser = new Browser(this, webSocket, user, given, this.#count);
     this.#browsers.add(browser);
     user.browsers.add(browser);
   }

@@ -8,6 +8,7 @@ export class Lease {
   /** @type {number | undefined} the number of the next command, where it is known */
   next;
   onWay = 0; // commands that were sent and have no reply
+  isTold = false; // its holder asked for it, and counts on it
 
   /**
    * @param {string} name
@@ -19,9 +20,9 @@ export class Lease {
     Object.assign(this, { name, epoch, used, isOwn });
   }
 
-  /** Whether its numbers are all unused still. */
+  /** Whether its numbers are all unused still, and its holder knows nothing of it. */
   get isUnused() {
-    return this.epoch === 1 && this.next === 1 && this.onWay === 0;
+    return this.epoch === 1 && this.next === 1 && this.onWay === 0 && !this.isTold;
   }
 
   /** A command leaves. */

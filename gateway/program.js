@@ -12,11 +12,11 @@ import path from "node:path";
 import { pathToFileURL } from "node:url";
 import { parseArgs } from "node:util";
 import { createGateway } from "./gateway.js";
+import { HOOKS } from "./settings.js";
 
 const USAGE = "usage: richd-gateway --settings FILE, or richd-gateway import STORE --settings FILE [LIST]";
 const OWN = ["127.0.0.1", "localhost", "[::1]", "::1"];
 const FIELDS = ["listen", "watch", "name", "stores", "readers", "writers", "guests", "names", "data", "etcd", "rule", "term", "origins", "user", "module", "anybody", "limits"];
-const HOOKS = ["authorize", "can", "onCommand", "onTaken"];
 
 /** @param {any} text @param {string} field */
 function addressIn(text, field) {
@@ -42,7 +42,8 @@ async function hooksOf({ user, module, anybody = false }, file, isOwn) {
   const hooks = {};
   if (module !== undefined) {
     const found = await import(pathToFileURL(path.resolve(path.dirname(file), module)).href);
-    for (const hook of HOOKS) if (typeof found[hook] === "function") hooks[hook] = found[hook];
+    for (const hook of HOOKS) if (found[hook] !== undefined) hooks[hook] = found[hook];
+    if (Object.keys(hooks).length === 0) throw new Error(`module: it exports none of ${HOOKS.join(", ")}`);
   }
   if (user !== undefined) {
     if (typeof user?.header !== "string") throw new Error("user: header is the name of a header");

@@ -7,6 +7,8 @@ const MOST_NAMES = 4_096; // that a document has places for
 const DAY = 86_400_000; // milliseconds
 export const DEFAULTS = { name: "g", readers: 2, writers: 16, guests: 8, names: 120, term: 7, pulse: 15_000 };
 export const LIMITS = { sessions: 20_000, userSessions: 200, userMessages: 2_000 };
+export const HOOKS = ["authorize", "can", "onCommand", "onTaken"];
+const FIELDS = [...Object.keys(DEFAULTS), "stores", "data", "etcd", "rule", "origins", "limits", ...HOOKS, "log", "hidesMetrics"];
 
 /** Throws a reason where something doesn't hold. */
 function demand(holds, reason) {
@@ -61,6 +63,8 @@ export function checkOrigins(origins) {
  * @param {any} given
  */
 export function checked(given) {
+  for (const field of Object.keys(given)) demand(FIELDS.includes(field), `there is no setting ${field}`);
+  for (const hook of HOOKS) demand(given[hook] === undefined || typeof given[hook] === "function", `${hook} is a function`);
   const settings = { ...DEFAULTS, ...given, limits: { ...LIMITS, ...given.limits } };
   const { name, stores, readers, writers, guests, names, term, data, etcd, rule, origins, limits } = settings;
   demand(isText(name) && NAME.test(name), `name has 1 to 12 characters of A-Z a-z 0-9 . _ -, and not ${JSON.stringify(name)}`);

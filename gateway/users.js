@@ -2,7 +2,7 @@
 
 const MOST_NAME = 64; // characters of a name that others see
 
-/** A user with a session at least. */
+/** A user with a session at least. What `authorize` gave stands with each session: it may be another each time, as where it has an end. */
 export class User {
   /** @type {Set<import("./browser.js").Browser>} */
   browsers = new Set();
@@ -11,14 +11,11 @@ export class User {
   #countedAt = performance.now();
 
   /**
-   * @param {string | { id: string, name?: string }} given  as `authorize` gave him
+   * @param {string} id
    * @param {number} perSecond  messages that he may send a second
    */
-  constructor(given, perSecond) {
-    this.given = given;
-    this.id = idOf(given);
-    const name = typeof given === "object" && typeof given.name === "string" ? given.name : this.id;
-    this.name = [...name].slice(0, MOST_NAME).join("");
+  constructor(id, perSecond) {
+    this.id = id;
     this.#perSecond = this.#turns = perSecond;
   }
 
@@ -35,3 +32,9 @@ export class User {
 
 /** @param {any} given @returns {string} */
 export const idOf = (given) => (typeof given === "object" && given !== null ? given.id : given);
+
+/** The name that others see. @param {any} given @returns {string} */
+export function nameOf(given) {
+  const name = typeof given === "object" && typeof given.name === "string" ? given.name : idOf(given);
+  return [...name].slice(0, MOST_NAME).join("");
+}

@@ -180,7 +180,6 @@ export class RichDocument extends Emitter {
       document.#contents = document.#base;
     }
     document.#length = document.#contents.length();
-    client.addEventListener("state", document.#tell);
     document.#meet();
     document.#state = document.state;
     document.#keeper?.watch(document, () => document.#snapshot());
@@ -252,13 +251,14 @@ export class RichDocument extends Emitter {
    */
   apply(ops) {
     if (this.#isClosed) throw new RichdError(0, "Closed");
+    const given = /** @type {Op[]} */ (Array.isArray(ops) ? ops : ops?.ops);
     let delta;
     try {
-      delta = this.#readTyped(/** @type {Op[] | { ops: Op[] }} */ (ops));
+      delta = this.#readTyped(given);
     } catch (error) {
       this.#isRefused = true;
       this.#tell();
-      this.dispatchEvent(new TroubleEvent(error, new this.#Delta(ops), false));
+      this.dispatchEvent(new TroubleEvent(error, new this.#Delta(Array.isArray(given) ? given : []), false));
       throw error;
     }
     this.#steps.record(delta.invert(this.#contents));
@@ -288,14 +288,14 @@ export class RichDocument extends Emitter {
   }
 
   // Tells that it may stand otherwise than before.
-  #tell = () => {
+  #tell() {
     this.dispatchEvent(new Event("progress"));
     this.#places.settle();
     const { state } = this;
     if (state === this.#state) return;
     this.#state = state;
     this.dispatchEvent(new StateEvent(state));
-  };
+  }
 
   /** @param {"undo" | "redo"} way */
   #turn(way) {
@@ -308,9 +308,9 @@ export class RichDocument extends Emitter {
     return true;
   }
 
-  /** @param {Op[] | { ops: Op[] }} ops */
+  /** @param {Op[]} ops */
   #readTyped(ops) {
-    const delta = takenOver(Array.isArray(ops) ? ops : ops.ops);
+    const delta = takenOver(ops);
     if (reachOf(delta) > this.#length) throw new RichdError(Refusal.PastEnd, "PastEnd");
     if (cutsPair(delta, this.#contents)) throw new RichdError(Refusal.CutsPair, "CutsPair");
     return new this.#Delta(delta.ops);
@@ -331,18 +331,15 @@ export class RichDocument extends Emitter {
     this.#stop(new RichdError(0, "Closed"));
   }
 
-  // Hears of those who are present, in each session.
+  // Hears how the client stands, and of those who are present, in each session.
   #meet() {
     const [client, places] = [this.#client, this.#places];
-    const [begin, end] = [() => places.begin(), () => places.end()];
     const leave = client.onPresence(this.#name, (line) => places.take(line));
-    client.addEventListener("connected", begin);
-    client.addEventListener("cut", end);
+    const unwatch = client.watch({ onState: () => this.#tell(), onConnected: () => places.begin(), onCut: () => places.end() });
     this.#depart = () => {
       places.set(null);
       leave();
-      client.removeEventListener("connected", begin);
-      client.removeEventListener("cut", end);
+      unwatch();
     };
   }
 
@@ -614,7 +611,6 @@ export class RichDocument extends Emitter {
     if (error instanceof RichdError && error.code > 0) this.#keeper?.forget(error);
     else this.#keeper?.close(error);
     this.#pauses.end();
-    this.#client.removeEventListener("state", this.#tell);
     for (const { reject } of this.#waiting.splice(0)) reject(error);
     this.#tell();
   }

@@ -24,7 +24,7 @@ const ENDS = { 4409: "Replaced", 4503: "Full" };
  * @property {undefined} [url]
  *
  * @typedef {object} WebSocketAddress  a gateway
- * @property {string} url
+ * @property {string | (() => string | Promise<string>)} url  a function is asked each time that it connects, as where a token in it has an end
  * @property {WebSocketClass} [WebSocket]  where there is no global one, as in Node 18 and 20
  * @property {undefined} [host]
  * @property {undefined} [port]
@@ -86,8 +86,18 @@ export async function openLink(address, listener, patience) {
   return openNodeLink(address, listener, patience);
 }
 
+/** Asks for a URL that a function gives. Where it fails there is no connection, as where there is no server. @param {WebSocketAddress["url"]} url */
+async function asked(url) {
+  try {
+    return typeof url === "function" ? await url() : url;
+  } catch (cause) {
+    throw new Error("no url was given", { cause });
+  }
+}
+
 /** @param {WebSocketAddress} address @param {Listener} listener @param {number} patience @returns {Promise<Link>} */
-function openWebSocket({ url, WebSocket = globalThis.WebSocket }, { onBytes, onClose }, patience) {
+async function openWebSocket({ url: given, WebSocket = globalThis.WebSocket }, { onBytes, onClose }, patience) {
+  const url = await asked(given);
   const socket = new WebSocket(url);
   socket.binaryType = "arraybuffer";
   return new Promise((resolve, reject) => {

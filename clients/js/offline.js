@@ -12,7 +12,7 @@ import { lock, takeSource, thisPage } from "./sources.js";
  * @typedef {import("./keeping.js").Store} Store
  *
  * @typedef {object} OfflineOptions
- * @property {string} [server]  a name for the server, under which its documents are kept: the `url` if it isn't given
+ * @property {string} [server]  a name for the server, under which its documents are kept: the `url` if it isn't given, and is a text
  * @property {number} [timeout]  as `connect` of `richd` takes them
  * @property {number} [patience]
  * @property {AbortSignal} [signal]
@@ -76,7 +76,7 @@ export class OfflineClient extends Client {
     super({ ...options, source, isNew });
     this.#options = options;
     this.#page = page;
-    this.#server = options.server ?? options.url ?? "";
+    this.#server = options.server ?? (typeof options.url === "string" ? options.url : "");
     this.#ended = new Promise((resolve) => {
       this.addEventListener("state", ({ state }) => state === "closed" && resolve(this.#end(release)));
     });

@@ -145,6 +145,13 @@ class Binding {
     this.#quill.enable?.(false);
   }
 
+  // Puts the line's end at the document's end where a change took it away.
+  /** @param {Delta} change */
+  #mendEnd(change) {
+    const reachesEnd = reachOf(change) === this.#document.length - growthOf(change);
+    if (reachesEnd && this.#addLineEnd() && this.#held.ops.length === 0) this.#setRight();
+  }
+
   /** Returns whether the document had no line's end at its end. */
   #addLineEnd() {
     const last = this.#document.contents.ops.at(-1)?.insert;
@@ -200,6 +207,7 @@ class Binding {
       if (error.name === "Closed") return this.#close();
       return this.#setRight();
     }
+    this.#mendEnd(rest);
     for (const place of this.#places) place.index = rest.transformPosition(place.index);
     for (const upload of uploads) this.#start(upload);
     if (uploads.length > 0) this.#setRight();
@@ -262,8 +270,7 @@ class Binding {
     this.#held = new this.#Delta();
     if (change.ops.length > 0) this.#update(change);
     this.#showCursors();
-    const reachesEnd = reachOf(change) === this.#document.length - growthOf(change);
-    if (reachesEnd && this.#addLineEnd()) this.#setRight(); // somebody took it away
+    this.#mendEnd(change);
     for (const { place, op } of this.#uploaded.splice(0)) {
       this.#places.delete(place);
       const source = this.#quill.isEnabled?.() === false ? "api" : "user"; // one that is disabled takes nothing of its user

@@ -38,6 +38,11 @@ const MOST_DOCS = 1_000; // of which something is kept though nothing is asked; 
  * @property {number} [patience]  after so many milliseconds without a byte the connection is cut, and begun again; after half of them the
  *     server is asked whether it is there. 30,000 if it isn't given, `Infinity` for neither
  * @property {AbortSignal} [signal]  closes the client
+ *
+ * @typedef {object} Watcher  a document that is open, which is told how its client stands
+ * @property {() => void} onState
+ * @property {() => void} onConnected
+ * @property {() => void} onCut
  */
 
 /**
@@ -78,6 +83,9 @@ export class Client extends Emitter {
   #hasForgotten = false; // one of them
   /** @type {Map<string, Set<(line: import("./session.js").Reply) => void>>} who hears of those who are present in a document */
   #present = new Map();
+  /** @type {Set<Watcher>} */
+  #watchers = new Set();
+  #wasConnected = false;
 
   /** @param {import("./links.js").Address & Options} options */
   constructor(options) {
@@ -101,12 +109,13 @@ export class Client extends Emitter {
     return this.#state;
   }
 
-  /** Waits until it is connected. */
+  /** Waits until it is connected. Where it never was, and the time ends, the client is closed. */
   async connected() {
+    this.#closing.signal.throwIfAborted();
     try {
       await within(this.#beginning, this.#options, () => new RichdError(0, "Timeout", this.#trouble));
     } catch (error) {
-      this.#shut(error);
+      if (!this.#wasConnected) this.#shut(error);
       throw error;
     }
   }
@@ -231,6 +240,16 @@ export class Client extends Emitter {
   }
 
   /**
+   * Tells a document of each state, beginning and cut. It listens to no event for that, since Node warns of more than ten who do. Returns
+   * what ends it.
+   * @param {Watcher} watcher
+   */
+  watch(watcher) {
+    this.#watchers.add(watcher);
+    return () => void this.#watchers.delete(watcher);
+  }
+
+  /**
    * Opens a document that types ahead.
    * @param {string} doc
    * @param {import("./document.js").OpenOptions} [options]
@@ -276,7 +295,7 @@ export class Client extends Emitter {
     line.add(item);
     try {
       const late = () => item.trouble ?? new RichdError(0, "Timeout");
-      return await within(answer, { timeout: this.#options.timeout ?? PATIENCE, ...limits }, late);
+      return await within(answer, { ...limits, timeout: limits?.timeout ?? this.#options.timeout ?? PATIENCE }, late);
     } catch (error) {
       line.remove(item);
       throw error;
@@ -315,6 +334,7 @@ export class Client extends Emitter {
     for (; ; isAgain = true) {
       if (isAgain && !signal.aborted) await this.#pauses.wait();
       signal.throwIfAborted();
+      this.#options.signal?.throwIfAborted();
       if (this.#source === undefined) await this.#takeSource();
       try {
         this.#session = await Session.begin(this.#options, this.#source, {
@@ -328,7 +348,7 @@ export class Client extends Emitter {
         this.#session.cut();
       } catch (error) {
         signal.throwIfAborted();
-        if (error.code === "ENOENT" || error instanceof TypeError) throw error; // no such program, or no such link here
+        if (this.#isHopeless(error)) throw error;
         if (error.code > 0 && error.code !== Refusal.NoMemory) throw error; // the name is none
         if (error.cause?.name === "Replaced") throw error.cause;
         this.#trouble = error;
@@ -339,8 +359,17 @@ export class Client extends Emitter {
       line.session = this.#session;
       news.renew();
     }
+    this.#wasConnected = true;
     this.#tell("connected");
     this.dispatchEvent(new Event("connected"));
+    for (const { onConnected } of [...this.#watchers]) onConnected();
+  }
+
+  // Whether there is no such program, no such link here, or no such address, so that no attempt will succeed.
+  /** @param {any} error */
+  #isHopeless(error) {
+    const isNoProgram = this.#options.command !== undefined && ["ENOENT", "EACCES"].includes(error.code);
+    return isNoProgram || [TypeError, RangeError, SyntaxError].some((kind) => error instanceof kind);
   }
 
   async #takeSource() {
@@ -362,6 +391,7 @@ export class Client extends Emitter {
     if (state === this.#state || this.#state === "closed") return;
     this.#state = state;
     this.dispatchEvent(new StateEvent(state));
+    for (const { onState } of [...this.#watchers]) onState();
   }
 
   /** @param {Error} [cause] */
@@ -373,6 +403,7 @@ export class Client extends Emitter {
     if (cause?.name === "Replaced") return this.#shut(cause);
     this.#tell("offline");
     this.dispatchEvent(new Event("cut"));
+    for (const { onCut } of [...this.#watchers]) onCut();
     this.#begin(true);
   }
 

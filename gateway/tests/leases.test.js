@@ -104,6 +104,24 @@ test("a lease under which nothing was taken is given back, and its name is new f
   assert.deepEqual([again.has("d", "ann"), again.has("d", "bob")], [false, true]);
 });
 
+test("a lease that its holder was told stays his, though his creation found the document there", async (t) => {
+  const store = await FakeStore.begin(t);
+  const { url } = await gatewayFor(t, { stores: [{ name: "s1", ...store.address }] });
+  const [ann, bob] = [await Talk.begin(t, url, "ann"), await Talk.begin(t, url, "bob")];
+  const told = await ann.ask({ do: "lease", doc: "d" });
+  ann.send({ do: "create", doc: "d", n: 1, ops: [] });
+  (await store.next()).reply({ code: 7, error: "Exists" });
+  await until(() => ann.replies.length === 3);
+  const { lease } = await bob.ask({ do: "lease", doc: "d" });
+  assert.notEqual(lease, told.lease);
+  ann.send({ do: "edit", doc: "d", n: 1, base: 1, ops: [] });
+  const { source, message, reply } = await store.next();
+  assert.equal(source, told.lease); // else what has no reply at a cut would be in doubt
+  reply(taken(message, 2));
+  await until(() => ann.replies.length === 4);
+  assert.deepEqual(await ann.ask({ do: "lease", doc: "d" }), { ...told, n: 2 });
+});
+
 test("a lease that can't be written isn't given", async (t) => {
   const { book, file } = booked(t);
   await book.lend("d", "ann");

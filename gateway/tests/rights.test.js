@@ -69,6 +69,23 @@ test("onCommand refuses, onTaken is told what was taken, and probes aren't told"
   assert.deepEqual(told, [{ user: { id: "ann", name: "Ann" }, doc: "d", message, rev: 7, isAgain: false }]);
 });
 
+test("each session is judged by what authorize gave for it, and shown by that name", async (t) => {
+  const told = [];
+  const given = { "/old": { id: "ann", name: "Ann", isEditor: false }, "/new": { id: "ann", name: "Ann B.", isEditor: true } };
+  const settings = { authorize: ({ url }) => given[url] ?? "bob", can: (user, doc, action) => action === "read" || user.isEditor, onTaken: ({ user }) => told.push(user) };
+  const { store, url } = await begun(t, settings);
+  const [old, renewed, bob] = [await Talk.begin(t, `${url}old`, "a"), await Talk.begin(t, `${url}new`, "b"), await Talk.begin(t, url, "c")];
+  assert.deepEqual(await old.ask(MESSAGES.edit[0]), NOT_ALLOWED);
+  renewed.send(MESSAGES.edit[0]);
+  const { message, reply } = await store.next();
+  reply(taken(message, 2));
+  await until(() => renewed.replies.length === 2);
+  assert.deepEqual(told, [given["/new"]]);
+  for (const talk of [bob, old, renewed]) await talk.ask(MESSAGES.read.at(-1));
+  await until(() => bob.carets.length === 2);
+  assert.deepEqual(bob.carets.map(({ user }) => user).sort(), ["Ann", "Ann B."]);
+});
+
 test("a hook that throws ends nothing", async (t) => {
   const { store, url, events } = await begun(t, { onTaken: () => { throw new Error("a fault"); }, can: (user, doc) => { if (doc === "e") throw new Error("b fault"); return true; } });
   const ann = await Talk.begin(t, url, "token");

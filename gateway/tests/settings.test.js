@@ -40,6 +40,10 @@ const WRONG = [
   [{ origins: ["https://notes.example/"] }, /^origins is a list/],
   [{ limits: { session: 1 } }, /^limits: session is none of sessions, userSessions, userMessages/],
   [{ limits: { sessions: 0 } }, /^limits: sessions is a whole number above 0/],
+  [{ user: { header: "x-remote-user" } }, /^there is no setting user/],
+  [{ authorise: () => null }, /^there is no setting authorise/],
+  [{ authorize: "ann" }, /^authorize is a function/],
+  [{ can: null }, /^can is a function/],
 ];
 
 test("each wrong setting is refused with a reason", async () => {
@@ -68,6 +72,11 @@ test("the program says why, with status 2", (t) => {
   assert.match(run({ listen: "8080" }), /^2 listen: "8080" isn't HOST:PORT/);
   assert.match(run({ listen: "0.0.0.0:0" }), /^2 nothing says who connects/);
   assert.match(run({ user: {} }), /^2 user: header is the name of a header/);
+  const module = path.join(folder, "rights.mjs");
+  writeFileSync(module, "export default { authorize: () => null };\n");
+  assert.match(run({ module }), /^2 module: it exports none of authorize, can, onCommand, onTaken/);
+  writeFileSync(module, "export const authorize = null;\n");
+  assert.match(run({ module }), /^2 authorize is a function/);
   assert.match(run({ module: "./missing.js" }), /^2 .*missing\.js/);
   assert.match(run({ stores: [] }), /^2 stores: a list/);
   assert.match(run({}, "import"), /^2 usage: /);

@@ -6,11 +6,10 @@ import http from "node:http";
 import os from "node:os";
 import path from "node:path";
 import test from "node:test";
-import { startBridge, webSockets } from "../bridge.js";
+import { startBridge } from "../bridge.js";
 import { connect } from "../richd.js";
 import { served, until } from "./fake.js";
-
-const { WebSocket } = webSockets();
+import { needsWebSockets, WebSocket } from "./websockets.js";
 
 async function bridged(t) {
   const server = await served();
@@ -30,7 +29,7 @@ async function connected(t, url) {
   return client;
 }
 
-test("a WebSocket carries a session, over a cut too", async (t) => {
+test("a WebSocket carries a session, over a cut too", needsWebSockets, async (t) => {
   const { server, bridge } = await bridged(t);
   const [ann, bob] = [await connected(t, bridge.webSocketUrl), await connected(t, bridge.webSocketUrl)];
   await ann.create("d", [{ insert: "é\u{1f600}\n".repeat(7_000) }]);
@@ -44,7 +43,7 @@ test("a WebSocket carries a session, over a cut too", async (t) => {
   assert.deepEqual(right.contents.ops, server.documents.at("d"));
 });
 
-test("many clients share its sessions, and one that goes takes none along", async (t) => {
+test("many clients share its sessions, and one that goes takes none along", needsWebSockets, async (t) => {
   const { server, bridge } = await bridged(t);
   const clients = [];
   for (let k = 0; k < 80; k += 1) clients.push(await connected(t, bridge.webSocketUrl));
@@ -54,7 +53,7 @@ test("many clients share its sessions, and one that goes takes none along", asyn
   assert.ok(server.sessions.length <= 64, `${server.sessions.length} sessions`);
 });
 
-test("a page of another origin may not connect", async (t) => {
+test("a page of another origin may not connect", needsWebSockets, async (t) => {
   const { bridge } = await bridged(t);
   const opened = (origin) =>
     new Promise((resolve) => {
@@ -84,7 +83,7 @@ function got(bridge, path) {
   });
 }
 
-test("it serves the editor and the client, and nothing else", async (t) => {
+test("it serves the editor and the client, and nothing else", needsWebSockets, async (t) => {
   const { bridge } = await bridged(t);
   assert.equal((await got(bridge, "/")).location, "/examples/editor/");
   for (const [path, part] of [

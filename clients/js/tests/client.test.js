@@ -2,10 +2,11 @@
 
 import assert from "node:assert/strict";
 import test from "node:test";
+import { fileURLToPath } from "node:url";
 import { LineReader } from "../lines.js";
 import { firstUnused } from "../numbers.js";
 import { Pauses } from "../pauses.js";
-import { connect } from "../richd.js";
+import { Client, connect } from "../richd.js";
 import { scripted, served, until } from "./fake.js";
 
 const HELLO = { ok: "hello" };
@@ -274,6 +275,11 @@ test("a call ends by its time or its signal, and what was sent keeps its number"
   assert.deepEqual(lines.map(({ n }) => n), [...SIXTEEN, 17]);
 });
 
+test("a time that is undefined is that of the client", async (t) => {
+  const { client } = await scriptedPair(t, () => {}, { timeout: 50 });
+  for (const limits of [undefined, {}, { timeout: undefined }]) await assert.rejects(client.fetch("d", undefined, limits), { name: "Timeout" });
+});
+
 test("close waits for what was sent, and refuses the rest", async (t) => {
   const held = [];
   const { client } = await scriptedPair(t, (message, session) => held.push(() => session.reply(taken(message, message.n))));
@@ -303,10 +309,42 @@ test("connect tries until its time ends, and at once where the name is none", as
   t.after(() => server.close());
   await assert.rejects(connect({ ...server.address, source: "a b" }), { name: "BadName", code: 8 });
   await assert.rejects(connect({ command: "/nowhere/richd", source: "a" }), { code: "ENOENT" });
+  await assert.rejects(connect({ command: fileURLToPath(import.meta.url), source: "a" }), { code: "EACCES" });
+  for (const port of [70_000, NaN]) await assert.rejects(connect({ port, source: "a" }), { code: "ERR_SOCKET_BAD_PORT" });
+  const wrong = class extends EventTarget {
+    constructor(url) {
+      super();
+      throw new SyntaxError(`no URL: ${url}`);
+    }
+  };
+  await assert.rejects(connect({ url: "nonsense", WebSocket: wrong }), { name: "SyntaxError" });
   const aborting = new AbortController();
   const aborted = connect({ ...full.address, source: "a", signal: aborting.signal });
   aborting.abort(new Error("enough"));
   await assert.rejects(aborted, { message: "enough" });
+  const never = new Client({ ...full.address, source: "a", signal: AbortSignal.abort(new Error("before it began")) });
+  await assert.rejects(never.fetch("d"), { message: "before it began" });
+  assert.equal(never.state, "closed");
+});
+
+test("whoever waits for a connection is told that the client is closed, and closes none that is only away", async (t) => {
+  let isAway = false;
+  const server = await scripted((message, session) => {
+    if (isAway) session.cut();
+    else session.reply(message.do === "hello" ? HELLO : contents(message));
+  });
+  t.after(() => server.close());
+  const client = await connect({ ...server.address, timeout: 50 });
+  t.after(() => client.close());
+  isAway = true;
+  server.sessions[0].cut();
+  await until(() => client.state !== "connected");
+  const fetched = client.fetch("d", undefined, { timeout: 5_000 });
+  await assert.rejects(client.connected(), { name: "Timeout" });
+  isAway = false;
+  assert.equal((await fetched).rev, 1);
+  await client.close();
+  await assert.rejects(client.connected(), { name: "Closed" });
 });
 
 test("the pause before it connects again doubles, until a session serves", async (t) => {

@@ -218,7 +218,9 @@ test("what can't be sent is refused at once, and isn't shown", async (t) => {
   ];
   const troubles = troublesOf(document);
   for (const [name, ops] of refused) assert.throws(() => document.apply(ops), { name }, JSON.stringify(ops).slice(0, 60));
-  assert.deepEqual(troubles, refused.map(([name, ops]) => [name, ops, false]));
+  assert.deepEqual(troubles.splice(0), refused.map(([name, ops]) => [name, ops, false]));
+  for (const ops of [undefined, null, 5, "x", {}, { ops: "x" }]) assert.throws(() => document.apply(ops), { name: "BadOps", code: 3 });
+  assert.deepEqual(troubles, Array.from({ length: 6 }, () => ["BadOps", [], false]));
   assert.deepEqual(document.contents.ops, newest());
   assert.ok(document.isSaved);
   // a retain at the end does nothing, so it may reach further; so do attributes that say nothing
@@ -403,6 +405,26 @@ test("whoever opens a document first creates it, and the others wait until it is
     assert.deepEqual((await client.open("e", { create: ops })).contents.ops, [{ insert: "first" }]);
   }
   await assert.rejects(client.open("f"), { name: "NoDocument" });
+});
+
+test("many documents of one client are told how it stands, and Node warns of none", async (t) => {
+  const { creator, server } = await prepared(t);
+  const warnings = [];
+  const warn = (warning) => warnings.push(String(warning));
+  process.on("warning", warn);
+  t.after(() => process.off("warning", warn));
+  const documents = [];
+  for (let number = 0; number < 30; number += 1) documents.push(await creator.open(`d${number}`, { create: [] }));
+  const told = documents.map((document) => {
+    const states = [];
+    document.addEventListener("state", ({ state }) => states.push(state));
+    return states;
+  });
+  documents[0].close();
+  for (const session of server.sessions) session.cut();
+  await until(() => documents[29].state === "saved" && told[29].length === 2);
+  assert.deepEqual(told, [["closed"], ...Array.from({ length: 29 }, () => ["offline", "saved"])]);
+  assert.deepEqual(warnings, []);
 });
 
 test("a document that is closed is told no more, and says so", async (t) => {

@@ -3,11 +3,11 @@
 import assert from "node:assert/strict";
 import { once } from "node:events";
 import test from "node:test";
-import { webSockets } from "../bridge.js";
-import { connect as connectPlain } from "../richd.js";
+import { Client, connect as connectPlain } from "../richd.js";
 import { connect } from "../offline.js";
 import { Browser } from "./browser.js";
 import { served, until } from "./fake.js";
+import { needsWebSockets, WebSocket, WebSocketServer } from "./websockets.js";
 
 const textOf = ({ ops }) => ops.map(({ insert }) => insert).join("");
 const heard = (target, name) => new Promise((resolve) => target.addEventListener(name, resolve, { once: true }));
@@ -304,7 +304,6 @@ test("a server without a gateway is asked for no lease", async (t) => {
 
 /** A gateway over WebSockets, which closes each as it is told to: as it is subscribed to, or `at` another message. */
 async function closing(t, codes, at = "subscribe") {
-  const { WebSocketServer, WebSocket } = webSockets();
   const server = new WebSocketServer({ port: 0, host: "127.0.0.1" });
   await once(server, "listening");
   t.after(() => {
@@ -334,7 +333,7 @@ async function closing(t, codes, at = "subscribe") {
   return { client, sessions: () => sessions, edits };
 }
 
-test("what had no answer as the gateway closed by 1012 is sent again, with its number", async (t) => {
+test("what had no answer as the gateway closed by 1012 is sent again, with its number", needsWebSockets, async (t) => {
   const { client, sessions, edits } = await closing(t, [1012, undefined], "edit");
   const document = await client.open("d");
   document.apply([{ insert: "a" }]);
@@ -343,7 +342,7 @@ test("what had no answer as the gateway closed by 1012 is sent again, with its n
   assert.equal(sessions(), 2);
 });
 
-test("a gateway that ends, or whose store was cut, or whose user has other rights: it connects again", async (t) => {
+test("a gateway that ends, or whose store was cut, or whose user has other rights: it connects again", needsWebSockets, async (t) => {
   const { client, sessions } = await closing(t, [1012, 4403, 1006 - 6]);
   const document = await client.open("d");
   await until(() => sessions() === 4);
@@ -351,7 +350,28 @@ test("a gateway that ends, or whose store was cut, or whose user has other right
   assert.deepEqual([client.state, document.isClosed], ["connected", false]);
 });
 
-test("a gateway that is full is tried again, and the state says so", async (t) => {
+test("a function that gives the url is asked each time, and what it fails by ends nothing", async (t) => {
+  const asked = [];
+  class Refusing {
+    constructor(url) {
+      asked.push(url);
+      queueMicrotask(() => this.onclose({ code: 1006 }));
+    }
+  }
+  const urls = ["ws://a/?token=1", new TypeError("no network"), Promise.reject(new RangeError("none")), Promise.resolve("ws://a/?token=2")];
+  urls[2].catch(() => {});
+  const url = () => {
+    const next = urls.shift() ?? "ws://a/?token=3";
+    if (next instanceof Error) throw next;
+    return next;
+  };
+  const client = new Client({ url, WebSocket: Refusing, source: "ann" });
+  t.after(() => client.close());
+  await until(() => asked.length === 3);
+  assert.deepEqual([asked, client.state], [["ws://a/?token=1", "ws://a/?token=2", "ws://a/?token=3"], "offline"]);
+});
+
+test("a gateway that is full is tried again, and the state says so", needsWebSockets, async (t) => {
   const { client, sessions } = await closing(t, [1012, 4503, 4503]);
   const states = [];
   client.addEventListener("state", ({ state }) => states.push(state));
@@ -363,7 +383,7 @@ test("a gateway that is full is tried again, and the state says so", async (t) =
   await document.flush();
 });
 
-test("where another client comes with the same source it ends, and what wasn't sent is told", async (t) => {
+test("where another client comes with the same source it ends, and what wasn't sent is told", needsWebSockets, async (t) => {
   const { client, sessions } = await closing(t, [4409]);
   const document = await client.open("d");
   const troubles = [];

@@ -2,10 +2,10 @@
 
 import assert from "node:assert/strict";
 import test from "node:test";
-import { webSockets } from "../bridge.js";
 import { Heartbeat } from "../heartbeat.js";
 import { Client, connect } from "../richd.js";
 import { scripted, served, until } from "./fake.js";
+import { needsWebSockets, WebSocket, WebSocketServer } from "./websockets.js";
 
 const PATIENCE = 200; // milliseconds
 
@@ -143,8 +143,7 @@ test("connect goes on for ever, and its state says how it stands", async (t) => 
   assert.deepEqual(told, ["full", "connected", "closed"]);
 });
 
-test("a gateway says that it has no place, and one that is gone says nothing", async (t) => {
-  const { WebSocket, WebSocketServer } = webSockets();
+test("a gateway says that it has no place, and one that is gone says nothing", needsWebSockets, async (t) => {
   const full = new WebSocketServer({ host: "127.0.0.1", port: 0 });
   t.after(() => full.close());
   full.on("connection", (webSocket) => webSocket.close(4503, "full"));

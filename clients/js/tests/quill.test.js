@@ -170,6 +170,36 @@ test("a line's end that somebody takes away at the end is put there again", asyn
   assert.deepEqual(ann.troubles, []);
 });
 
+for (const Class of [Quill, Editor]) {
+  test(`a line's end that its own user takes away at the end is put there again, in a ${Class.name}`, async (t) => {
+    const { person, settled, areAlike, text } = await prepared(t, [{ insert: "Hello\n" }]);
+    const ann = await person(new Class());
+    ann.quill.updateContents({ ops: [{ retain: 4 }, { delete: 2 }] }, "user");
+    ann.quill.updateContents({ ops: [{ insert: "I say: " }] }, "user");
+    await settled(ann);
+    areAlike(ann);
+    assert.equal(text(), "I say: Hell\n");
+    assert.deepEqual(ann.troubles, []);
+  });
+}
+
+test("a line's end that is taken away while a character is composed, and what others did meanwhile", async (t) => {
+  const { person, settled, areAlike, text } = await prepared(t, [{ insert: "Hello\n" }]);
+  const ann = await person();
+  const bob = await connect(ann.server);
+  t.after(() => bob.close());
+  ann.quill.compose(5, "!");
+  await bob.edit("d", [{ insert: "Oh. " }], 1);
+  await until(() => ann.document.revision === 2);
+  ann.quill.updateContents({ ops: [{ retain: 6 }, { delete: 1 }] }, "user");
+  assert.equal(ann.quill.getText(), "Hello!\n");
+  ann.quill.endComposition();
+  await settled(ann);
+  areAlike(ann);
+  assert.equal(text(), "Oh. Hello!\n");
+  assert.deepEqual(ann.troubles, []);
+});
+
 test("what the document refuses is taken out of the editor again", async (t) => {
   const { person, settled, areAlike, text } = await prepared(t);
   const [ann, bob] = [await person(), await person()];

@@ -81,7 +81,8 @@ test("a document is deleted and created again", needsRichd, async (t) => {
   const trouble = new Promise((resolve) => document.addEventListener("trouble", ({ error }) => resolve(error)));
   assert.deepEqual(await ann.delete("d"), { rev: 2 });
   assert.equal((await trouble).name, "Deleted");
-  for (const call of [ann.fetch("d"), ann.undo("d"), bob.delete("d")]) await assert.rejects(call, { name: "Deleted", code: 40 });
+  const calls = [ann.fetch("d"), ann.undo("d"), bob.delete("d")];
+  await Promise.all(calls.map((call) => assert.rejects(call, { name: "Deleted", code: 40 })));
   const again = await bob.open("d", { create: [{ insert: "n" }] });
   assert.deepEqual([again.revision, again.contents.ops], [3, [{ insert: "n" }]]);
   await assert.rejects(ann.edit("d", [{ insert: "late" }], 1), { name: "TooOld" });

@@ -42,7 +42,10 @@ export type ProgramAddress = {
  * a gateway
  */
 export type WebSocketAddress = {
-    url: string;
+    /**
+     * a function is asked each time that it connects, as where a token in it has an end
+     */
+    url: string | (() => string | Promise<string>);
     /**
      * where there is no global one, as in Node 18 and 20
      */

@@ -10,7 +10,7 @@ export function connect(options: import("./links.js").Address & OfflineOptions, 
  * @typedef {import("./keeping.js").Store} Store
  *
  * @typedef {object} OfflineOptions
- * @property {string} [server]  a name for the server, under which its documents are kept: the `url` if it isn't given
+ * @property {string} [server]  a name for the server, under which its documents are kept: the `url` if it isn't given, and is a text
  * @property {number} [timeout]  as `connect` of `richd` takes them
  * @property {number} [patience]
  * @property {AbortSignal} [signal]
@@ -49,7 +49,7 @@ export type RichDocument = import("./document.js").RichDocument;
 export type Store = import("./keeping.js").Store;
 export type OfflineOptions = {
     /**
-     * a name for the server, under which its documents are kept: the `url` if it isn't given
+     * a name for the server, under which its documents are kept: the `url` if it isn't given, and is a text
      */
     server?: string | undefined;
     /**

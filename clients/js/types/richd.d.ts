@@ -18,6 +18,11 @@
  * @property {number} [patience]  after so many milliseconds without a byte the connection is cut, and begun again; after half of them the
  *     server is asked whether it is there. 30,000 if it isn't given, `Infinity` for neither
  * @property {AbortSignal} [signal]  closes the client
+ *
+ * @typedef {object} Watcher  a document that is open, which is told how its client stands
+ * @property {() => void} onState
+ * @property {() => void} onConnected
+ * @property {() => void} onCut
  */
 /**
  * Connects to a server: `{ host, port }`, `{ command, args }` for a program of one's own, or `{ url }` for a WebSocket. It waits until a
@@ -44,7 +49,7 @@ export class Client<More extends {
     get source(): string | undefined;
     /** @returns {ClientState} */
     get state(): ClientState;
-    /** Waits until it is connected. */
+    /** Waits until it is connected. Where it never was, and the time ends, the client is closed. */
     connected(): Promise<void>;
     /**
      * Creates a document, or one that was deleted again. A source that created it before, and did nothing more, gets the same answer.
@@ -139,6 +144,12 @@ export class Client<More extends {
      */
     tellPresence(doc: string, rev: number, at: [number, number] | null): Promise<boolean>;
     /**
+     * Tells a document of each state, beginning and cut. It listens to no event for that, since Node warns of more than ten who do. Returns
+     * what ends it.
+     * @param {Watcher} watcher
+     */
+    watch(watcher: Watcher): () => undefined;
+    /**
      * Opens a document that types ahead.
      * @param {string} doc
      * @param {import("./document.js").OpenOptions} [options]
@@ -183,6 +194,14 @@ export type Options = {
      * closes the client
      */
     signal?: AbortSignal | undefined;
+};
+/**
+ * a document that is open, which is told how its client stands
+ */
+export type Watcher = {
+    onState: () => void;
+    onConnected: () => void;
+    onCut: () => void;
 };
 import { RichDocument } from "./document.js";
 import { RichdError } from "./errors.js";

@@ -190,7 +190,7 @@ class Core:
         self._followers: Dict[str, List[Follower]] = {}
         self._ending: List[Follower] = []  # whose subscription ended, and who aren't told yet why
         self._out: List[bytes] = []
-        self._in = b""
+        self._in: List[bytes] = []  # of a line that hasn't ended
 
     # What the owner asks for
 
@@ -271,7 +271,7 @@ class Core:
     def connected(self) -> None:
         """A connection was made. It begins with hello; what was on its way follows once that is answered."""
         self.greeted = False
-        self._in, self._out = b"", []
+        self._in, self._out = [], []
         self._write(messages.hello(self.source))
 
     def cut(self) -> None:
@@ -308,7 +308,10 @@ class Core:
 
     def received(self, data: bytes) -> None:
         """Takes bytes that came. Raises Unexpected, or what hello was refused with; ConnectionError where it may be tried again."""
-        *lines, self._in = (self._in + data).split(b"\n")
+        *lines, rest = data.split(b"\n")
+        if lines:
+            lines[0], self._in = b"".join([*self._in, lines[0]]), []
+        self._in.append(rest)
         for line in lines:
             self._line(line)
 

@@ -19,6 +19,7 @@ from .core import Core, Done, Follower, Pauses
 from .delta import Delta
 from .difference import difference
 from .messages import Change, Closed, Contents, Refused, Taken
+from .operations import copied, taken_over
 
 MOST_OPERATIONS, MOST_BYTES = 1_000, 48_000  # of one edit, so that it is a message with all that stands around it
 MOST_MOVES = 5  # of an edit that is refused again and again, since the server hasn't what it was made on
@@ -51,8 +52,8 @@ class Draft(Follower):
 
     @property
     def contents(self) -> Delta:
-        """The document with all that was typed, as inserts."""
-        return list(self._contents)
+        """The document with all that was typed, as inserts. They are the reader's own."""
+        return copied(self._contents)
 
     @property
     def text(self) -> str:
@@ -91,15 +92,12 @@ class Draft(Follower):
 
     def apply(self, ops: Delta) -> None:
         """Types something: changes the contents now, and the document on the server as soon as can be. Raises ValueError where it
-        reaches past the end, parts a character of two units, or has something that neither inserts, retains nor deletes."""
+        reaches past the end, parts a character of two units, or has something that is no operation, or too long for a line."""
         if self._failure is not None:
             raise self._failure
-        for operation in ops:
-            if not {"insert", "retain", "delete"}.intersection(operation):
-                raise ValueError(f"{operation!r} is no operation")
+        ops = taken_over(ops)
         if delta.before(ops) > delta.after(self._contents):
             raise ValueError("it reaches past the end of the document")
-        messages.spelled({"ops": ops})  # raises where it can't be sent
         contents = delta.compose(self._contents, ops)
         self._typed = delta.compose(self._typed, ops)
         self._contents = contents
@@ -123,7 +121,7 @@ class Draft(Follower):
     # What the core tells
 
     def change(self, change: Change) -> None:
-        self._news.append(change)
+        self._news.append(Change(change.rev, copied(change.ops)))  # others are told the same one
         self._go_on()
 
     def end(self, error: Exception) -> None:
@@ -189,7 +187,7 @@ class Draft(Follower):
         if is_settled:
             self._base = self._contents
         for action in self._on_change:
-            action(other)
+            action(copied(other))
 
     def _send(self) -> None:
         self._sent, self._typed = delta.parted(self._typed, MOST_OPERATIONS, MOST_BYTES)
@@ -237,7 +235,7 @@ class Draft(Follower):
     def _call(self, actions: List[Callable[[Delta], None]], ops: Delta) -> None:
         """Calls functions with what has an effect."""
         for action in actions if ops else []:
-            action(ops)
+            action(copied(ops))
 
 
 def _with_lost(error: Exception, lost: Delta) -> Exception:

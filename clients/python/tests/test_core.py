@@ -1,6 +1,7 @@
 """The core and a document that is typed into, by lines that are written here: no server, no time."""
 
 import json
+import time
 import unittest
 
 from richd.core import Core, Follower
@@ -99,6 +100,16 @@ class Requests(CoreTest):
         for byte in b'{"doc":"d","ok":"doc","ops":[{"insert":"\xc3\xa9"}],"rev":1}\n':
             self.core.received(bytes([byte]))
         self.assertEqual(answer.only, Contents(1, [{"insert": "é"}]))
+
+    def test_a_long_line_isnt_copied_for_each_piece_of_it(self):
+        answer = Answer()
+        self.core.fetch("d", None, answer)
+        line = json.dumps({"doc": "d", "ok": "doc", "ops": [{"insert": "x" * 20_000_000}], "rev": 1}).encode() + b"\n"
+        began = time.perf_counter()
+        for at in range(0, len(line), 1_000):
+            self.core.received(line[at : at + 1_000])
+        self.assertEqual(answer.only.rev, 1)
+        self.assertLess(time.perf_counter() - began, 10)  # else some 200 GB are copied
 
     def test_a_refusal_has_its_code_and_its_name(self):
         answer = Answer()
@@ -801,6 +812,58 @@ class Drafts(CoreTest):
                 self.draft.apply(ops)
         self.assertEqual(self.draft.text, "Hello world")
         self.sends()
+
+    def test_what_no_server_takes_is_refused_at_once_and_takes_nothing_along(self):
+        self.draft.apply([{"insert": "kept "}])
+        self.core.to_send()
+        wrong = [
+            {},
+            None,
+            5,
+            {"insert": "x", "retain": 1},
+            {"insert": "x", "id": 1},
+            {"insert": 5},
+            {"insert": None},
+            {"insert": {"image": "a", "alt": "b"}},
+            {"insert": {"mention": {"id": 1}}},
+            {"insert": {1: "x"}},
+            {"insert": {"image": "A" * 70_000}},
+            {"insert": "x", "attributes": {"height": 1.5}},
+            {"insert": "x", "attributes": {"link": "\ud83d"}},
+            {"insert": "x", "attributes": {"": True}},
+            {"insert": "x", "attributes": "bold"},
+            {"retain": 1, "attributes": {"link": "A" * 70_000}},
+            {"retain": 1, "attributes": {"n" * 65: True}},
+            {"retain": -1},
+            {"retain": 1.0},
+            {"retain": True},
+            {"delete": "1"},
+            {"delete": 1, "attributes": {"bold": True}},
+        ]
+        for operation in wrong:
+            with self.subTest(repr(operation)[:60]), self.assertRaises(ValueError):
+                self.draft.apply([{"insert": "not shown"}, operation])
+        self.draft.apply([{"insert": "x", "attributes": {"bold": None}}, {"retain": 1, "attributes": {"bold": None}}])
+        self.comes(self.taken(1, 2))
+        self.sends({"do": "edit", "doc": "d", "n": 2, "base": 2, "ops": [{"insert": "x"}, {"retain": 1, "attributes": {"bold": None}}]})
+        self.assertEqual(self.draft.text, "xkept Hello world")
+
+    def test_whoever_typed_read_or_was_told_something_cant_change_the_document_by_it(self):
+        told, other = [], Told(1)
+        self.core.follow("d", other)
+        self.core.to_send()
+        self.draft.on_change(told.append)
+        ops = [{"insert": "typed ", "attributes": {"bold": True}}]
+        self.draft.apply(ops)
+        self.comes(self.taken(1, 2), self.news(2, *ops), self.news(3, {"insert": {"image": "a"}, "attributes": {"width": 1}}))
+        expected = self.draft.contents
+        for operation in [*ops, *told[0], *other.told[-1].ops, *self.draft.contents]:
+            for value in operation.values():
+                if isinstance(value, dict):
+                    value.clear()
+            operation.clear()
+        self.assertEqual(self.draft.contents, expected)
+        self.assertEqual(expected[0], {"insert": {"image": "a"}, "attributes": {"width": 1}})
 
 
 if __name__ == "__main__":
