@@ -64,7 +64,7 @@ def parser() -> argparse.ArgumentParser:
 
 def _address(word: str) -> Address:
     host, colon, port = word.rpartition(":")
-    if not (host and colon and port.isdigit()):
+    if not (host and colon and port.isdigit() and int(port) < 65_536):
         raise argparse.ArgumentTypeError(f"{word!r} is no HOST:PORT")
     return host.strip("[]"), int(port)
 

@@ -45,6 +45,12 @@ class Health(unittest.TestCase):
             self.assertRegex(health(address, 0.2), "^unreachable: .*timed out")
         self.assertRegex(health(address, SECONDS), "^unreachable: .*refused")
 
+    def test_what_is_no_address(self):
+        for word in ("127.0.0.1", "127.0.0.1:", ":7000", "127.0.0.1:x", "127.0.0.1:65536"):
+            with contextlib.redirect_stderr(io.StringIO()), self.assertRaises(SystemExit) as ended:
+                main(["health", word])
+            self.assertEqual(ended.exception.code, 2)
+
 
 class Commands(Served):
     def run_main(self, word, *words, content=""):
