@@ -6,7 +6,7 @@ use crate::raw::{HostPeer, Listen, Visits};
 use std::sync::ledger::{Blank, Book, Ledger, Share};
 
 /// Counts the peers that a listener took by a ledger. Each has a part of it. Where all parts have come back, all peers are accounted for. Once
-/// it is shut it lets nobody in.
+/// it is shut it lets nobody in, and stays shut.
 #[derive(Drop)]
 pub struct Door<G: Ledger> {
     book: Book<G>,
@@ -24,6 +24,7 @@ impl<G: Ledger> Door<G> {
         requires name { blank.name ≡ G.name }
         requires parts { blank.parts ≡ G.parts }
         requires all { blank.parts ≡ 18446744073709551615 }
+        ensures open { lets_in result.0 ≡ true }
         ensures taken { taken_in result.0 ≡ 0 }
         ensures accounted { accounted_for result.0 ≡ 0 }
         ensures none { result.1.visits.list ≡ [] }
@@ -61,6 +62,7 @@ impl<G: Ledger> Door<G> {
         requires { lets_in self.old ≡ true }
         ensures taken { taken_in self.new ≡ taken_in self.old + 1 }
         ensures accounted { accounted_for self.new ≡ accounted_for self.old }
+        ensures shut { self.new.is_shut ≡ self.old.is_shut }
     {
         self.book.add(&mut self.share, 1);
         let part = PeerPart::new(self.share.split_off(1, 1));
@@ -73,6 +75,7 @@ impl<G: Ledger> Door<G> {
         ensures visits { result ≡ guests.visits }
         ensures taken { taken_in self.new ≡ taken_in self.old }
         ensures accounted { accounted_for self.new ≡ accounted_for self.old + length guests.visits.list }
+        ensures shut { self.new.is_shut ≡ self.old.is_shut }
     {
         let (visits, share, count) = guests.into_parts();
         self.share.merge(share);
@@ -83,7 +86,8 @@ impl<G: Ledger> Door<G> {
     /// Whether all parts have come back.
     pub fn is_whole(&mut self) -> bool
         requires { G.parts ≡ 18446744073709551615 }
-        ensures { result ≡ true → accounted_for self.old ≡ taken_in self.old }
+        ensures whole { result ≡ true → accounted_for self.old ≡ taken_in self.old }
+        ensures shut { self.new.is_shut ≡ self.old.is_shut }
     {
         let none = self.share.empty();
         self.share.merge(none);

@@ -19,7 +19,7 @@ pub struct Hall {
     without_thread: AtomicUsize,
 }
 
-/// Shows by which ledger the guests of a hall are counted.
+/// Names the ledger by which whoever made a hall counts its guests.
 #[derive(Drop)]
 pub struct Guestbook<G: Ledger> {
     hall: Snapshot<Hall>,
@@ -27,7 +27,7 @@ pub struct Guestbook<G: Ledger> {
 }
 
 impl Hall {
-    /// A hall whose peers may be idle for so many seconds, 0 for ever. Its guests are counted by one ledger.
+    /// A hall whose peers may be idle for so many seconds, 0 for ever, and the ledger by which its guests are to be counted.
     pub fn new<G: Ledger>(idle: u32) -> (Hall, Guestbook<G>)
         ensures idle { result.0.idle ≡ idle }
         ensures of { IsGuestbookOf result.0 result.1 }
@@ -51,7 +51,8 @@ impl Hall {
         self.idle
     }
 
-    /// Ends the hall, where the door of its guests is shut: each session ends at its next turn, or where a write takes no byte.
+    /// Ends the hall, where a door of the ledger that its guestbook names is shut: then each session ends at its next turn, or where a write
+    /// takes no byte.
     pub fn end<G: Ledger>(&self, rt: &impl Wait, guestbook: &Guestbook<G>, door: &Door<G>)
         requires of { IsGuestbookOf self.now guestbook.now }
         requires shut { door.now.is_shut ≡ true }

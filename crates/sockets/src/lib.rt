@@ -55,13 +55,14 @@
 //! peer sends nothing more, since a read or a write failed, since the peer was idle for a second or longer, since it took no byte in 50 writes, since
 //! the hall had ended, or since there was no memory for a session, before anything was read or written; and where it ended in a write, a prefix of what was due is
 //! written. `serve_desks` gives its desks back in their order, each with the visits of those whom it served: it was asked just what their
-//! conversations ask, one after another. No connection waits for a thread that isn't free (the lobby's own invariant), and a shelf stays right
+//! conversations ask, one after another. No more connections wait than the lobby counts as free threads (its own invariant), and a shelf stays right
 //! of what its desk shows.
 //!
 //! A visit is what a connection was asked that is closed: `raw.rt` alone makes one, of a connection, and a list of visits, of such. Each peer has
 //! a part of a ledger (`door.rt`), which its visit brings back, or its turning away. So where all parts are back, nobody was dropped, and the visits are as many
 //! as came by the listener's calls (`specs/Attendance.antt`). Of those who were turned away nothing was read, and nothing was written to them.
-//! The hall's end, which cuts conversations, asks that the door is shut: nobody is let in after it.
+//! The hall's end, which cuts conversations, asks for a door that is shut, of the ledger that was named when the hall was made, and a door that is
+//! shut lets nobody in. That the hall's guests come by that door, and that no other call ends the hall, is the code.
 //!
 //! Tested, since no clause says it: that a connection is served where a desk is free, and that places are given again. So is which error of the listener is
 //! waited out: the listener is a parameter, so that a test can give one that fails. What `raw.rt` notes is what the system answered: its few lines are to be read.
