@@ -17,8 +17,8 @@ use std::rt::Files;
 
 /// A device over a file, of the length that the file had when it was opened.
 ///
-/// After a write or a sync that failed it fails every call until it is opened again, since a system may
-/// forget what a failed sync lost.
+/// After a write or a sync that failed it fails every call until it is opened again: a system may forget what a failed sync lost, and only
+/// opening makes what reads give and what the disk has one again.
 #[derive(Drop)]
 pub struct FileDisk<F: RawFile = HostFile> {
     file: F,
@@ -78,7 +78,8 @@ impl FileDisk {
     }
 
     /// Opens a file as a device of the file's length, and locks it: while another device of this file is there, in this program
-    /// or another one, that is refused. Nothing of it is read. Until a sync succeeds, nothing of it is known to be synced.
+    /// or another one, that is refused. Then the file is synced, and what the system holds of it in memory is dropped, so that reads give what
+    /// the disk has, whatever failed before. Nothing of it is read. Until a sync succeeds, nothing of it is known to be synced.
     pub fn open<R: Files<File = File>>(rt: &R, path: &str) -> Result<FileDisk, FileError>
         ensures past { IfOk result (λ disk. ⟦<FileDisk as Disk>⟧.past disk ≡ []) }
         ensures honest { IfOk result ⟦<FileDisk as Disk>⟧.honest }
@@ -91,7 +92,7 @@ impl FileDisk {
             Ok(metadata) => metadata.len(),
             Err(reason) => return Err(failed(Tried::Opening, reason)),
         };
-        Ok(FileDisk::over(HostFile::new(file), size))
+        Ok(FileDisk::over(HostFile::settled(file)?, size))
     }
 
     /// The first call on the file that failed since it was opened, and why; `None` where none has.

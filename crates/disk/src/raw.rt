@@ -1,11 +1,9 @@
 //! The calls of a file, one of the system each, noted with the answer.
 //!
 //! **What is not proved**, for a device over a file: that each method of `HostFile` makes the call that it
-//! notes, that what it notes at the opening is what the file holds, and that the system and its disk keep the model:
-//! nobody else writes the file, a read gives what was written (each promise on bytes that were read has this as its
-//! premise, `honest`), between two syncs that succeed only the ranges written in between can be lost, and a sync that
-//! succeeds has made them last. So the few lines of `HostFile` are to be read.
-ghost use Rattle.std.specs.Prelude.{◌≡◌, ◌∷◌, [], ℕ, List, length, OnOk, OnErr};
+//! notes, that what it notes at the opening is what the file's disk holds, and that the system and this disk keep the model.
+//! docs/PROMISES.md, "What is trusted", says what that asks of them. So the few lines of `HostFile` are to be read.
+ghost use Rattle.std.specs.Prelude.{◌≡◌, ◌∷◌, [], ℕ, List, length, IfOk, OnOk, OnErr};
 ghost use Rattle.disk.specs.Event.{Event, Opened, Read, FailedRead, Write, FailedWrite, Sync, FailedSync};
 
 use crate::Fault;
@@ -13,6 +11,7 @@ use crate::record::Record;
 use crate::tried::{FileError, Tried};
 use std::fs::{File, OpenFile};
 use std::io;
+use std::os::fd::AsRawFd;
 use std::os::unix::fs::FileExt;
 
 /// A file whose calls are kept, with their answers.
@@ -48,7 +47,7 @@ pub struct HostFile {
 impl HostFile {
     ghost use Rattle.disk.specs.Raw.{events_of};
 
-    /// A file that has been opened for reads and writes. Nothing is noted yet.
+    /// A file that was just made, opened for reads and writes. Nothing is noted yet.
     pub(crate) fn new(file: File) -> HostFile
         ensures { events_of result ≡ [] }
     {
@@ -56,6 +55,20 @@ impl HostFile {
             file,
             record: Record::new(),
             fault: None,
+        }
+    }
+
+    /// A file that was there, opened for reads and writes: it is synced, and the system drops its copies of what it holds, so that reads give
+    /// what the disk has. After a sync that failed, in any program, the two may differ: the system calls pages written that the disk lacks.
+    pub(crate) fn settled(file: File) -> Result<HostFile, FileError>
+        ensures { IfOk result (λ file. events_of file ≡ []) }
+    {
+        match settle(&file) {
+            Ok(()) => Ok(HostFile::new(file)),
+            Err(reason) => Err(FileError {
+                tried: Tried::Syncing,
+                reason,
+            }),
         }
     }
 
@@ -72,6 +85,15 @@ impl HostFile {
             self.fault = Some(FileError { tried, reason });
         }
         Fault
+    }
+}
+
+// Syncs a file, and has the system drop its copies of all pages, which it does with those that are written.
+fn settle(file: &File) -> io::Result<()> {
+    file.sync_data()?;
+    match libc::posix_fadvise(file.as_raw_fd(), 0, 0, libc::POSIX_FADV_DONTNEED) {
+        0 => Ok(()),
+        reason => Err(io::Error::from_raw_os_error(reason)),
     }
 }
 
