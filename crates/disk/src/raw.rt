@@ -1,9 +1,9 @@
-//! The calls of a file, one of the system each, noted with the answer.
+//! The calls of a file, noted with the answer.
 //!
 //! **What is not proved**, for a device over a file: that each method of `HostFile` makes the call that it
-//! notes, that what it notes at the opening is what the file's disk holds, and that the system and this disk keep the model.
+//! notes, that what `settle` notes is what the file's disk holds, and that the system and this disk keep the model.
 //! docs/PROMISES.md, "What is trusted", says what that asks of them. So the few lines of `HostFile` are to be read.
-ghost use Rattle.std.specs.Prelude.{◌≡◌, ◌∷◌, [], ℕ, List, length, IfOk, OnOk, OnErr};
+ghost use Rattle.std.specs.Prelude.{◌≡◌, ◌∷◌, [], ℕ, List, length, OnOk, OnErr};
 ghost use Rattle.disk.specs.Event.{Event, Opened, Read, FailedRead, Write, FailedWrite, Sync, FailedSync};
 
 use crate::Fault;
@@ -19,9 +19,12 @@ pub trait RawFile: Drop {
     /// The calls and their answers, newest first.
     ghost events: { Self → List Event };
 
-    /// Notes what a file of this length holds as it is opened. No clause says which bytes these are, and none is read.
-    fn note_opened(&mut self, len: u64)
-        ensures { (bytes : List ℕ) × ((length bytes ≡ len) × (events self.new ≡ Opened bytes ∷ events self.old)) };
+    /// Syncs a file of this length that was just opened, has the system drop its copies of what it holds, and notes that: what the disk has.
+    /// After a sync that failed, in any program, the system may call pages written that the disk lacks, and reads would give these. No clause
+    /// says which bytes the file holds, and none is read.
+    fn settle(&mut self, len: u64) -> Result<(), Fault>
+        ensures good { OnOk result
+            ((bytes : List ℕ) × ((length bytes ≡ len) × (events self.new ≡ Opened bytes ∷ events self.old))) };
 
     fn read_at(&mut self, at: u64, out: &mut [u8]) -> Result<(), Fault>
         ensures good { OnOk result (events self.new ≡ Read at out.new ∷ events self.old) }
@@ -47,7 +50,7 @@ pub struct HostFile {
 impl HostFile {
     ghost use Rattle.disk.specs.Raw.{events_of};
 
-    /// A file that was just made, opened for reads and writes. Nothing is noted yet.
+    /// A file that has been opened for reads and writes. Nothing is noted yet.
     pub(crate) fn new(file: File) -> HostFile
         ensures { events_of result ≡ [] }
     {
@@ -55,20 +58,6 @@ impl HostFile {
             file,
             record: Record::new(),
             fault: None,
-        }
-    }
-
-    /// A file that was there, opened for reads and writes: it is synced, and the system drops its copies of what it holds, so that reads give
-    /// what the disk has. After a sync that failed, in any program, the two may differ: the system calls pages written that the disk lacks.
-    pub(crate) fn settled(file: File) -> Result<HostFile, FileError>
-        ensures { IfOk result (λ file. events_of file ≡ []) }
-    {
-        match settle(&file) {
-            Ok(()) => Ok(HostFile::new(file)),
-            Err(reason) => Err(FileError {
-                tried: Tried::Syncing,
-                reason,
-            }),
         }
     }
 
@@ -89,7 +78,7 @@ impl HostFile {
 }
 
 // Syncs a file, and has the system drop its copies of all pages, which it does with those that are written.
-fn settle(file: &File) -> io::Result<()> {
+fn synced_and_dropped(file: &File) -> io::Result<()> {
     file.sync_data()?;
     match libc::posix_fadvise(file.as_raw_fd(), 0, 0, libc::POSIX_FADV_DONTNEED) {
         0 => Ok(()),
@@ -102,8 +91,14 @@ impl RawFile for HostFile {
 
     ghost events = { events_of };
 
-    fn note_opened(&mut self, len: u64) {
-        self.record.note_opened(len);
+    fn settle(&mut self, len: u64) -> Result<(), Fault> {
+        match synced_and_dropped(&self.file) {
+            Ok(()) => {
+                self.record.note_opened(len);
+                Ok(())
+            }
+            Err(reason) => Err(self.keep(Tried::Syncing, reason)),
+        }
     }
 
     fn read_at(&mut self, at: u64, out: &mut [u8]) -> Result<(), Fault> {
