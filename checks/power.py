@@ -16,7 +16,6 @@ It takes the superuser, whose mounts nobody else sees, and is skipped without; s
 
 Run ./demo first, which builds crates/richd/out/richd, or name another program in RICHD. The disks lie in a temporary folder (TMPDIR).
 """
-import contextlib
 import ctypes
 import fcntl
 import os
@@ -65,31 +64,27 @@ def run(*words):
     return ended.stdout
 
 
-@contextlib.contextmanager
-def disk_of(kind):
-    """A disk with a file system of this kind, mounted."""
-    with tempfile.TemporaryDirectory() as folder:
-        disk = Disk(folder)
-        try:
-            run(*MAKE[kind], disk.image)
-            disk.mount()
-            yield disk
-        finally:
-            subprocess.run(["umount", disk.top], capture_output=True, timeout=PATIENCE)
-
-
 class Disk:
     """A file, and the loop device over it while it is mounted, which the system frees then."""
 
     def __init__(self, folder):
         self.image, self.top = os.path.join(folder, "disk"), os.path.join(folder, "top")
         os.mkdir(self.top)
+
+    def make(self, kind):
+        """Makes a file system of this kind, in place of what was there, and mounts it."""
+        self.unmount()
         with open(self.image, "wb") as image:
             image.truncate(SIZE)
+        run(*MAKE[kind], self.image)
+        self.mount()
 
     def mount(self):
         run("mount", "-o", "loop", self.image, self.top)
         self.device = run("findmnt", "--noheadings", "--output", "SOURCE", self.top).strip()
+
+    def unmount(self, *options):
+        subprocess.run(["umount", *options, self.top], capture_output=True, timeout=PATIENCE)
 
     def begin_of(self, path):
         """The first byte of the disk that belongs to this file."""
@@ -111,10 +106,6 @@ class Disk:
             fcntl.ioctl(top, FS_IOC_SHUTDOWN, struct.pack("<I", WITHOUT_FLUSH))
         finally:
             os.close(top)
-
-    def mount_anew(self):
-        run("umount", self.top)
-        self.mount()
 
 
 class Unit(threading.Thread):
@@ -178,14 +169,14 @@ class Round:
 
     def play(self):
         try:
-            with disk_of(self.kind) as disk:
-                self.play_on(disk, *SHAPES[self.number % len(SHAPES)])
+            disk.make(self.kind)
+            self.live_on(*SHAPES[self.number % len(SHAPES)])
         except AssertionError as difference:
             self.difference = str(difference).strip()
         finally:
             self.place.ends.set()
 
-    def play_on(self, disk, shape, options):
+    def live_on(self, shape, options):
         store = os.path.join(disk.top, "store")
         run(richd, "format", store, "--cell", CELL, *shape)
         begin = disk.begin_of(store)
@@ -205,7 +196,8 @@ class Round:
                 disk.cut_power()
             while not all(writer.is_cut for writer in self.writers):
                 time.sleep(0.01)
-            disk.mount_anew()
+            disk.unmount()
+            disk.mount()
             self.look(store)
 
     def replies(self):
@@ -239,14 +231,14 @@ class Round:
 def why_not(kind):
     """Why this file system can't be tried here, or None."""
     try:
-        with disk_of(kind) as disk:
-            path = os.path.join(disk.top, "file")
-            with open(path, "wb") as file:
-                file.write(bytes(SECTOR))
-                os.fsync(file.fileno())
-            disk.limit(disk.begin_of(path))
-            disk.limit(0)
-            disk.cut_power()
+        disk.make(kind)
+        path = os.path.join(disk.top, "file")
+        with open(path, "wb") as file:
+            file.write(bytes(SECTOR))
+            os.fsync(file.fileno())
+        disk.limit(disk.begin_of(path))
+        disk.limit(0)
+        disk.cut_power()
     except (AssertionError, OSError) as reason:
         return reason
     return None
@@ -282,11 +274,16 @@ for number in (signal.SIGTERM, signal.SIGHUP):
     signal.signal(number, lambda *_: sys.exit("interrupted"))
 run("mount", "--make-rprivate", "/")
 played = []
-for kind in kinds:
-    if (reason := why_not(kind)) is not None:
-        print(f"skipped {kind}: {reason}", flush=True)
-    else:
-        played += play_all(kind)
+with tempfile.TemporaryDirectory() as folder:
+    disk = Disk(folder)
+    try:
+        for kind in kinds:
+            if (reason := why_not(kind)) is not None:
+                print(f"skipped {kind}: {reason}", flush=True)
+            else:
+                played += play_all(kind)
+    finally:
+        disk.unmount("--lazy")  # a server that still has it open ends with this script
 is_good = all(it.is_good() for it in played)
 print(f"{'ok' if is_good else 'FAILED'}: {told(played)}" if played else "skipped: no file system can be tried here")
 sys.exit(0 if is_good else 1)
