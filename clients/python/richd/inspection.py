@@ -8,7 +8,7 @@ from typing import Dict, Iterator, List, NamedTuple, Tuple
 from .folding import EMPTY, State, after, state_of
 from .progress import Progress, silent
 from .served import StoreFile
-from .spelling import HEAD, Damaged, cell_of, entries, weight
+from .spelling import CREATED_AGAIN, DELETED, HEAD, Damaged, cell_of, entries, weight
 
 
 class Held(NamedTuple):
@@ -44,6 +44,8 @@ def states_in(file: StoreFile, progress: Progress = silent) -> Held:
             for row in made.get(doc, []):
                 if row[0] > state.rev:
                     state = after(state, *row)
+                    if row[1] in (DELETED, CREATED_AGAIN):
+                        floors[doc] = state.rev  # of what a deletion ended nothing is held
             ways.append(state)
         if any(way != ways[-1] for way in ways):
             faults.append(f"{names[doc]} isn't the same by both of its milestones")

@@ -112,7 +112,7 @@ class Database:
         try:
             if self.is_postgres:
                 with self._connection.cursor() as cursor:
-                    cursor.execute(self._said(sql), values)
+                    cursor.execute(self._said(sql), values or None)
                     return int(cursor.rowcount)
             self._begin()
             return int(self._connection.execute(sql, values).rowcount)
@@ -139,7 +139,7 @@ class Database:
         try:
             if self.is_postgres:
                 with self._connection.cursor() as cursor:
-                    cursor.execute(self._said(sql), values)
+                    cursor.execute(self._said(sql), values or None)
                     return [tuple(bytes(it) if isinstance(it, memoryview) else it for it in row) for row in cursor.fetchall()]
             return list(self._connection.execute(sql, values))
         except self._broken as fault:
