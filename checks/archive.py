@@ -338,7 +338,7 @@ def crashed(folder, database, ring, count, library):
 
 
 def moved(folder, database):
-    with Row(folder, database, ["--slots", "8", "--slot", "65536"], docs=128) as row:
+    with Row(folder, database, WIDE, docs=128) as row:
         _copied(row)
         _put_back(row)
         _restored(row)
@@ -370,6 +370,7 @@ def _copied(row):
     row.kill_server()
     until(lambda: row.ask("SELECT count(*) FROM files")[0][0] == 2, "the archiver sees the other file")
     row.kill_archiver()
+    row.archive_rest()
     subprocess.run([richd, "copy", row.store, larger, "--slots", "4"], check=True)
     os.rename(larger, row.store)
     row.compare()

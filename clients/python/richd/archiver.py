@@ -21,7 +21,7 @@ from .tables import ArchiveError, Database, Row, Stolen
 
 EVERY = 400  # revisions of a document from one snapshot to the next, at least
 ROUND = 8 << 20  # bytes of records that one transaction takes
-PORTION = 40  # batches that are made revisions at once, while records wait
+PORTION = 200  # batches that are made revisions at once, while records wait
 MOST_HELD = 256 << 20  # bytes of records that wait in memory for the database
 CHECK = 0.5  # seconds: so often is looked whether the path still names the file
 PAGE = 5_000  # rows that are asked for at once
@@ -289,11 +289,14 @@ class Archiver:
         """Keeps records as they are, with the place behind them, in one transaction."""
         batch = self._batch
         rows: List[Row] = []
+        bodies: List[Row] = []
         for part in parts:
             for segment, place, body in part.records:
                 batch += 1
-                rows.append((batch, self._number, segment, place, digest(body), part.after, part.seen, body))
+                rows.append((batch, self._number, segment, place, digest(body), part.after, part.seen))
+                bodies.append((batch, body))
         self._database.put("batches", rows)
+        self._database.put("waiting", bodies)
         self._at = parts[-1].at
         self._keep_place(parts[-1].began)
         self._database.commit()
@@ -438,9 +441,9 @@ class Archiver:
         self._settle(found)
         base, file = self._batch + 1, self._number + 1
         self._database.put("files", [(file, self._path, *self._file.shape, now, why, base, base + len(found.records))])
-        rows: List[Row] = [(base, file, 0, 0, b"", self._looked, now, None)]
+        rows: List[Row] = [(base, file, 0, 0, b"", self._looked, now)]
         for index, (segment, place, body) in enumerate(found.records, base + 1):
-            rows.append((index, file, segment, place, digest(body), self._looked, now, None))
+            rows.append((index, file, segment, place, digest(body), self._looked, now))
         self._database.put("batches", rows)
         revisions = gaps = 0
         for doc in found.docs:

@@ -88,10 +88,10 @@ def unfold(database: Database, most: int = 0, progress: Progress = silent) -> in
     """Makes revisions of batches that are held as bytes, of so many at most (0: of all), and returns of how many. Each revision has to be its
     document's next one; where one isn't, the bytes stay, and Damaged is raised."""
     done = 0
-    waiting = None if progress is silent else database.one("SELECT count(*) FROM batches WHERE body IS NOT NULL")[0]
+    waiting = None if progress is silent else database.one("SELECT count(*) FROM waiting")[0]
     while True:
         database.run("UPDATE at SET one = 1")  # whoever does this, or takes batches, does it alone
-        found = database.all("SELECT batch, body FROM batches WHERE body IS NOT NULL ORDER BY batch LIMIT ?", (most or ROUND,))
+        found = database.all("SELECT batch, body FROM waiting ORDER BY batch LIMIT ?", (most or ROUND,))
         if found:
             _unfold(database, found)
         database.commit()
@@ -122,4 +122,4 @@ def _unfold(database: Database, found: List[Tuple[Any, ...]]) -> None:
     database.put("revisions", rows)
     for doc, rev in raised.items():
         database.run("UPDATE documents SET newest = ? WHERE doc = ?", (rev, doc))
-    database.run("UPDATE batches SET body = NULL WHERE body IS NOT NULL AND batch <= ?", (found[-1][0],))
+    database.run("DELETE FROM waiting WHERE batch <= ?", (found[-1][0],))

@@ -94,10 +94,9 @@ def entries(body: bytes) -> Tuple[List[Entry], Dict[int, str]]:
         at = 4
         for _ in range(_u32(body)[0]):
             kind, doc, rev, size = _entry(body, at)
-            at += 15 + size
-            source = _source(body[at - size : at])
-            number = _u64(body, at)[0]
-            at += 8
+            end = at + 15 + size
+            spelled, number = body[at + 15 : end], _u64(body, end)[0]
+            at = end + 8
             if kind == CREATED:
                 created[doc], at = _text16(body, at)
             if kind == DELETED:
@@ -106,7 +105,7 @@ def entries(body: bytes) -> Tuple[List[Entry], Dict[int, str]]:
                 delta, at = delta_text(body, at)
             else:
                 raise Damaged(f"an entry of kind {kind}")
-            made.append(Entry(doc, rev, kind, source, number, delta))
+            made.append(Entry(doc, rev, kind, _names.get(spelled) or _source(spelled), number, delta))
     except (struct.error, IndexError, UnicodeDecodeError) as fault:
         raise Damaged(f"a batch: {fault}") from None
     if at != len(body):
@@ -115,11 +114,9 @@ def entries(body: bytes) -> Tuple[List[Entry], Dict[int, str]]:
 
 
 def _source(spelled: bytes) -> str:
-    name = _names.get(spelled)
-    if name is None:
-        if len(_names) >= _MOST_NAMES:
-            _names.clear()
-        name = _names[spelled] = spelled.decode()
+    if len(_names) >= _MOST_NAMES:
+        _names.clear()
+    name = _names[spelled] = spelled.decode()
     return name
 
 
@@ -133,25 +130,25 @@ def delta_text(body: bytes, at: int) -> Tuple[str, int]:
         if kind == 3:
             size, attributes = _length_and_count(body, at + 1)
             at += 13
-            if not attributes:
-                made.append(f'{{"retain":{size}}}')
-                continue
-            spelled, at = _attributes(body, at, attributes)
-            made.append(f'{{"attributes":{spelled},"retain":{size}}}')
+            what = f'"retain":{size}}}'
+        elif kind == 1:
+            end = at + 5 + _u32(body, at + 1)[0]
+            what = f'"insert":{quoted(body[at + 5 : end].decode())}}}'
+            attributes = _u32(body, end)[0]
+            at = end + 4
         elif kind == 4:
-            made.append(f'{{"delete":{_u64(body, at + 1)[0]}}}')
+            what, attributes = f'"delete":{_u64(body, at + 1)[0]}}}', 0
             at += 9
-        elif kind in (1, 2):
-            content, at = _text32(body, at + 1) if kind == 1 else _embed(body, at + 1)
-            attributes = _u32(body, at)[0]
+        elif kind == 2:
+            content, at = _embed(body, at + 1)
+            what, attributes = f'"insert":{content}}}', _u32(body, at)[0]
             at += 4
-            if not attributes:
-                made.append(f'{{"insert":{content}}}')
-                continue
-            spelled, at = _attributes(body, at, attributes)
-            made.append(f'{{"attributes":{spelled},"insert":{content}}}')
         else:
             raise Damaged(f"an operation of kind {kind}")
+        if attributes:
+            spelled, at = _attributes(body, at, attributes)
+            what = f'"attributes":{spelled},{what}'
+        made.append("{" + what)
     return "[" + ",".join(made) + "]", at
 
 

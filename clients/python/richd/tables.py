@@ -2,8 +2,8 @@
 
     files      what was followed: its path and numbers, when it was joined and why, and the first and last batch that this gave
     at         one row: the file, the place of its next record, whose turn it is to write, and when was last looked
-    batches    the committed order: where each record stood, its digest, the look before (`after`) and the one that saw it; the bytes
-               (`body`) until they are rows of `revisions`
+    batches    the committed order: where each record stood, its digest, the look before (`after`) and the one that saw it
+    waiting    the bytes of batches that aren't rows of `revisions` yet
     documents  number, name and newest revision
     revisions  what made each revision; `kind` as in docs/FORMATS.md, `delta` as JSON
     snapshots  milestones of the server, as it spelled them
@@ -31,8 +31,8 @@ CREATE TABLE files (file INTEGER PRIMARY KEY, path TEXT NOT NULL, slots INTEGER 
 CREATE TABLE at (one INTEGER PRIMARY KEY, file INTEGER NOT NULL, segment INTEGER, place INTEGER, turn INTEGER NOT NULL,
     looked REAL NOT NULL);
 CREATE TABLE batches (batch INTEGER PRIMARY KEY, file INTEGER NOT NULL, segment INTEGER NOT NULL, place INTEGER NOT NULL,
-    digest BLOB NOT NULL, after REAL, seen REAL NOT NULL, body BLOB);
-CREATE INDEX folded ON batches (batch) WHERE body IS NOT NULL;
+    digest BLOB NOT NULL, after REAL, seen REAL NOT NULL);
+CREATE TABLE waiting (batch INTEGER PRIMARY KEY, body BLOB NOT NULL);
 CREATE TABLE documents (doc INTEGER PRIMARY KEY, name TEXT NOT NULL UNIQUE, newest INTEGER NOT NULL);
 CREATE TABLE revisions (doc INTEGER NOT NULL, rev INTEGER NOT NULL, kind INTEGER NOT NULL, source TEXT NOT NULL, number INTEGER NOT NULL,
     delta TEXT NOT NULL, batch INTEGER NOT NULL, PRIMARY KEY (doc, rev)) WITHOUT ROWID;
@@ -45,7 +45,7 @@ CREATE TABLE restores (doc INTEGER NOT NULL, rev INTEGER NOT NULL, shows INTEGER
     body BLOB NOT NULL, PRIMARY KEY (doc, rev));
 CREATE TABLE notes (noted REAL NOT NULL, what TEXT NOT NULL);
 """
-COLUMNS = {"files": 12, "batches": 8, "documents": 3, "revisions": 7, "snapshots": 4, "gaps": 5, "aside": 9, "restores": 6, "notes": 2}
+COLUMNS = {"files": 12, "batches": 7, "waiting": 2, "documents": 3, "revisions": 7, "snapshots": 4, "gaps": 5, "aside": 9, "restores": 6, "notes": 2}
 # What PostgreSQL spells otherwise than SQLite.
 SPELLINGS = (("?", "%s"), (" BLOB", " BYTEA"), (" REAL", " DOUBLE PRECISION"), (" INTEGER", " BIGINT"), (" WITHOUT ROWID", ""))
 
@@ -98,6 +98,7 @@ class Database:
         self._connection = sqlite3.connect(self.name, isolation_level=None, timeout=60)
         self._connection.execute("PRAGMA journal_mode=WAL")
         self._connection.execute("PRAGMA synchronous=FULL")
+        self._connection.execute("PRAGMA wal_autocheckpoint=4000")  # pages: the same ones are written again and again
 
     def _is_there(self) -> bool:
         if self.is_postgres:
