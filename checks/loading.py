@@ -1,8 +1,9 @@
-"""Writers that put words into the documents of a server, and what came of each: for soak.py and stopped.py.
+"""Writers that put words into the documents of a server, and what came of each: for soak.py, stopped.py, backup.py and archive.py.
 
 A word is used once, so it is found again in what a store holds. Each writer is a source of its own with one session at a time. What had no
 reply when its session ended it sends again in the next one, with the numbers of before.
 """
+import copy
 import json
 import random
 import socket
@@ -11,6 +12,7 @@ import sys
 import threading
 import time
 from pathlib import Path
+from types import SimpleNamespace
 
 sys.path.insert(0, str(Path(__file__).resolve().parent.parent / "clients/python"))
 
@@ -346,6 +348,31 @@ def agrees(found, writers):
             assert len(held) == len(set(held)), f"{doc} holds a word twice"
             assert set(held) <= may_be[doc], f"{doc} holds {set(held) - may_be[doc]}, which nobody sent, or was taken back"
     return acknowledged
+
+
+def snapshot(writer):
+    """What a writer was answered by now. A reply that it takes in meanwhile may be missing, and a command that it sends."""
+    return SimpleNamespace(source=writer.source, commands={doc: [copy.copy(command) for command in list(sent)] for doc, sent in list(writer.commands.items())})
+
+
+def agrees_with(found, before, after):
+    """What was acknowledged before the stop is there. What may be there besides is known once the writers have gone on."""
+    for early, late in zip(before, after):
+        for doc, sent in early.commands.items():
+            known = {id_of(command) for command in sent if command.rev is not None}
+            for command in late.commands[doc]:
+                if id_of(command) not in known:
+                    command.rev, command.code = None, None  # on its way, or later
+            late.commands[doc] = [command for command in late.commands[doc] if command.code is None]
+        for doc in late.commands:
+            if doc not in early.commands:
+                for command in late.commands[doc]:
+                    command.rev, command.code = None, None
+    return agrees(found, after)
+
+
+def id_of(command):
+    return command.message["n"], command.message["do"], command.word
 
 
 def dumped(path, *options):
