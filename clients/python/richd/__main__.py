@@ -19,6 +19,7 @@ from .owner import TIMEOUT
 from .spelling import StoreError
 
 Address = Tuple[str, int]
+WRITTEN = ".health"  # the document, and the source, of `health --write`
 
 
 def main(words: List[str]) -> int:
@@ -53,6 +54,7 @@ def _add(commands: Any) -> None:
     """Adds the commands that ask a server."""
     health = commands.add_parser("health", help="asks whether commands would be taken, and writes nothing; status 0 if so, else 1")
     health.set_defaults(action=_health)
+    health.add_argument("--write", action="store_true", help=f"makes an edit of the document {WRITTEN} besides, under the source of this name")
     cat = commands.add_parser("cat", help="prints a document's text")
     cat.set_defaults(action=_cat)
     put = commands.add_parser("put", help="makes a document, or changes it, so that its text is what standard input holds")
@@ -84,6 +86,8 @@ def _address(word: str) -> Address:
 
 def _health(options: argparse.Namespace) -> int:
     state = health(options.address, options.timeout)
+    if state == "healthy" and options.write:
+        state = written(options.address, options.timeout)
     print(state)
     return 0 if state == "healthy" else 1
 
@@ -117,6 +121,27 @@ def health(address: Address, timeout: float) -> str:
     if len(replies) == 2 and replies[0].get("ok") == "hello" and isinstance(codes[1], int):
         return "healthy"
     return f"no richd: it answers {came[:100]!r}"
+
+
+def written(address: Address, timeout: float) -> str:
+    """Tells whether a server takes an edit in time: one whose disk hangs answers all else. The edit changes nothing, and is a revision."""
+    try:
+        with connect(*address, source=WRITTEN, timeout=timeout) as client:
+            try:
+                client.edit(WRITTEN, [], client.fetch(WRITTEN).rev)
+            except Refused as refusal:
+                if refusal.code not in (messages.NO_DOCUMENT, messages.DELETED):
+                    raise
+                client.create(WRITTEN, [])
+    except Refused as refusal:
+        return f"refuses an edit: {refusal}"
+    except Unexpected:
+        return f"in doubt: another program writes as {WRITTEN} at the same time"
+    except TimeoutError:
+        return f"hangs: it answers, and an edit takes longer than {timeout:g} seconds"
+    except (Closed, OSError) as error:
+        return f"unreachable: {error}"
+    return "healthy"
 
 
 def _reply(line: bytes) -> Message:
