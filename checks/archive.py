@@ -10,6 +10,7 @@ store commits. Each row is run with SQLite, and with PostgreSQL, where its progr
   round while no archiver runs: then the archive has to say which revisions it missed.
 - **crashes**: server and archiver end at once, and of what no sync has followed each write stays, is lost, or leaves other bytes (noting.c notes
   writes and syncs, and makes syncs slow, so that gates stand open unsynced for long). From what is left both start again.
+- **failed syncs**: the server ends by a sync that fails (refuse.c), and starts again, over what the file then holds.
 - **moves**: the store is copied to a larger one under the archiver, and while none runs; an older copy is put back, which has to be refused;
   the machine is lost, and a store is restored of the archive, whose clients go on; two archivers run at once.
 
@@ -34,7 +35,7 @@ import sys
 import tempfile
 import time
 
-from loading import PATIENCE, Place, Session, Writer, dumped, richd
+from loading import PATIENCE, Cut, Place, Session, Writer, dumped, richd
 
 HERE = os.path.dirname(os.path.abspath(__file__))
 CLIENT = os.pathsep.join([os.path.join(HERE, "../clients/python"), *filter(None, [os.environ.get("PYTHONPATH")])])
@@ -46,7 +47,7 @@ crashes = int(sys.argv[2]) if len(sys.argv) > 2 else 150
 AT_ONCE = 6  # writers
 WIDE = ["--slots", "16", "--slot", "1048576"]
 SMALL = ["--slots", "3", "--slot", "8192"]
-GAP, TOO_OLD = 9, 13
+TOO_OLD, STORE_FAILED = 13, 21
 drawn = random.Random(7)
 
 
@@ -76,6 +77,15 @@ def put_back(one, other):
         shutil.copyfileobj(file, into, 1 << 20)
 
 
+class Typist(Writer):
+    """A writer for whom a store that failed is one whose server has ended."""
+
+    def settle(self, doc, command, reply):
+        if reply.get("code") == STORE_FAILED:
+            raise Cut
+        super().settle(doc, command, reply)
+
+
 class Row:
     """A store with its writers and its archive, in a folder of its own. Ends what it has started."""
 
@@ -83,7 +93,7 @@ class Row:
         self.folder = tempfile.mkdtemp(dir=folder)
         self.store, self.database, self.every = os.path.join(self.folder, "store"), database or os.path.join(self.folder, "archive"), every
         self.place = Place(pause=0.01)
-        self.writers = [Writer(number, self.place) for number in range(AT_ONCE)]
+        self.writers = [Typist(number, self.place) for number in range(AT_ONCE)]
         self.server = self.archiver = None
         self.variables = {}
         subprocess.run([richd, "format", self.store, "--docs", str(docs), "--cell", "65536", *ring], check=True)
@@ -101,9 +111,10 @@ class Row:
             said = os.path.join(self.folder, "said")
             print(f"{self.folder}: {open(said).read()[-2000:] if os.path.exists(said) else ''}")
 
-    def serve(self):
-        words = [richd, "serve", self.store, "--listen", f"127.0.0.1:{self.place.port}", "--every", str(drawn.choice(self.every))]
-        self.server = subprocess.Popen(words, stdout=subprocess.PIPE, text=True, env={**os.environ, **self.variables})
+    def serve(self, *options):
+        words = [richd, "serve", self.store, "--listen", f"127.0.0.1:{self.place.port}", "--every", str(drawn.choice(self.every)), *options]
+        with open(os.path.join(self.folder, "said"), "a") as said:
+            self.server = subprocess.Popen(words, stdout=subprocess.PIPE, stderr=said, text=True, env={**os.environ, **self.variables})
         assert self.server.stdout.readline().startswith("listening "), "the store doesn't open"
 
     def kill_server(self):
@@ -161,7 +172,7 @@ class Row:
     def write_again(self):
         """The writers go on with what they know."""
         self.place.ends.clear()
-        before, self.writers = self.writers, [Writer(number, self.place) for number in range(AT_ONCE)]
+        before, self.writers = self.writers, [Typist(number, self.place) for number in range(AT_ONCE)]
         for writer, known in zip(self.writers, before):
             for name in ("drawn", "commands", "base", "numbers", "words", "placed"):
                 setattr(writer, name, getattr(known, name))
@@ -337,6 +348,39 @@ def crashed(folder, database, ring, count, library):
     return (f"{count} crashes, {machine.pending} writes unsynced, {machine.lost} lost, {machine.garbled} garbled, {machine.gates} gates among them: {told}")
 
 
+def failed(folder, database, count, library):
+    with Row(folder, database, WIDE, docs=256) as row:
+        row.serve()
+        row.begin_to_archive()
+        row.write()
+        row.go_on(20)
+        refusal = {"LD_PRELOAD": library, "REFUSE_KIND": "sync", "REFUSE_HOW": "none", "REFUSE_STORE": row.store}
+        for _ in range(count):
+            row.kill_server()
+            counted = os.path.join(row.folder, "count")
+            with open(counted, "wb") as file:
+                file.write(bytes(16))
+            row.variables = {**refusal, "REFUSE_COUNT": counted, "REFUSE_AT": str(drawn.randrange(3, 200))}
+            row.serve("--exit-on-failure")
+            until(lambda: row.server.poll() is not None, "a sync fails, and the server ends")
+            row.variables = {}
+            row.kill_server()
+            row.serve()
+            row.go_on(drawn.choice((1, 10, 40)))
+        row.stop_writing()
+        row.kill_server()
+        row.kill_archiver()
+        told = row.compare()
+    return f"{count} failed: {told}"
+
+
+def built(folder, name):
+    """What is preloaded into the server."""
+    library = os.path.join(folder, name + ".so")
+    subprocess.run(["cc", "-shared", "-fPIC", "-O2", "-o", library, os.path.join(HERE, name + ".c"), "-ldl", "-lpthread"], check=True)
+    return library
+
+
 def moved(folder, database):
     with Row(folder, database, WIDE, docs=128) as row:
         _copied(row)
@@ -510,8 +554,7 @@ def postgres(folder):
 
 def main():
     with tempfile.TemporaryDirectory() as folder, postgres(folder) as postgres_url:
-        library = os.path.join(folder, "noting.so")
-        subprocess.run(["cc", "-shared", "-fPIC", "-O2", "-o", library, os.path.join(HERE, "noting.c"), "-ldl"], check=True)
+        library, refusing = built(folder, "noting"), built(folder, "refuse")
         if postgres_url is None:
             print("skipped  PostgreSQL: its programs, or psycopg2 of this Python, aren't there")
         for name, new in (("SQLite", lambda: None), ("PostgreSQL", postgres_url)):
@@ -521,6 +564,7 @@ def main():
             print(f"{name}, kills, a small one: {killed(folder, new(), SMALL, kills // 2)}", flush=True)
             print(f"{name}, crashes: {crashed(folder, new(), ['--slots', '8', '--slot', '65536'], crashes, library)}", flush=True)
             print(f"{name}, crashes, a small one: {crashed(folder, new(), SMALL, crashes, library)}", flush=True)
+            print(f"{name}, failed syncs: {failed(folder, new(), max(1, crashes // 5), refusing)}", flush=True)
             print(f"{name}, moves: {moved(folder, new())}", flush=True)
     rows = 1 if postgres_url is None else 2
     print(f"ok: {rows * (kills + kills // 2)} kills and {2 * rows * crashes} crashes in {'SQLite' if rows == 1 else 'SQLite and PostgreSQL'}, missing 0, twice 0")

@@ -57,8 +57,15 @@ def document(database: Database, name: str) -> Tuple[int, int]:
 
 
 def batch_at(database: Database, moment: float) -> int:
-    """The last batch that was seen at a moment or before it, 0 where there was none."""
-    return int(database.one("SELECT max(batch) FROM batches WHERE seen <= ?", (moment,))[0] or 0)
+    """The last batch that was seen at a moment or before it, 0 where there was none. Times rise with the batches, so halving finds it."""
+    low, high = 0, int(database.one("SELECT max(batch) FROM batches")[0] or 0)
+    while low < high:
+        middle = (low + high + 1) // 2
+        if database.one("SELECT seen FROM batches WHERE batch <= ? ORDER BY batch DESC LIMIT 1", (middle,))[0] <= moment:
+            low = middle
+        else:
+            high = middle - 1
+    return low
 
 
 def revision_at(database: Database, name: str, when: Optional[When]) -> Tuple[int, int]:

@@ -18,6 +18,7 @@ from .delta import Delta, text
 from .difference import difference
 from .folding import Unknown
 from .progress import Progress, printed, silent
+from .served import StoreFile
 from .tables import Database
 
 AGO = {"s": 1, "m": 60, "h": 3_600, "d": 86_400}
@@ -103,6 +104,7 @@ def _archive(options: argparse.Namespace) -> int:
         if not options.quiet:
             print(line, file=sys.stderr, flush=True)
 
+    StoreFile(options.store).close()  # before a database is made
     archiver = Archiver(options.store, Database(options.database, make=True), options.accept, say, _progress(options))
     archiver.run(options.follow, options.pause / 1000, options.lag)
     counts = archiver.counts

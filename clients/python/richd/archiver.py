@@ -21,7 +21,7 @@ from .tables import ArchiveError, Database, Row, Stolen
 
 EVERY = 400  # revisions of a document from one snapshot to the next, at least
 ROUND = 8 << 20  # bytes of records that one transaction takes
-PORTION = 200  # batches that are made revisions at once, while records wait
+PORTION = 40  # batches that are made revisions at once, while records wait
 MOST_HELD = 256 << 20  # bytes of records that wait in memory for the database
 CHECK = 0.5  # seconds: so often is looked whether the path still names the file
 PAGE = 5_000  # rows that are asked for at once

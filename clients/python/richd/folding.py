@@ -79,9 +79,11 @@ def state_at(database: Database, doc: int, rev: int) -> State:
 
 def newest_at(database: Database, doc: int, batch: int) -> Optional[int]:
     """The newest revision of a document once a batch was taken, None where it wasn't there or isn't known."""
-    one = database.one("SELECT max(rev) FROM revisions WHERE doc = ? AND batch <= ?", (doc, batch))[0]
-    other = database.one("SELECT max(rev) FROM snapshots WHERE doc = ? AND batch <= ?", (doc, batch))[0]
-    return max(one or 0, other or 0) or None
+    found = [0]
+    for table in ("revisions", "snapshots"):
+        row = database.one(f"SELECT rev FROM {table} WHERE doc = ? AND batch <= ? ORDER BY rev DESC LIMIT 1", (doc, batch))
+        found += row or ()
+    return max(found) or None
 
 
 def unfold(database: Database, most: int = 0, progress: Progress = silent) -> int:

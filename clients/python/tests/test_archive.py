@@ -106,7 +106,8 @@ class Asked(Archived):
         with open(self.archive + ".empty", "w"):
             self.assertIn("there is no archive in it", self.refused("history", self.archive + ".empty", "d"))
         self.assertIn("30 NotFormatted", self.refused("info", "/dev/null"))
-        self.assertRegex(self.refused("archive", self.other, self.archive), "No such file")
+        self.assertRegex(self.refused("archive", self.other, self.other + ".archive"), "No such file")
+        self.assertFalse(os.path.exists(self.other + ".archive"))
         self.assertIn("file is not a database", self.refused("history", self.store, "d"))
 
     def test_an_archive_is_its_owners_alone(self):
