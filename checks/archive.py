@@ -52,11 +52,11 @@ drawn = random.Random(7)
 
 
 def tool(*words, status=0):
-    """What a command of the Python client prints."""
+    """What a command of the Python client prints, also on standard error where it has to fail."""
     variables = {**os.environ, "PYTHONPATH": CLIENT}
     done = subprocess.run([sys.executable, "-m", "richd", *words], env=variables, capture_output=True, text=True, timeout=10 * PATIENCE)
     assert done.returncode == status, (words, done.stdout[-500:], done.stderr[-500:])
-    return done.stdout + done.stderr
+    return done.stdout if status == 0 else done.stdout + done.stderr
 
 
 def until(truth, what):

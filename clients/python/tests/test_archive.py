@@ -47,7 +47,7 @@ class Archived(Served):
         return out
 
     def refused(self, *words):
-        status, out, errors = run(*words)
+        status, out, errors = run(*words, "--quiet")
         self.assertEqual((status, out, errors.count("\n")), (1, "", 1), errors)
         return errors
 
