@@ -104,7 +104,9 @@ class Row:
     def __exit__(self, kind, value, trace):
         self.place.ends.set()
         self.kill_server()
-        self.kill_archiver()
+        if self.archiver is not None:
+            self.archiver.kill()
+            self.archiver.wait()
         if kind is None:
             shutil.rmtree(self.folder)
         else:
