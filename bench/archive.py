@@ -4,8 +4,8 @@
 usage: bench/archive.py [SECONDS] [RATE] [PAUSE..]     (default: 20 seconds a row, 8,000 edits a second, looks each 50 and each 200 milliseconds)
 
 Four programs type letters into 32 documents, eight lines ahead, at the rate together, and take some out again. `python3 -m richd archive --follow` archives
-them: a row with `--lag 0`, which only takes, and one that also makes rows of revisions; in SQLite, and in PostgreSQL where DATABASE names an empty
-one by its URL. Beside that a probe makes an edit, waits until the archive has it, and makes the next one: how long that took after the
+them: a row with `--lag 0`, which only takes, and one that also makes rows of revisions, in SQLite. Where DATABASE names an empty database of PostgreSQL
+by its URL, there is one row, of that. Beside that a probe makes an edit, waits until the archive has it, and makes the next one: how long that took after the
 answer is how far behind the archive is. The share of a processor is the archiver's own time, whatever else runs on the machine; without
 edits it is measured too. The last column is what of the archive's file an edit takes.
 
@@ -14,7 +14,6 @@ Run ./demo first, which builds crates/richd/out/richd, or name another program i
 import json
 import multiprocessing
 import os
-import re
 import socket
 import subprocess
 import sys
@@ -107,7 +106,7 @@ def probe(address, name, until):
             if not is_there:
                 time.sleep(0.002)
         waits.append(1000 * (time.time() - answered))
-        time.sleep(0.05)
+        time.sleep(0.01)
     database.close()
     return sorted(waits)
 
@@ -139,7 +138,7 @@ def measure(folder, name, pause, lag):
             archiver.terminate()
             archiver.wait()
     size = os.path.getsize(name) / total.value if os.path.exists(name) else 0
-    print(f"{re.sub('[:/].*', '', name) or 'sqlite'}, a look each {pause} ms, {'takes' if lag == '0' else 'makes rows too'}: {total.value / took:,.0f} edits a second; "
+    print(f"{'PostgreSQL' if database else 'SQLite'}, a look each {pause} ms, {'takes' if lag == '0' else 'makes rows too'}: {total.value / took:,.0f} edits a second; "
           f"{100 * share:.1f}% of a processor, {100 * idle:.1f}% without edits; behind by {waits[len(waits) // 2]:.0f} ms in the middle, "
           f"{waits[int(len(waits) * 0.99)]:.0f} ms at 99%, {waits[-1]:.0f} ms at most, of {len(waits)}" + (f"; {size:.0f} bytes an edit" if size else ""), flush=True)
 
@@ -154,7 +153,8 @@ def has_begun(name):
         return False
 
 
-for pause in pauses:
-    for lag in ("0", "1"):
+database = os.environ.get("DATABASE")
+for pause in pauses[:1] if database else pauses:
+    for lag in ("1",) if database else ("0", "1"):
         with tempfile.TemporaryDirectory() as folder:
-            measure(folder, os.environ.get("DATABASE") or os.path.join(folder, "archive"), pause, lag)
+            measure(folder, database or os.path.join(folder, "archive"), pause, lag)
