@@ -24,7 +24,6 @@ temporary folder (TMPDIR).
 import contextlib
 import glob
 import importlib.util
-import itertools
 import os
 import random
 import shutil
@@ -35,10 +34,9 @@ import sys
 import tempfile
 import time
 
-from loading import PATIENCE, Cut, Place, Session, Writer, dumped, richd
+from loading import CLIENT, PATIENCE, Cut, Place, Session, Writer, archived, dumped, richd, tool
 
 HERE = os.path.dirname(os.path.abspath(__file__))
-CLIENT = os.pathsep.join([os.path.join(HERE, "../clients/python"), *filter(None, [os.environ.get("PYTHONPATH")])])
 from richd.archive import JUMP
 from richd.tables import ArchiveError, Database
 
@@ -49,14 +47,6 @@ WIDE = ["--slots", "16", "--slot", "1048576"]
 SMALL = ["--slots", "3", "--slot", "8192"]
 TOO_OLD, STORE_FAILED = 13, 21
 drawn = random.Random(7)
-
-
-def tool(*words, status=0):
-    """What a command of the Python client prints, also on standard error where it has to fail."""
-    variables = {**os.environ, "PYTHONPATH": CLIENT}
-    done = subprocess.run([sys.executable, "-m", "richd", *words], env=variables, capture_output=True, text=True, timeout=10 * PATIENCE)
-    assert done.returncode == status, (words, done.stdout[-500:], done.stderr[-500:])
-    return done.stdout if status == 0 else done.stdout + done.stderr
 
 
 def until(truth, what):
@@ -180,9 +170,6 @@ class Row:
                 setattr(writer, name, getattr(known, name))
         self.write()
 
-    def archive_rest(self):
-        return tool("archive", self.store, self.database)
-
     def ask(self, question):
         database = Database(self.database)
         try:
@@ -192,37 +179,9 @@ class Row:
 
     def compare(self):
         """Compares the archive with what was answered and with the store, which nobody serves. Returns the counts."""
-        self.archive_rest()
-        told = tool("verify", self.database, self.store)
-        assert told.startswith("ok "), told
-        ours = tool("dump", self.store)
-        theirs = subprocess.run([richd, "dump", self.store], check=True, capture_output=True, text=True).stdout
-        for our, their in itertools.zip_longest(ours.splitlines(), theirs.splitlines()):
-            assert our == their, f"the dumps differ: {our} and {their}"
-        checked = subprocess.run([richd, "check", self.store], check=True, capture_output=True, text=True).stdout
-        assert tool("check", self.store) == checked
-        numbers = {name: doc for doc, name in self.ask("SELECT doc, name FROM documents")}
-        held = {(doc, source, number): rev for doc, source, number, rev in self.ask("SELECT doc, source, number, rev FROM revisions")}
-        revisions = self.ask("SELECT count(*) FROM revisions")[0][0]
-        gaps = self.ask("SELECT doc, first, last, why FROM gaps")
-        answered = missing = passed = 0
-        for writer in self.writers:
-            for doc, sent in writer.commands.items():
-                for command in sent:
-                    if command.rev is None:
-                        continue
-                    answered += 1
-                    rev = held.get((numbers.get(doc), writer.source, command.message["n"]))
-                    if rev is None and any(gap[0] == numbers.get(doc) and gap[1] <= command.rev <= gap[2] for gap in gaps):
-                        passed += 1
-                    elif rev != command.rev:
-                        missing += 1
-                        print(f"{doc}: number {command.message['n']} of {writer.source} was revision {command.rev}, and the archive has {rev}")
-        assert missing == 0, f"{missing} of {answered} are missing"
-        assert len(held) == revisions, f"{revisions - len(held)} are there twice"
-        files, aside = self.ask("SELECT count(*) FROM files")[0][0], self.ask("SELECT count(*) FROM aside")[0][0]
-        return (f"{answered} answered, {revisions} revisions archived, missing 0, twice 0, {passed} of the answered in {len(gaps)} gaps that are told; "
-                f"joined {files} times, {aside} set aside")
+        it = archived(self.store, self.database, self.writers)
+        return (f"{it.answered} answered, {it.revisions} revisions archived, missing 0, twice 0, {it.passed} of the answered in {it.gaps} gaps that are told; "
+                f"joined {it.files} times, {it.aside} set aside")
 
 
 def killed(folder, database, ring, count):
@@ -416,7 +375,7 @@ def _copied(row):
     row.kill_server()
     until(lambda: row.ask("SELECT count(*) FROM files")[0][0] == 2, "the archiver sees the other file")
     row.kill_archiver()
-    row.archive_rest()
+    tool("archive", row.store, row.database)
     subprocess.run([richd, "copy", row.store, larger, "--slots", "4"], check=True)
     os.rename(larger, row.store)
     row.compare()

@@ -1,10 +1,12 @@
-"""Writers that put words into the documents of a server, and what came of each: for soak.py, stopped.py, backup.py and archive.py.
+"""Writers that put words into the documents of a server, and what came of each: for soak.py, stopped.py, backup.py, archive.py and power.py.
 
 A word is used once, so it is found again in what a store holds. Each writer is a source of its own with one session at a time. What had no
 reply when its session ended it sends again in the next one, with the numbers of before.
 """
 import copy
+import itertools
 import json
+import os
 import random
 import socket
 import subprocess
@@ -13,11 +15,15 @@ import threading
 import time
 from pathlib import Path
 from types import SimpleNamespace
+from typing import NamedTuple
 
-sys.path.insert(0, str(Path(__file__).resolve().parent.parent / "clients/python"))
+HERE = Path(__file__).resolve().parent.parent / "clients/python"
+sys.path.insert(0, str(HERE))
+CLIENT = os.pathsep.join([str(HERE), *filter(None, [os.environ.get("PYTHONPATH")])])  # where Python finds the client, and what it found before
 
 from richd.delta import text
 from richd.program import find
+from richd.tables import Database
 
 PATIENCE = 60  # seconds of one reply, or of one run
 NO_DOCUMENT, EXISTS, GAP, TOO_OLD, NOTHING_TO_UNDO, DELETED = 6, 7, 9, 13, 19, 40
@@ -385,6 +391,54 @@ def dumped(path, *options):
         words = None if content == "deleted" else [word for word in text(json.loads(content)["ops"]).split(";") if word]
         found[name] = int(revision), words
     return found
+
+
+def tool(*words, status=0):
+    """What a command of the Python client prints, also on standard error where it has to fail."""
+    variables = {**os.environ, "PYTHONPATH": CLIENT}
+    done = subprocess.run([sys.executable, "-m", "richd", *words], env=variables, capture_output=True, text=True, timeout=10 * PATIENCE)
+    assert done.returncode == status, (words, done.stdout[-500:], done.stderr[-500:])
+    return done.stdout if status == 0 else done.stdout + done.stderr
+
+
+class Archived(NamedTuple):
+    """What an archive has: the commands that were answered, how many of these lie in a gap, and the numbers of its rows."""
+
+    answered: int
+    passed: int
+    revisions: int
+    gaps: int
+    files: int
+    aside: int
+
+
+def archived(store, database, writers):
+    """Archives the rest of a store that nobody serves, and compares the archive with it and with what the writers were answered."""
+    tool("archive", store, database)
+    assert tool("verify", database, store).startswith("ok ")
+    theirs = subprocess.run([richd, "dump", store], check=True, capture_output=True, text=True).stdout
+    for our, their in itertools.zip_longest(tool("dump", store).splitlines(), theirs.splitlines()):
+        assert our == their, f"the dumps differ: {our} and {their}"
+    assert tool("check", store) == subprocess.run([richd, "check", store], check=True, capture_output=True, text=True).stdout
+    held = Database(database)
+    numbers = {name: doc for doc, name in held.all("SELECT doc, name FROM documents")}
+    revisions = {(doc, source, number): rev for doc, source, number, rev in held.all("SELECT doc, source, number, rev FROM revisions")}
+    count, files, aside = (held.one(f"SELECT count(*) FROM {table}")[0] for table in ("revisions", "files", "aside"))
+    gaps = held.all("SELECT doc, first, last FROM gaps")
+    held.close()
+    answered, passed, missing = 0, 0, []
+    for writer in writers:
+        for doc, sent in list(writer.commands.items()):
+            for command in [command for command in list(sent) if command.rev is not None]:
+                answered += 1
+                rev = revisions.get((numbers.get(doc), writer.source, command.message["n"]))
+                if rev is None and any(gap[0] == numbers.get(doc) and gap[1] <= command.rev <= gap[2] for gap in gaps):
+                    passed += 1
+                elif rev != command.rev:
+                    missing.append((doc, writer.source, command.message["n"], command.rev, rev))
+    assert not missing, f"{len(missing)} of {answered} aren't archived under their revision: {missing[:3]}"
+    assert len(revisions) == count, f"{count - len(revisions)} are archived twice"
+    return Archived(answered, passed, count, len(gaps), files, aside)
 
 
 def format_store(path, docs):
