@@ -27,6 +27,7 @@ _u64 = struct.Struct("<Q").unpack_from
 _i64 = struct.Struct("<q").unpack_from
 _length_and_count = struct.Struct("<QI").unpack_from
 _MOST_NAMES = 100_000
+_new: Any = tuple.__new__  # makes an entry faster than its class does
 _names: Dict[bytes, str] = {}  # sources by their bytes: the same ones come again and again
 
 
@@ -105,7 +106,7 @@ def entries(body: bytes) -> Tuple[List[Entry], Dict[int, str]]:
                 delta, at = delta_text(body, at)
             else:
                 raise Damaged(f"an entry of kind {kind}")
-            made.append(Entry(doc, rev, kind, _names.get(spelled) or _source(spelled), number, delta))
+            made.append(_new(Entry, (doc, rev, kind, _names.get(spelled) or _source(spelled), number, delta)))
     except (struct.error, IndexError, UnicodeDecodeError) as fault:
         raise Damaged(f"a batch: {fault}") from None
     if at != len(body):
@@ -130,12 +131,18 @@ def delta_text(body: bytes, at: int) -> Tuple[str, int]:
         if kind == 3:
             size, attributes = _length_and_count(body, at + 1)
             at += 13
+            if not attributes:  # most have none
+                made.append(f'{{"retain":{size}}}')
+                continue
             what = f'"retain":{size}}}'
         elif kind == 1:
             end = at + 5 + _u32(body, at + 1)[0]
-            what = f'"insert":{quoted(body[at + 5 : end].decode())}}}'
-            attributes = _u32(body, end)[0]
+            content, attributes = quoted(body[at + 5 : end].decode()), _u32(body, end)[0]
             at = end + 4
+            if not attributes:
+                made.append(f'{{"insert":{content}}}')
+                continue
+            what = f'"insert":{content}}}'
         elif kind == 4:
             what, attributes = f'"delete":{_u64(body, at + 1)[0]}}}', 0
             at += 9
