@@ -33,7 +33,7 @@ test "$(stat -c '%U %a' /var/lib/richd)" = "richd 700"
 man -w richd
 man -l "$(man -w richd)" | grep -q 'serve'
 systemd-analyze verify /lib/systemd/system/richd.service /lib/systemd/system/richd-archive.service
-as() { runuser -u richd -- "$@"; }
+as() { setpriv --reuid richd --regid richd --init-groups "$@"; } # runuser stops itself with the server that a backup stops
 client() { as /usr/bin/python3 -m richd "$@"; }
 served() {
     : >/tmp/listening
