@@ -1,9 +1,12 @@
-"""Writers that put words into the documents of a server, and what came of each: for soak.py and stopped.py.
+"""Writers that put words into the documents of a server, and what came of each: for soak.py, stopped.py, backup.py, archive.py and power.py.
 
 A word is used once, so it is found again in what a store holds. Each writer is a source of its own with one session at a time. What had no
 reply when its session ended it sends again in the next one, with the numbers of before.
 """
+import copy
+import itertools
 import json
+import os
 import random
 import socket
 import subprocess
@@ -11,11 +14,16 @@ import sys
 import threading
 import time
 from pathlib import Path
+from types import SimpleNamespace
+from typing import NamedTuple
 
-sys.path.insert(0, str(Path(__file__).resolve().parent.parent / "clients/python"))
+HERE = Path(__file__).resolve().parent.parent / "clients/python"
+sys.path.insert(0, str(HERE))
+CLIENT = os.pathsep.join([str(HERE), *filter(None, [os.environ.get("PYTHONPATH")])])  # where Python finds the client, and what it found before
 
 from richd.delta import text
 from richd.program import find
+from richd.tables import Database
 
 PATIENCE = 60  # seconds of one reply, or of one run
 NO_DOCUMENT, EXISTS, GAP, TOO_OLD, NOTHING_TO_UNDO, DELETED = 6, 7, 9, 13, 19, 40
@@ -348,6 +356,31 @@ def agrees(found, writers):
     return acknowledged
 
 
+def snapshot(writer):
+    """What a writer was answered by now. A reply that it takes in meanwhile may be missing, and a command that it sends."""
+    return SimpleNamespace(source=writer.source, commands={doc: [copy.copy(command) for command in list(sent)] for doc, sent in list(writer.commands.items())})
+
+
+def agrees_with(found, before, after):
+    """What was acknowledged before the stop is there. What may be there besides is known once the writers have gone on."""
+    for early, late in zip(before, after):
+        for doc, sent in early.commands.items():
+            known = {id_of(command) for command in sent if command.rev is not None}
+            for command in late.commands[doc]:
+                if id_of(command) not in known:
+                    command.rev, command.code = None, None  # on its way, or later
+            late.commands[doc] = [command for command in late.commands[doc] if command.code is None]
+        for doc in late.commands:
+            if doc not in early.commands:
+                for command in late.commands[doc]:
+                    command.rev, command.code = None, None
+    return agrees(found, after)
+
+
+def id_of(command):
+    return command.message["n"], command.message["do"], command.word
+
+
 def dumped(path, *options):
     """The documents that a store holds: name to revision, and to its words, or None where it is deleted."""
     done = subprocess.run([richd, "dump", path, *options], capture_output=True, text=True, timeout=PATIENCE)
@@ -358,6 +391,54 @@ def dumped(path, *options):
         words = None if content == "deleted" else [word for word in text(json.loads(content)["ops"]).split(";") if word]
         found[name] = int(revision), words
     return found
+
+
+def tool(*words, status=0):
+    """What a command of the Python client prints, also on standard error where it has to fail."""
+    variables = {**os.environ, "PYTHONPATH": CLIENT}
+    done = subprocess.run([sys.executable, "-m", "richd", *words], env=variables, capture_output=True, text=True, timeout=10 * PATIENCE)
+    assert done.returncode == status, (words, done.stdout[-500:], done.stderr[-500:])
+    return done.stdout if status == 0 else done.stdout + done.stderr
+
+
+class Archived(NamedTuple):
+    """What an archive has: the commands that were answered, how many of these lie in a gap, and the numbers of its rows."""
+
+    answered: int
+    passed: int
+    revisions: int
+    gaps: int
+    files: int
+    aside: int
+
+
+def archived(store, database, writers):
+    """Archives the rest of a store that nobody serves, and compares the archive with it and with what the writers were answered."""
+    tool("archive", store, database)
+    assert tool("verify", database, store).startswith("ok ")
+    theirs = subprocess.run([richd, "dump", store], check=True, capture_output=True, text=True).stdout
+    for our, their in itertools.zip_longest(tool("dump", store).splitlines(), theirs.splitlines()):
+        assert our == their, f"the dumps differ: {our} and {their}"
+    assert tool("check", store) == subprocess.run([richd, "check", store], check=True, capture_output=True, text=True).stdout
+    held = Database(database)
+    numbers = {name: doc for doc, name in held.all("SELECT doc, name FROM documents")}
+    revisions = {(doc, source, number): rev for doc, source, number, rev in held.all("SELECT doc, source, number, rev FROM revisions")}
+    count, files, aside = (held.one(f"SELECT count(*) FROM {table}")[0] for table in ("revisions", "files", "aside"))
+    gaps = held.all("SELECT doc, first, last FROM gaps")
+    held.close()
+    answered, passed, missing = 0, 0, []
+    for writer in writers:
+        for doc, sent in list(writer.commands.items()):
+            for command in [command for command in list(sent) if command.rev is not None]:
+                answered += 1
+                rev = revisions.get((numbers.get(doc), writer.source, command.message["n"]))
+                if rev is None and any(gap[0] == numbers.get(doc) and gap[1] <= command.rev <= gap[2] for gap in gaps):
+                    passed += 1
+                elif rev != command.rev:
+                    missing.append((doc, writer.source, command.message["n"], command.rev, rev))
+    assert not missing, f"{len(missing)} of {answered} aren't archived under their revision: {missing[:3]}"
+    assert len(revisions) == count, f"{count - len(revisions)} are archived twice"
+    return Archived(answered, passed, count, len(gaps), files, aside)
 
 
 def format_store(path, docs):

@@ -12,6 +12,9 @@ Then the power is cut: the file system is shut down without writing anything, an
 be there, by the newer milestones and by the older, and nothing that nobody sent, and `check` has to find it sound. The server and the writers go on
 with it, and the power is cut once more.
 
+Meanwhile an archiver follows the store, its archive on another disk, and is started again where it ends, as it can't read a disk that refuses. After
+each cut the archive has to be the store, with each command that was answered once, under its revision, or in a gap that it tells.
+
 It takes the superuser, whose mounts nobody else sees, and is skipped without; so is a file system that can't be tried here, which a line names.
 
 Run ./demo first, which builds crates/richd/out/richd, or name another program in RICHD. The disks lie in a temporary folder (TMPDIR).
@@ -29,7 +32,7 @@ import tempfile
 import threading
 import time
 
-from loading import CELL, PATIENCE, Cut, Place, Writer, agrees, dumped, richd
+from loading import CELL, CLIENT, PATIENCE, Cut, Place, Writer, agrees, archived, dumped, richd
 
 rounds = int(sys.argv[1]) if len(sys.argv) > 1 else 20
 kinds = sys.argv[2:] or ["ext4", "xfs"]
@@ -138,6 +141,34 @@ class Unit(threading.Thread):
             self.join(0.05)
 
 
+class Archiver(threading.Thread):
+    """An archiver that is started again wherever it has ended."""
+
+    def __init__(self, store, database):
+        super().__init__(daemon=True)
+        dies_with_this = ["setpriv", "--pdeathsig", "KILL"]
+        self.words = [*dies_with_this, sys.executable, "-m", "richd", "archive", store, database, "--follow", "--pause", "20", "--quiet"]
+        self.ends, self.archiver = threading.Event(), None
+
+    def run(self):
+        quiet = {"stdin": subprocess.DEVNULL, "stdout": subprocess.DEVNULL, "stderr": subprocess.DEVNULL}
+        while not self.ends.is_set():
+            self.archiver = subprocess.Popen(self.words, env={**os.environ, "PYTHONPATH": CLIENT}, **quiet)
+            self.archiver.wait()
+            self.ends.wait(0.2)
+
+    def __enter__(self):
+        self.start()
+        return self
+
+    def __exit__(self, *_cause):
+        self.ends.set()
+        while self.is_alive():
+            if self.archiver is not None:
+                self.archiver.kill()
+            self.join(0.05)
+
+
 class Typist(Writer):
     """A writer whose changes are wide, so that a batch fills several pages, and for whom 21 is no answer yet."""
 
@@ -161,7 +192,8 @@ class Round:
         self.kind, self.number = kind, number
         self.place = Place(pause=0)
         self.writers = [Typist(writer, self.place) for writer in range(WRITERS)]
-        self.failed_syncs = self.acknowledged = self.lost = 0
+        self.failed_syncs = self.acknowledged = self.lost = self.archived = 0
+        self.database = f"{disk.image}.{kind}.{number}"
         self.difference = None
 
     def is_good(self):
@@ -183,7 +215,7 @@ class Round:
         for writer in self.writers:
             writer.start()
         for failures in (FAILURES, 0):
-            with Unit(store, self.place.port, options) as unit:
+            with Unit(store, self.place.port, options) as unit, Archiver(store, self.database):
                 for _ in range(failures):
                     self.go_on(unit)
                     try:
@@ -226,6 +258,7 @@ class Round:
         assert found == dumped(store, "--pick", "older"), "the picks differ"
         agrees(found, self.writers)
         assert run(richd, "check", store).startswith("ok documents ")
+        self.archived = archived(store, self.database, self.writers).revisions
 
 
 def why_not(kind):
@@ -247,7 +280,7 @@ def why_not(kind):
 def told(played):
     """What came of some rounds."""
     bad = [it for it in played if not it.is_good()]
-    counts = f"{len(played)} rounds, {sum(it.failed_syncs for it in played)} failed syncs, {sum(it.acknowledged for it in played)} acknowledged commands"
+    counts = f"{len(played)} rounds, {sum(it.failed_syncs for it in played)} failed syncs, {sum(it.acknowledged for it in played)} acknowledged commands, {sum(it.archived for it in played)} revisions archived"
     unopened = sum("error 3" in str(it.difference) for it in bad)
     how = f" in {len(bad)} rounds, {unopened} of which left a store that doesn't open" if bad else ""
     return f"{counts}, {sum(it.lost for it in played)} lost{how}"

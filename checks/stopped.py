@@ -10,7 +10,6 @@ clients of the server notice nothing but the wait.
 
 Run ./demo first, which builds crates/richd/out/richd, or name another program in RICHD. The store lies in a temporary folder (TMPDIR).
 """
-import copy
 import os
 import random
 import signal
@@ -18,38 +17,11 @@ import subprocess
 import sys
 import tempfile
 import time
-from types import SimpleNamespace
 
-from loading import PATIENCE, Place, Writer, agrees, dumped, format_store, percentile, richd
+from loading import PATIENCE, Place, Writer, agrees, agrees_with, dumped, format_store, percentile, richd, snapshot
 
 copies = int(sys.argv[1]) if len(sys.argv) > 1 else 120
 WRITERS = 8
-
-
-def snapshot(writer):
-    """What a writer was answered by now. A reply that it takes in meanwhile may be missing, and a command that it sends."""
-    return SimpleNamespace(source=writer.source, commands={doc: [copy.copy(command) for command in list(sent)] for doc, sent in list(writer.commands.items())})
-
-
-def agrees_with(found, before, after):
-    """What was acknowledged before the stop is there. What may be there besides is known once the writers have gone on."""
-    for early, late in zip(before, after):
-        for doc, sent in early.commands.items():
-            known = {id_of(command) for command in sent if command.rev is not None}
-            for command in late.commands[doc]:
-                if id_of(command) not in known:
-                    command.rev, command.code = None, None  # on its way, or later
-            late.commands[doc] = [command for command in late.commands[doc] if command.code is None]
-        for doc in late.commands:
-            if doc not in early.commands:
-                for command in late.commands[doc]:
-                    command.rev, command.code = None, None
-    return agrees(found, after)
-
-
-def id_of(command):
-    return command.message["n"], command.message["do"], command.word
-
 
 with tempfile.TemporaryDirectory() as folder:
     store, other, place = os.path.join(folder, "store"), os.path.join(folder, "copy"), Place(pause=0.1)

@@ -1,22 +1,25 @@
-"""What an operator does by hand: `python -m richd health|cat|put|follow HOST:PORT ..`."""
+"""What an operator does by hand: `python3 -m richd COMMAND ..`."""
 
 from __future__ import annotations
 
 import argparse
 import json
+import re
 import secrets
 import sys
 from typing import Any, List, Tuple
 
-from . import Closed, Refused, Unexpected, __version__, connect, messages
+from . import Closed, Refused, Unexpected, __version__, archive_commands, connect, messages, store_commands
 from .client import Client
 from .delta import Delta, text
 from .difference import difference
 from .link import TcpLink
 from .messages import Message
 from .owner import TIMEOUT
+from .spelling import StoreError
 
 Address = Tuple[str, int]
+WRITTEN = ".health"  # the document, and the source, of `health --write`
 
 
 def main(words: List[str]) -> int:
@@ -27,19 +30,31 @@ def main(words: List[str]) -> int:
         return 130
     except BrokenPipeError:
         return 1  # nobody reads what is printed any more
-    except (Refused, Unexpected, Closed, OSError, ValueError) as error:
-        host, port = options.address
-        print(f"{host}:{port}: {error}", file=sys.stderr)
+    except (Refused, Unexpected, Closed, StoreError, OSError, ValueError) as error:
+        print(f"{_about(options)}: {error}", file=sys.stderr)
         return 1
 
 
+def _about(options: argparse.Namespace) -> str:
+    """What an error is of: the server, the archive or the store."""
+    about = getattr(options, options.about)
+    return re.sub("//[^/]*@", "//", about) if isinstance(about, str) else "{}:{}".format(*about)  # no password of a URL
+
+
 def parser() -> argparse.ArgumentParser:
-    result = argparse.ArgumentParser(prog="python -m richd", description="Looks after a server of richd.")
+    result = argparse.ArgumentParser(prog="python -m richd", description="Looks after servers, stores and archives of richd.")
     result.add_argument("--version", action="version", version=f"richd for Python {__version__}")
     commands = result.add_subparsers(required=True, metavar="COMMAND")
+    for add in (_add, archive_commands.add, store_commands.add):
+        add(commands)
+    return result
 
+
+def _add(commands: Any) -> None:
+    """Adds the commands that ask a server."""
     health = commands.add_parser("health", help="asks whether commands would be taken, and writes nothing; status 0 if so, else 1")
     health.set_defaults(action=_health)
+    health.add_argument("--write", action="store_true", help=f"makes an edit of the document {WRITTEN} besides, under the source of this name")
     cat = commands.add_parser("cat", help="prints a document's text")
     cat.set_defaults(action=_cat)
     put = commands.add_parser("put", help="makes a document, or changes it, so that its text is what standard input holds")
@@ -48,6 +63,7 @@ def parser() -> argparse.ArgumentParser:
     follow.set_defaults(action=_follow)
 
     for command in (health, cat, put, follow):
+        command.set_defaults(about="address")
         command.add_argument("address", metavar="HOST:PORT", type=_address)
         command.add_argument("--timeout", type=float, default=TIMEOUT, metavar="SECONDS", help="for each answer; %(default)s without it")
     for command in (cat, put, follow):
@@ -59,7 +75,6 @@ def parser() -> argparse.ArgumentParser:
     name = put.add_mutually_exclusive_group(required=True)
     name.add_argument("--source", metavar="NAME", help="the name under which it is changed, which nobody else uses at the time")
     name.add_argument("--keep", metavar="FILE", help="a file that keeps such a name from run to run")
-    return result
 
 
 def _address(word: str) -> Address:
@@ -71,6 +86,8 @@ def _address(word: str) -> Address:
 
 def _health(options: argparse.Namespace) -> int:
     state = health(options.address, options.timeout)
+    if state == "healthy" and options.write:
+        state = written(options.address, options.timeout)
     print(state)
     return 0 if state == "healthy" else 1
 
@@ -104,6 +121,27 @@ def health(address: Address, timeout: float) -> str:
     if len(replies) == 2 and replies[0].get("ok") == "hello" and isinstance(codes[1], int):
         return "healthy"
     return f"no richd: it answers {came[:100]!r}"
+
+
+def written(address: Address, timeout: float) -> str:
+    """Tells whether a server takes an edit in time: one whose disk hangs answers all else. The edit changes nothing, and is a revision."""
+    try:
+        with connect(*address, source=WRITTEN, timeout=timeout) as client:
+            try:
+                client.edit(WRITTEN, [], client.fetch(WRITTEN).rev)
+            except Refused as refusal:
+                if refusal.code not in (messages.NO_DOCUMENT, messages.DELETED):
+                    raise
+                client.create(WRITTEN, [])
+    except Refused as refusal:
+        return f"refuses an edit: {refusal}"
+    except Unexpected:
+        return f"in doubt: another program writes as {WRITTEN} at the same time"
+    except TimeoutError:
+        return f"hangs: it answers, and an edit takes longer than {timeout:g} seconds"
+    except (Closed, OSError) as error:
+        return f"unreachable: {error}"
+    return "healthy"
 
 
 def _reply(line: bytes) -> Message:

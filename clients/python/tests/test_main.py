@@ -11,7 +11,7 @@ import unittest
 from unittest import mock
 
 import richd
-from richd.__main__ import health, main
+from richd.__main__ import health, main, written
 from tests.standin import StandIn
 from tests.test_client import SECONDS, Served
 
@@ -38,6 +38,14 @@ class Health(unittest.TestCase):
             listener.settimeout(SECONDS)
             with mock.patch("richd.link.TcpLink.send", lambda link, data: listener.accept()[0].close()):
                 self.assertRegex(health(listener.getsockname(), SECONDS), "^full: ")
+
+    def test_one_that_takes_no_edit_in_time_hangs(self):
+        answers = {"hello": {"ok": "hello"}, "undo": {"code": 6, "error": "NoDocument"}, "fetch": {"ok": "doc", "doc": ".health", "rev": 1, "ops": []}}
+        server = StandIn(lambda message: [answers[message["do"]]] if message["do"] in answers else [])
+        self.addCleanup(server.close)
+        self.assertEqual(health(server.address, SECONDS), "healthy")
+        self.assertRegex(written(server.address, 0.3), "^hangs: ")
+        self.assertEqual(server.messages[-1]["do"], "edit")
 
     def test_nobody_listens_or_answers(self):
         with socket.create_server(("127.0.0.1", 0)) as listener:
@@ -67,6 +75,21 @@ class Commands(Served):
         self.assertEqual(self.run_main("health"), (0, "healthy\n", ""))
         with open(self.store, "rb") as file:
             self.assertEqual(file.read(), before)
+
+    def test_health_by_an_edit(self):
+        for revision in (1, 2, 3):
+            self.assertEqual(self.run_main("health", "--write"), (0, "healthy\n", ""))
+            self.assertEqual(self.connect(f"s{revision}").fetch(".health"), richd.Contents(revision, []))
+        for number in range(3):
+            self.connect("ann").create(f"d{number}", [])
+        self.connect("ann").delete(".health")
+        self.assertEqual(self.run_main("health", "--write")[1], "healthy\n")
+        self.assertEqual(self.connect("bob").fetch(".health").rev, 5)
+
+    def test_one_that_has_no_place_for_the_edit(self):
+        for number in range(4):
+            self.connect("ann").create(f"d{number}", [])
+        self.assertEqual(self.run_main("health", "--write"), (1, "refuses an edit: 20 TooManyDocuments\n", ""))
 
     def test_a_full_server(self):
         clients = [self.connect(f"s{number}") for number in range(64)]
