@@ -374,7 +374,7 @@ test("the pause before it connects again doubles, until a session serves", async
 test("a line that no server takes is refused at once", async (t) => {
   const { client } = await pair(t);
   await client.create("d", [{ insert: "ab" }]);
-  await assert.rejects(client.edit("d", [{ insert: "é".repeat(33_000) }], 1), { name: "LineTooLong", code: 23 });
+  await assert.rejects(client.edit("d", [{ insert: { image: "é".repeat(33_000) } }], 1), { name: "LineTooLong", code: 23 });
   assert.deepEqual(await client.edit("d", [{ insert: "é".repeat(30_000) }], 1), { rev: 2 });
 });
 
