@@ -8,7 +8,7 @@ import { ChangeEvent, DoubtEvent, RebasedEvent, StateEvent, TroubleEvent, Unkept
 import { History, Steps } from "./history.js";
 import { within } from "./limits.js";
 import { cutsPair, growthOf, reachOf, takenOver } from "./operations.js";
-import { LEAST_ROOM, ROOM, isTooLong, parted } from "./parting.js";
+import { LEAST_ROOM, ROOM, isLong, isTooLong, parted, restOf } from "./parting.js";
 import { Pauses } from "./pauses.js";
 import { Places, Presence } from "./presence.js";
 import { Values } from "./values.js";
@@ -63,7 +63,8 @@ function frozen(op) {
 
 /**
  * A document that is created where it isn't there, with what is still to be inserted where its contents are longer than a message. Somebody
- * else may create it at the same time. Then the server says so before it shows the document, which a crash may yet take back.
+ * else may create it at the same time. Then the server says so before it shows the document, which a crash may yet take back. Where this
+ * source began to create it, and didn't come to the end, it goes on with that.
  * @param {import("./richd.js").Client} client
  * @param {string} name
  * @param {Op[]} ops
@@ -71,22 +72,24 @@ function frozen(op) {
  */
 async function fetchCreated(client, name, ops) {
   const pauses = new Pauses();
-  /** @type {Awaited<ReturnType<typeof client.begin>> | undefined} */
-  let begun;
+  const hasParts = isLong(ops);
+  /** @type {{ rev: number, ops: Op[] } | undefined} */
+  let fetched;
   for (let tries = 0; ; tries += 1) {
     try {
-      if (begun === undefined || begun.rest.ops.length === 0) return await client.fetch(name); // whoever only reads needs no number
-      const fetched = await client.fetch(name, begun.rev);
-      if (JSON.stringify(fetched.ops) === JSON.stringify(begun.first.ops)) return { ...fetched, rest: begun.rest };
-      begun = undefined; // an earlier creation was answered
+      fetched = await client.fetch(name); // whoever only reads needs no number
+      if (!hasParts || !restOf(fetched.ops, ops)?.ops.length) return fetched;
     } catch (error) {
-      if (![Refusal.NoDocument, Refusal.Deleted, Refusal.TooOld].includes(error.code)) throw error;
+      if (error.code !== Refusal.NoDocument && error.code !== Refusal.Deleted) throw error;
+      fetched = undefined;
     }
     if (tries > 0) await pauses.wait();
     try {
-      begun = await client.begin(name, ops);
+      const { rev, first, rest } = await client.begin(name, ops);
+      if (rest.ops.length > 0) return { rev, ops: first.ops, rest };
     } catch (error) {
       if (error.code !== Refusal.Exists && error.name !== "InDoubt") throw error;
+      if (fetched !== undefined) return fetched; // others are about to create it
     }
   }
 }

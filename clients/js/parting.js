@@ -1,8 +1,9 @@
 // How an edit that is too long for one line is sent in several.
 
 import { Delta, lengthOf } from "./delta.js";
+import { difference } from "./difference.js";
 import { Refusal } from "./errors.js";
-import { MAX_LINE, bytesOf } from "./operations.js";
+import { MAX_LINE, bytesOf, takenOver } from "./operations.js";
 
 export const ROOM = 48 * 1024; // bytes of an edit's operations, in a line that may have 65,536
 export const LEAST_ROOM = 64;
@@ -17,6 +18,20 @@ export const isTooLong = ({ code }) => [Refusal.TooManyOps, Refusal.TooWide, Ref
  * @param {import("./delta.js").Op[]} ops
  */
 export const isLong = (ops) => ops.length > MOST_OPS || bytesOf(ops) > MAX_LINE - 256;
+
+/**
+ * What is to be inserted behind what a document has, so that it has all of its contents; undefined where it has something else.
+ * @param {import("./delta.js").Op[]} made
+ * @param {import("./delta.js").Op[]} ops  its contents
+ */
+export function restOf(made, ops) {
+  const [beginning, whole] = [new Delta(made), takenOver(ops)];
+  const length = beginning.length();
+  if (difference(beginning, whole.slice(0, length)).ops.length > 0) return undefined;
+  const rest = new Delta().retain(length);
+  for (const op of whole.slice(length).ops) rest.push(op);
+  return rest.chop();
+}
 
 /**
  * The longest beginning of a text that takes so many bytes as JSON, and parts no character; at least one character.

@@ -10,7 +10,7 @@ import { LONGEST, within } from "./limits.js";
 import { Line } from "./line.js";
 import { News } from "./news.js";
 import { takenOver } from "./operations.js";
-import { LEAST_ROOM, ROOM, isLong, isTooLong, parted } from "./parting.js";
+import { LEAST_ROOM, ROOM, isLong, isTooLong, parted, restOf } from "./parting.js";
 import { Pauses } from "./pauses.js";
 import { Session } from "./session.js";
 import { takeSource, thisPage } from "./sources.js";
@@ -125,7 +125,8 @@ export class Client extends Emitter {
 
   /**
    * Creates a document, or one that was deleted again. A source that created it before, and did nothing more, gets the same answer. Contents
-   * that are longer than a message are inserted by edits behind the first part.
+   * that are longer than a message are inserted by edits behind the first part; where this source didn't come to the end of that before, and
+   * nobody did anything else, it goes on with it.
    * @param {string} doc
    * @param {Op[]} ops
    * @param {Limits} [limits]
@@ -147,11 +148,16 @@ export class Client extends Emitter {
     for (let room = ROOM; ; room /= 2) {
       const [first, rest] = isWhole && room === ROOM ? [{ ops }, new Delta()] : parted(takenOver(ops), room);
       try {
-        const { rev } = await this.#command(doc, { do: "create", ops: first.ops }, limits);
-        return { rev, first, rest };
+        const { ok, rev } = await this.#ask(doc, { do: "create", ops: first.ops }, true, limits);
+        if (ok === "taken" || rest.ops.length === 0) return { rev, first, rest };
       } catch (error) {
         if (!isTooLong(error) || room <= LEAST_ROOM) throw error;
+        continue;
       }
+      const { rev, ops: made } = await this.fetch(doc, undefined, limits);
+      const left = restOf(made, ops);
+      if (left === undefined) throw new RichdError(Refusal.Exists, "Exists");
+      return { rev, first: { ops: made }, rest: left };
     }
   }
 

@@ -378,6 +378,66 @@ test("a line that no server takes is refused at once", async (t) => {
   assert.deepEqual(await client.edit("d", [{ insert: "é".repeat(30_000) }], 1), { rev: 2 });
 });
 
+const LONG = Array.from({ length: 6_000 }, (_, number) => ({ insert: `words ${number}`, attributes: { bold: number % 2 === 0 } }));
+
+for (const spoilt of [0, 1, 3]) {
+  test(`contents longer than a message are created in parts, once each, with ${spoilt} replies that are lost`, async (t) => {
+    let left = spoilt;
+    const spoil = ({ do: kind }, session) => {
+      if ((kind !== "edit" && kind !== "create") || session.source !== "ann" || left === 0) return false;
+      left -= 1;
+      session.cut();
+      return true;
+    };
+    const { client, server } = await pair(t, { spoil });
+    const { rev } = await client.create("d", LONG);
+    assert.deepEqual(server.documents.at("d"), LONG);
+    assert.equal(rev, server.documents.newest("d"));
+    const sent = server.messages.filter(({ do: kind }) => kind === "create" || kind === "edit");
+    assert.ok(rev > 1 && sent.every(({ ops }) => ops.length <= 1_024 && JSON.stringify(ops).length < 65_536));
+    assert.deepEqual(await client.create("d", LONG), { rev }, "it is there once");
+    const other = await connect({ ...server.address });
+    await assert.rejects(other.create("d", LONG), { name: "Exists" });
+    await other.close();
+    const text = "ab\u{1f600}".repeat(50_000);
+    const edited = await client.edit("d", [{ retain: 5 }, { insert: text }], rev);
+    assert.equal(edited.rev, server.documents.newest("d"));
+    assert.equal(server.documents.at("d").map(({ insert }) => insert).join("").slice(5, 5 + text.length), text);
+    await assert.rejects(client.create("d", LONG), { name: "Exists" });
+  });
+}
+
+test("a creation whose first part is too wide for the store is parted further", async (t) => {
+  const refuse = ({ do: kind, ops }) => (kind !== "fetch" && JSON.stringify(ops ?? []).length > 5_000 ? { code: 17, error: "TooWide" } : undefined);
+  const { client, server } = await pair(t, { refuse });
+  await client.create("d", LONG);
+  assert.deepEqual(server.documents.at("d"), LONG);
+  await assert.rejects(client.create("e", [{ insert: { image: "A".repeat(10_000) } }]), { name: "TooWide" });
+});
+
+for (const call of ["create", "open"]) {
+  test(`a creation that ended in between goes on where its source asks for it again, by ${call}`, async (t) => {
+    const ending = new AbortController();
+    let edits = 0;
+    const spoil = ({ do: kind }, session) => {
+      if (kind === "edit" && session.source === "ann" && (edits += 1) === 2) return ending.abort(), session.cut(), true;
+      return false;
+    };
+    const { server } = await pair(t, { spoil }, { source: "observer" });
+    const first = await connect({ ...server.address, source: "ann", signal: ending.signal });
+    await assert.rejects(first.create("d", LONG));
+    const { length } = server.documents.at("d");
+    assert.deepEqual(server.documents.at("d"), LONG.slice(0, length));
+    assert.ok(length < LONG.length);
+    const [other, second] = [await connect(server.address), await connect({ ...server.address, source: "ann" })];
+    assert.equal((await other.open("d", { create: LONG })).contents.ops.length, length); // another's is left to it
+    if (call === "create") await second.create("d", LONG);
+    else await (await second.open("d", { create: LONG })).flush();
+    assert.deepEqual(server.documents.at("d"), LONG);
+    await Promise.all([other.close(), second.close()]);
+  });
+}
+
 const WRONG = [
   '{"doc":"d","news":2}',
   '{"doc":"d","news":2,"ops":null}',

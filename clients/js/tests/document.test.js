@@ -368,6 +368,54 @@ test("what is too long for a line, or for the journal, is sent in parts", async 
   assert.deepEqual(newest(), document.contents.ops);
 });
 
+test("a document is created with contents longer than a message, which show at once and aren't taken back by undo", async (t) => {
+  const { open, server } = await prepared(t);
+  const { client } = await open();
+  const ops = Array.from({ length: 5_000 }, (_, number) => ({ insert: `words ${number}\n`, attributes: { size: number } }));
+  const document = await client.open("long", { create: ops });
+  assert.deepEqual([document.contents.ops, document.isSaved, document.history.canUndo], [ops, false, false]);
+  await document.flush();
+  assert.deepEqual(server.documents.at("long"), ops);
+  const again = await client.open("long", { create: ops });
+  assert.deepEqual(again.contents.ops, ops);
+  await assert.rejects(client.open("none", { create: [{ insert: "x", retain: 1 }, ...ops] }), { name: "BadOps" });
+});
+
+test("values that aren't flat are kept as JSON in one spelling, or as the page says", async (t) => {
+  const { open, newest } = await prepared(t, {}, [{ insert: "a\n" }]);
+  const document = await open();
+  const shown = shownBy(await open());
+  const mention = { id: 7, name: "bob", tags: ["x", { z: null, a: 1.5 }] };
+  const ops = [{ insert: { mention } }, { insert: "b", attributes: { "line-height": 1.5, link: "json:x", bold: true } }];
+  document.apply(ops);
+  await document.flush();
+  const flat = [
+    { insert: { mention: 'json:{"id":7,"name":"bob","tags":["x",{"a":1.5,"z":null}]}' } },
+    { insert: "b", attributes: { "line-height": "json:1.5", link: 'json:"json:x"', bold: true } },
+    { insert: "a\n" },
+  ];
+  assert.deepEqual(newest(), flat);
+  const rich = [...ops, { insert: "a\n" }];
+  await until(() => shown.contents.ops.length === 3);
+  assert.deepEqual([document.contents.ops, shown.contents.ops], [rich, rich]);
+  document.history.endStep();
+  document.apply([{ retain: 1 }, { retain: 1, attributes: { "line-height": null, link: { b: 1, a: 2 } } }]);
+  document.apply([{ retain: 1 }, { retain: 1, attributes: { link: { a: 2, b: 1 } } }]); // which is equal
+  assert.equal(document.history.undo(), true);
+  await document.flush();
+  assert.deepEqual(newest(), flat);
+  const foreign = await document.client.open("foreign", { create: [{ insert: "x", attributes: { own: "json:{", other: 'json:{"b":1, "a":2}' } }] });
+  assert.deepEqual(foreign.contents.ops[0].attributes, { own: "json:{", other: 'json:{"b":1, "a":2}' });
+
+  const encode = (value, name) => (name === "mention" ? `@${value.id}` : value);
+  const decode = (value, name) => (name === "mention" ? { id: Number(String(value).slice(1)) } : value);
+  const other = await document.client.open("other", { create: [{ insert: { mention: { id: 7 } } }], encode, decode });
+  assert.deepEqual([other.contents.ops, (await document.client.fetch("other")).ops], [[{ insert: { mention: { id: 7 } } }], [{ insert: { mention: "@7" } }]]);
+  const failing = await document.client.open("d", { encode: () => JSON.parse("no") });
+  assert.throws(() => failing.apply([{ insert: { mention } }]), { name: "BadOps" });
+  assert.equal(failing.state, "refused");
+});
+
 test("it computes by its own deltas, whatever the page has", async (t) => {
   const { open } = await prepared(t);
   class Other extends Delta {}
