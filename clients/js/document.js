@@ -40,7 +40,7 @@ const NEVER = { timeout: Infinity }; // an edit is sent until it is answered
 /**
  * The events of a document, by their names.
  * @typedef {{
- *   change: ChangeEvent, trouble: TroubleEvent, doubt: DoubtEvent, unkept: UnkeptEvent, rebased: RebasedEvent,
+ *   change: ChangeEvent, trouble: TroubleEvent | import("./events.js").PartedEvent, doubt: DoubtEvent, unkept: UnkeptEvent, rebased: RebasedEvent,
  *   state: StateEvent<DocumentState>, progress: Event
  * }} DocumentEvents
  */
