@@ -1,7 +1,7 @@
 #!/usr/bin/env python3
 """Types in Quill itself, in one to three windows of a headless Chromium, through the gateway, by keys, mouse, clipboard and input method.
 
-usage: checks/quill.py [--actions N] [--seed N] [--speed] [SCENE..]     (default: all scenes, and 500 actions)
+usage: checks/quill.py [--actions N] [--seed N] [SCENE..]     (default: all scenes, and 500 actions)
 
 Each scene has a document of its own. After each the windows, their editors and the server have the same, and what the scene says is there:
 
@@ -18,26 +18,23 @@ Each scene has a document of its own. After each the windows, their editors and 
     values        a mention, whose value is an object
     uploading     a pasted image that is uploaded while others type
     presence      carets of others
+    readme        the page of clients/js/README.md in a folder of its own, and, where esbuild is there, bundled by it
+    random        N actions in one, two and three windows, while connections are cut, the server and the gateway are killed, and pages are
+                  loaded again; every 50 of them all windows and the server have the same, and nothing changes any more
 
-Then N random actions in one, two and three windows, while connections are cut, the server and the gateway are killed, and pages are loaded again;
-every 50 of them all windows and the server have the same. At the end `richd dump` has what the windows show. --speed measures instead what a
-letter costs in a document of 8,000 runs, with `bind` and without, and how soon a document of 1 MB is opened.
+At the end `richd dump` has what the windows show.
 
 It wants Debian's chromium, bibledit-cloud-data (Quill 1.3), nodejs and node-ws, and the program that ./demo builds, or another that RICHD names.
 Where Chromium or Quill is missing it says so, and its status is 0.
 """
 import argparse
 import collections
-import functools
-import http.server
 import json
 import os
 import pathlib
-import queue
 import random
 import re
-import signal
-import socket
+import shutil
 import subprocess
 import sys
 import tempfile
@@ -45,261 +42,9 @@ import threading
 import time
 
 from chromium import IS_THERE, Chromium
+from quill_windows import CONTROL, PATIENCE, PLACE, QUILL, RICHD, ROOT, SHIFT, Programs, Proxy, Window, wait_until
 
-ROOT = pathlib.Path(__file__).resolve().parent.parent
-RICHD = os.environ.get("RICHD") or str(ROOT / "crates/richd/out/richd")
-QUILL = pathlib.Path("/usr/share/bibledit-cloud/quill")
-PATIENCE = 60  # seconds, on a busy machine too
-SHAPE = ["--cell", "16000000", "--slot", "4000000", "--sources", "4096"]
 USERS = ["ann", "bob", "cyn"]
-
-
-def free_port():
-    with socket.create_server(("127.0.0.1", 0)) as listener:
-        return listener.getsockname()[1]
-
-
-def cut(one):
-    try:
-        one.shutdown(socket.SHUT_RDWR)
-    except OSError:
-        pass
-
-
-def wait_until(holds, what, patience=PATIENCE):
-    end = time.monotonic() + patience
-    while not (value := holds()):
-        if time.monotonic() > end:
-            raise TimeoutError(f"{what}: not within {patience} seconds")
-        time.sleep(0.03)
-    return value
-
-
-class Proxy:
-    """Stands between the browser and the gateway: delays what goes either way, cuts connections, and refuses them."""
-
-    def __init__(self, upstream):
-        self.upstream, self.delay, self.is_away, self.pairs = upstream, 0.0, False, []
-        self.listener = socket.create_server(("127.0.0.1", 0))
-        self.port = self.listener.getsockname()[1]
-        threading.Thread(target=self.accept, daemon=True).start()
-
-    def accept(self):
-        while True:
-            try:
-                near = self.listener.accept()[0]
-            except OSError:
-                return
-            try:
-                if self.is_away:
-                    raise ConnectionRefusedError
-                far = socket.create_connection(("127.0.0.1", self.upstream))
-            except OSError:
-                near.close()
-                continue
-            self.pairs.append((near, far))
-            for one, other in ((near, far), (far, near)):
-                one.setsockopt(socket.IPPROTO_TCP, socket.TCP_NODELAY, 1)
-                threading.Thread(target=self.carry, args=(one, other), daemon=True).start()
-
-    def carry(self, source, target):
-        pieces = queue.Queue()
-        threading.Thread(target=self.send, args=(pieces, source, target), daemon=True).start()
-        try:
-            while piece := source.recv(65_536):
-                pieces.put((time.monotonic() + self.delay, piece))
-        except OSError:
-            pass
-        pieces.put(None)
-
-    def send(self, pieces, source, target):
-        while item := pieces.get():
-            time.sleep(max(0, item[0] - time.monotonic()))
-            try:
-                target.sendall(item[1])
-            except OSError:
-                break
-        cut(source)
-        cut(target)
-
-    def cut(self):
-        for pair in self.pairs:
-            for one in pair:
-                cut(one)
-        self.pairs.clear()
-
-    def go_away(self):
-        self.is_away = True
-        self.cut()
-
-
-class Pages(http.server.SimpleHTTPRequestHandler):
-    def log_message(self, *_):
-        pass
-
-    def translate_path(self, path):
-        path = path.split("?")[0]
-        return str(QUILL / path.removeprefix("/quill/")) if path.startswith("/quill/") else super().translate_path(path)
-
-
-class Programs:
-    """richd and the gateway, which may be killed and started again, and a server of the page."""
-
-    def __init__(self, folder):
-        self.folder, self.store = folder, os.path.join(folder, "store")
-        subprocess.run([RICHD, "format", self.store, *SHAPE], check=True)
-        pages = http.server.ThreadingHTTPServer(("127.0.0.1", 0), functools.partial(Pages, directory=str(ROOT)))
-        threading.Thread(target=pages.serve_forever, daemon=True).start()
-        self.origin = f"http://127.0.0.1:{pages.server_address[1]}"
-        self.richd_port, self.gateway_port = free_port(), free_port()
-        self.start_richd()
-        self.start_gateway()
-
-    def start(self, command, ready):
-        program = subprocess.Popen(command, stdout=subprocess.PIPE, stderr=subprocess.DEVNULL, text=True)
-        line = program.stdout.readline()
-        assert ready in line, f"{command[0]}: {line}"
-        return program
-
-    def start_richd(self):
-        self.richd = self.start([RICHD, "serve", self.store, "--listen", f"127.0.0.1:{self.richd_port}"], "listening")
-
-    def start_gateway(self):
-        words = [f"127.0.0.1:{self.richd_port}", "--listen", f"127.0.0.1:{self.gateway_port}", "--origin", self.origin, "--data", self.folder + "/data"]
-        self.gateway = self.start(["node", str(ROOT / "clients/js/bridge.js"), *words], "bridge")
-
-    def kill(self, name):
-        program = getattr(self, name)
-        program.kill()
-        program.wait()
-
-    def fetch(self, doc):
-        with socket.create_connection(("127.0.0.1", self.richd_port)) as connection, connection.makefile("rw") as lines:
-            lines.write('{"do":"hello","source":"observer"}\n' + json.dumps({"do": "fetch", "doc": doc}) + "\n")
-            lines.flush()
-            lines.readline()
-            return json.loads(lines.readline())
-
-    def stop(self):
-        for program in (self.gateway, self.richd):
-            program.send_signal(signal.SIGTERM)
-            program.wait(PATIENCE)
-
-    def dump(self):
-        dumped = subprocess.run([RICHD, "dump", self.store], check=True, capture_output=True, text=True).stdout
-        return {name: json.loads(document)["ops"] for name, _, _, document in (line.split(" ", 3) for line in dumped.splitlines())}
-
-
-READ = """
-    const { quill, shared, told } = page;
-    quill.update();
-    return {
-        editor: quill.getContents().ops, shared: shared.contents.ops, state: shared.state, isSaved: shared.isSaved, revision: shared.revision,
-        selection: quill.getSelection(), told, values: shared.values.encode(shared.contents.ops),
-    };"""
-
-# Where a caret may be: at a share of the text, between whole characters.
-PLACE = """
-    const [share, length] = arguments;
-    const text = page.quill.getContents().ops.map(({ insert }) => (typeof insert === "string" ? insert : "*")).join("");
-    const whole = (index) => (/[\\udc00-\\udfff]/.test(text[index] ?? "") ? index - 1 : index);
-    const start = whole(Math.floor(share * text.length));
-    const end = Math.max(start, whole(Math.min(text.length - 1, start + length)));
-    page.quill.focus();
-    page.quill.setSelection(start, end - start, "user");"""
-
-CONTROL, SHIFT = 2, 8  # modifiers of a key
-KEYS = {"Enter": (13, "\r"), "Backspace": (8, None), "Delete": (46, None), "Tab": (9, None), "Home": (36, None), "End": (35, None)}
-KEYS |= {name: (37 + index, None) for index, name in enumerate(["ArrowLeft", "ArrowUp", "ArrowRight", "ArrowDown"])}
-
-
-class Window:
-    def __init__(self, browser, url, user):
-        self.browser, self.url, self.user, self.composed = browser, url, user, None
-        self.window = browser.open_window(url)
-        self.wait_for_page()
-
-    def wait_for_page(self):
-        wait_until(lambda: self.run("return globalThis.page !== undefined"), "the page")
-
-    def load_again(self):
-        self.browser.switch(self.window)
-        self.browser.go_to(self.url)
-        self.composed = None
-        self.wait_for_page()
-
-    def run(self, script, *arguments):
-        self.browser.switch(self.window)
-        return self.browser.run(script, *arguments)
-
-    def command(self, name, **parameters):
-        self.browser.switch(self.window)
-        return self.browser.command(name, **parameters)
-
-    def read(self):
-        return self.run(READ)
-
-    def text(self):
-        return "".join(op["insert"] if isinstance(op["insert"], str) else "*" for op in self.read()["editor"])
-
-    def caret(self, index, length=0):
-        self.run("page.quill.focus(); page.quill.setSelection(arguments[0], arguments[1], 'user')", index, length)
-
-    def key(self, key, modifiers=0, commands=()):
-        number, text = KEYS[key] if key in KEYS else (ord(key.upper()) if key.isalnum() else 0, key)
-        names = {"key": key, "windowsVirtualKeyCode": number, "modifiers": modifiers}
-        said = {"text": text} if text is not None and modifiers & CONTROL == 0 else {}
-        self.command("Input.dispatchKeyEvent", type="keyDown" if said else "rawKeyDown", **names, **said, commands=list(commands))
-        self.command("Input.dispatchKeyEvent", type="keyUp", **names)
-
-    def type(self, text):
-        for character in text:
-            if character == "\n":
-                self.key("Enter")
-            elif character.isascii():
-                self.key(character)
-            else:
-                self.put(character)
-
-    def put(self, text):
-        """What an input method, or a list of emoji, puts in at once."""
-        self.command("Input.insertText", text=text)
-
-    def compose(self, text):
-        self.command("Input.imeSetComposition", text=text, selectionStart=len(text), selectionEnd=len(text))
-
-    def undo(self):
-        self.key("z", CONTROL)
-
-    def redo(self):
-        self.key("z", CONTROL | SHIFT)
-
-    def select_all(self):
-        self.key("a", CONTROL, ["selectAll"])
-
-    def click(self, selector):
-        box = self.run("const box = document.querySelector(arguments[0]).getBoundingClientRect(); return [box.x + box.width / 2, box.y + box.height / 2]", selector)
-        for kind in ("mousePressed", "mouseReleased"):
-            self.command("Input.dispatchMouseEvent", type=kind, x=box[0], y=box[1], button="left", clickCount=1)
-
-    def paste(self, html=None, text="nothing"):
-        """Writes the clipboard, and presses Ctrl+V."""
-        self.command("Page.bringToFront")
-        self.run(
-            """const [html, text] = arguments;
-            const parts = { "text/plain": new Blob([text], { type: "text/plain" }) };
-            if (html !== null) parts["text/html"] = new Blob([html], { type: "text/html" });
-            return navigator.clipboard.write([new ClipboardItem(parts)]);""",
-            html,
-            text,
-        )
-        before = self.run("page.pastes = (page.pastes ?? 0); page.quill.root.addEventListener('paste', () => setTimeout(() => (page.pastes += 1), 5), { once: true, capture: true }); return page.pastes")
-        self.key("v", CONTROL, ["paste"])
-        wait_until(lambda: self.run("return page.pastes") > before, "a paste")
-
-    def apply(self, *ops):
-        """What the page's code does as its user."""
-        self.run("page.quill.updateContents(arguments[0], 'user')", list(ops))
 
 
 def spelled(ops):
@@ -307,9 +52,9 @@ def spelled(ops):
 
 
 class Check:
-    def __init__(self, programs, proxy, browser):
-        self.programs, self.proxy, self.browser = programs, proxy, browser
-        self.failed, self.shown, self.scene = [], 0, None
+    def __init__(self, programs, proxy, browser, actions=0, seed=1):
+        self.programs, self.proxy, self.browser, self.actions, self.seed = programs, proxy, browser, actions, seed
+        self.failed, self.shown, self.scene, self.counts = [], 0, None, collections.Counter()
         self.last = {}  # of each document, what it is at last
 
     def expect(self, holds, what):
@@ -549,26 +294,29 @@ class Check:
         case("undone", ["Qhello world\n"], lambda ann, _: ann.run("page.quill.history.cutoff()"), begin, typed(0, "Q"), commit, lambda ann, _: ann.undo())
 
     def long(self, doc):
-        lines = [({"insert": f"some words of line {number}", "attributes": {"bold": True}}, {"insert": "\n", "attributes": {"list": "bullet"}}) for number in range(4_000)]
-        contents = [op for line in lines for op in line]
+        words = "words of a long document " * 5
+        contents = []
+        for line in range(160):
+            contents += [{"insert": f"{line} {run} {words}", "attributes": {"bold": True} if run % 2 else {"italic": True}} for run in range(10)]
+            contents.append({"insert": "\n", "attributes": {"list": "bullet"}})
         with tempfile.NamedTemporaryFile("w", dir=ROOT / "checks", prefix="quill-", suffix=".json") as file:
             json.dump(contents, file)
             file.flush()
             name = os.path.basename(file.name)
             ann, bob = self.open(f"{doc}-whole", create=name)
-            self.expect(self.settle(f"{doc}-whole", ann, bob) == contents, "a long creation is another")
+            self.expect(spelled(self.settle(f"{doc}-whole", ann, bob)) == spelled(contents), "a long creation is another")
             self.close()
             ann, = self.open(f"{doc}-closed", 1, create=name, offline=1)
             wait_until(lambda: ann.run("return page.shared.isKept"), "what is created to be kept")
             ann.load_again()
-            self.expect(self.settle(f"{doc}-closed", ann) == contents, "a creation whose page was closed in between is another")
+            self.expect(spelled(self.settle(f"{doc}-closed", ann)) == spelled(contents), "a creation whose page was closed in between is another")
             self.close()
         ann, bob = self.open(f"{doc}-pasted")
         ann.caret(0)
         ann.type("ab")
         self.settle(f"{doc}-pasted", ann, bob)
         ann.caret(1)
-        ann.paste(html="".join(f"<p><b>bold {number}</b> and plain, so that it is long <i>it {number}</i> enough for it</p>" for number in range(1_500)))
+        ann.paste(html="".join(f"<p><b>bold {number}</b> {words * 8} <i>it {number}</i></p>" for number in range(200)))
         bob.caret(0)
         bob.type("QQ")
         ops = self.settle(f"{doc}-pasted", ann, bob)
@@ -700,8 +448,51 @@ class Check:
         wait_until(lambda: places(bob) == [["ann", 12, 0], ["cyn", 1, 0]], "the caret of who types")
         self.settle(doc, ann, bob, cyn)
 
+    def readme(self, _):
+        page = re.search(r"```html\n(.*?)```", (ROOT / "clients/js/README.md").read_text(), re.DOTALL)[1]
+        with tempfile.TemporaryDirectory() as folder:
+            pages = pathlib.Path(folder, "pages")
+            (pages / "node_modules").mkdir(parents=True)
+            (pages / "index.html").write_text(page)
+            names = [""]
+            if shutil.which("esbuild"):
+                names.append("bundled.html")
+                (pages / "node_modules/richd").symlink_to(ROOT / "clients/js")
+                script = re.search(r'<script type="module">(.*?)</script>', page, re.DOTALL)[1]
+                (pages / "main.js").write_text(re.sub(r'"/clients/js/(\w+)\.js"', r'"richd/\1"', script))
+                (pages / "bundled.html").write_text(page.replace(script, "").replace('<script type="module">', '<script type="module" src="/bundle.js">'))
+                command = ["esbuild", "main.js", "--bundle", "--format=esm", "--outfile=bundle.js", "--log-level=error"]
+                subprocess.run(command, cwd=pages, check=True)
+            programs = Programs(folder, str(pages))
+            try:
+                for number, name in enumerate(names):
+                    windows = []
+                    for user in USERS[:2]:
+                        windows.append(self.browser.open_window(f"http://127.0.0.1:{programs.gateway_port}/{name}?user={user}"))
+                        wait_until(lambda: self.browser.run("return document.getElementById('state').textContent") == "saved", "the page's state")
+                        self.browser.run("document.querySelector('.ql-editor').focus()")
+                        self.browser.press(*user)
+                    wanted = "bobann" * (number + 1)
+                    for window in windows:
+                        self.browser.switch(window)
+                        wait_until(lambda: self.browser.run("return document.querySelector('.ql-editor').textContent") == wanted, f"{wanted} in both windows")
+                    wait_until(lambda: programs.fetch("letter")["ops"] == [{"insert": wanted + "\n"}], "the document")
+                    self.shown += 1
+                    self.close()
+            finally:
+                programs.stop()
 
-SCENES = ["letters", "undo", "formats", "fewer", "throwing", "texts", "composing", "long", "pasting", "lines", "values", "uploading", "presence"]
+    def random(self, doc):
+        for count in (1, 2, 3):
+            fuzz = Fuzz(self, random.Random(self.seed + count), f"{doc}-{count}", count)
+            try:
+                fuzz.run(self.actions * count // 6)
+            finally:
+                self.counts += fuzz.counts
+            self.close()
+
+
+SCENES = ["letters", "undo", "formats", "fewer", "throwing", "texts", "composing", "long", "pasting", "lines", "values", "uploading", "presence", "readme", "random"]
 
 HTML = ["<b>bo</b>ld<p>para</p>", "<ul><li>x<ul><li>y</li></ul></li></ul>", '<a href="http://e.org/">link</a> t', "<p>\U0001f600</p><p><br></p>", "<h1>H</h1>"]
 HTML += ['<img src="data:image/png;base64,iVBORw0KGgo=">', "<ol><li>1</li><li>2</li></ol>", "<p>a&nbsp;&nbsp;b</p>", "<pre>code\n x</pre>", "<blockquote>q</blockquote>"]
@@ -712,9 +503,9 @@ PIECES = ["\U0001f600", "\U0001f468\u200d\U0001f469", "e\u0301", "\u1112\u1161",
 class Fuzz:
     """Random actions in some windows, over what befalls the programs and pages."""
 
-    def __init__(self, check, draw, count):
-        self.check, self.draw, self.doc = check, draw, f"random-{count}"
-        self.windows = check.open(self.doc, count, offline=1)
+    def __init__(self, check, draw, doc, count):
+        self.check, self.draw, self.doc = check, draw, doc
+        self.windows = check.open(doc, count, offline=1)
         self.letters = dict(zip(USERS, ("abcdef", "GHIJKL", "mnopqr")))
         self.counts, self.log = collections.Counter(), []
         for window in self.windows:
@@ -809,7 +600,6 @@ class Fuzz:
         for window in self.windows:
             told = [told for told in window.read()["told"] if told[1] == "Parted"]
             self.check.expect(not told, f"{window.user}'s editor was parted: {told}")
-        return self.counts
 
 
 def main(words):
@@ -819,7 +609,6 @@ def main(words):
     if missing:
         print(f"skipped: there is no {missing}")
         return 0
-    counts = collections.Counter()
     with tempfile.TemporaryDirectory() as folder:
         programs = Programs(folder)
         check = None
@@ -828,26 +617,16 @@ def main(words):
             browser = Chromium(width=900, height=600)
             try:
                 browser.ask("Browser.grantPermissions", permissions=["clipboardReadWrite", "clipboardSanitizedWrite"])
-                check = Check(programs, proxy, browser)
+                check = Check(programs, proxy, browser, words.actions, words.seed)
                 for check.scene in words.scenes or SCENES:
                     began = time.monotonic()
                     try:
                         getattr(check, check.scene)(check.scene)
-                    except (TimeoutError, RuntimeError, AssertionError, LookupError) as error:
+                    except (TimeoutError, RuntimeError, AssertionError) as error:
                         check.fail(f"{type(error).__name__} {error}")
                     proxy.delay, proxy.is_away = 0, False
                     check.close()
                     print(f"        {check.scene}: {time.monotonic() - began:.0f} s", flush=True)
-                for count in () if words.scenes else (1, 2, 3):
-                    check.scene = f"{count} at random"
-                    try:
-                        fuzz = Fuzz(check, random.Random(words.seed + count), count)
-                        fuzz.run(words.actions * count // 6)
-                    except (TimeoutError, RuntimeError, AssertionError) as error:
-                        check.fail(f"{type(error).__name__} {error}")
-                    counts += fuzz.counts
-                    proxy.delay, proxy.is_away = 0, False
-                    check.close()
             finally:
                 browser.close()
         finally:
@@ -858,13 +637,13 @@ def main(words):
             check.fail(f"richd dump has something else than the windows of {doc}: {json.dumps(dumped.get(doc))[:500]}")
     if check.failed:
         return 1
-    said = ", ".join(f"{number} {name}" for name, number in counts.items())
+    said = ", ".join(f"{number} {name}" for name, number in check.counts.items())
     print(f"ok: {len(words.scenes or SCENES)} scenes, {check.shown} things shown, {said or 'nothing at random'}, 0 differences in {len(check.last)} documents")
     return 0
 
 
 if __name__ == "__main__":
-    parser = argparse.ArgumentParser(usage="checks/quill.py [--actions N] [--seed N] [--speed] [SCENE..]")
+    parser = argparse.ArgumentParser(usage="checks/quill.py [--actions N] [--seed N] [SCENE..]")
     parser.add_argument("--actions", type=int, default=500)
     parser.add_argument("--seed", type=int, default=1)
     parser.add_argument("scenes", nargs="*", choices=[*SCENES, []])
