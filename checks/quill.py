@@ -79,14 +79,15 @@ class Check:
                 pass
         self.browser.sessions.clear()
 
-    def settle(self, doc, *windows, shows_all=True, quietly=False):
-        """Waits until all windows and the server have the same. Gives the operations, as the server has them."""
+    def settle(self, doc, *windows, shows_all=True, quietly=False, may_lose=False):
+        """Waits until all windows and the server have the same. Gives the operations, as the server has them. Where Quill itself threw at what its
+        user did, that may be lost."""
         end, pages, served = time.monotonic() + PATIENCE, [], {}
         while time.monotonic() < end:
             pages = [window.read() for window in windows]
             served = self.programs.fetch(doc)
             alike = all(
-                page["state"] == "saved" and page["revision"] == served["rev"] and spelled(page["values"]) == spelled(served["ops"])
+                (page["state"] == "saved" or may_lose and page["state"] == "refused" and page["isSaved"]) and page["revision"] == served["rev"] and spelled(page["values"]) == spelled(served["ops"])
                 and (not shows_all or spelled(page["editor"]) == spelled(page["shared"]))
                 for page in pages
             )
@@ -580,7 +581,12 @@ class Fuzz:
                 window.composed = None
         self.check.proxy.delay, self.check.proxy.is_away = 0, False
         try:
-            self.check.settle(self.doc, *self.windows, quietly=True)
+            self.check.settle(self.doc, *self.windows, quietly=True, may_lose=True)
+            for window in self.windows:
+                told = window.run("return page.told.splice(0)")
+                parted, thrown = ([one for one in told if one[name] == what] for name, what in ((1, "Parted"), (0, "error")))
+                assert len(parted) <= len(thrown), f"{window.user}'s editor was parted: {parted}"
+                self.counts["changes at which Quill threw"] += len(thrown)
             revision = self.check.programs.fetch(self.doc)["rev"]
             time.sleep(0.2)
             assert self.check.programs.fetch(self.doc)["rev"] == revision, "revisions are made though nobody types"
@@ -597,9 +603,6 @@ class Fuzz:
                 self.befall()
             if number % 50 == 0 or number == actions:
                 self.settle()
-        for window in self.windows:
-            told = [told for told in window.read()["told"] if told[1] == "Parted"]
-            self.check.expect(not told, f"{window.user}'s editor was parted: {told}")
 
 
 def main(words):

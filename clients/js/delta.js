@@ -61,6 +61,21 @@ export function areAlike(one, other) {
   return more === 0;
 }
 
+/**
+ * Whether two deltas in normal form are the same.
+ * @param {{ ops: Op[] }} one
+ * @param {{ ops: Op[] }} other
+ */
+export function areSame(one, other) {
+  if (one.ops.length !== other.ops.length) return false;
+  return one.ops.every((op, at) => {
+    const { insert, retain, delete: gone, attributes } = other.ops[at];
+    const isSame = op.retain === retain && op.delete === gone && areAlike(op.attributes, attributes);
+    if (typeof op.insert !== "object" || typeof insert !== "object") return isSame && op.insert === insert;
+    return isSame && areAlike(op.insert, insert);
+  });
+}
+
 /** @param {Op} op @param {Attributes | undefined} attributes @returns {Op} */
 const withAttributes = (op, attributes) => (attributes === undefined ? op : { ...op, attributes });
 

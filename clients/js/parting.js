@@ -1,7 +1,6 @@
 // How an edit that is too long for one line is sent in several.
 
-import { Delta, lengthOf } from "./delta.js";
-import { difference } from "./difference.js";
+import { Delta, areSame, lengthOf } from "./delta.js";
 import { Refusal } from "./errors.js";
 import { MAX_LINE, bytesOf, takenOver } from "./operations.js";
 
@@ -27,7 +26,7 @@ export const isLong = (ops) => ops.length > MOST_OPS || bytesOf(ops) > MAX_LINE 
 export function restOf(made, ops) {
   const [beginning, whole] = [new Delta(made), takenOver(ops)];
   const length = beginning.length();
-  if (difference(beginning, whole.slice(0, length)).ops.length > 0) return undefined;
+  if (!areSame(beginning, whole.slice(0, length))) return undefined;
   const rest = new Delta().retain(length);
   for (const op of whole.slice(length).ops) rest.push(op);
   return rest.chop();

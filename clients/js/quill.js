@@ -125,6 +125,8 @@ class Binding {
     document.addEventListener("trouble", () => (this.#mayMend = false), { signal });
     quill.root?.addEventListener("compositionstart", () => this.#beginComposition(), { signal });
     quill.root?.addEventListener("compositionend", () => queueMicrotask(() => this.#afterComposition()), { signal });
+    const view = quill.root?.ownerDocument?.defaultView;
+    view?.addEventListener("error", () => queueMicrotask(() => this.#afterError()), { signal });
     this.#cursors = quill.getModule?.("cursors") ?? undefined;
     if (this.#cursors !== undefined) this.#bePresent();
   }
@@ -261,6 +263,16 @@ class Binding {
    */
   #wholeOf(typed, before) {
     return before === undefined ? typed : difference(this.#showing.read(before), this.#showing.contents());
+  }
+
+  // Quill may have thrown at what its user did, and then tells nothing more of that.
+  #afterError() {
+    if (this.#ending.signal.aborted || this.#isComposing) return;
+    this.#quill.update?.("user");
+    if (this.#ending.signal.aborted || this.#showing.shows(this.#contents)) return;
+    const shown = this.#showing.contents();
+    this.#showAnew();
+    if (!this.#ending.signal.aborted) this.#document.lose(this.#parted(new Delta(), shown, false));
   }
 
   // The editor shows something else than the document, so nobody knows where it was typed.

@@ -1,6 +1,6 @@
 // What an editor of Quill's kind shows of a document: the formats and embeds that it has.
 
-import { Delta, areAlike, lengthOf, valueOf } from "./delta.js";
+import { Delta, areAlike, areSame, lengthOf, valueOf } from "./delta.js";
 import { Units } from "./difference.js";
 
 const PLACEHOLDER = "\ufffc"; // is shown for an embed that the editor doesn't have
@@ -25,17 +25,6 @@ const textOf = (ops) => ops.map(({ insert }) => (typeof insert === "string" ? in
 
 /** @param {string[]} names */
 const removed = (names) => Object.fromEntries(names.map((name) => [name, null]));
-
-/** @param {Delta} one @param {Delta} other */
-function isSameChange(one, other) {
-  if (one.ops.length !== other.ops.length) return false;
-  return one.ops.every((op, at) => {
-    const { insert, retain, delete: gone, attributes } = other.ops[at];
-    const isSame = op.retain === retain && op.delete === gone && areAlike(op.attributes, attributes);
-    if (typeof op.insert !== "object" || typeof insert !== "object") return isSame && op.insert === insert;
-    return isSame && areAlike(op.insert, insert);
-  });
-}
 
 /**
  * Asks an editor, and reads it. All operations are as the server keeps them.
@@ -185,7 +174,7 @@ export class Showing {
     if (asked.ops.length === 0) return "done";
     const ops = this.#values.decode(asked.ops);
     if (!this.#ask(() => this.#quill.updateContents(new Delta(ops), this.#source))) return "failed";
-    return this.#told !== undefined && isSameChange(this.#told, asked) ? "done" : "other";
+    return this.#told !== undefined && areSame(this.#told, asked) ? "done" : "other";
   }
 
   /**
@@ -196,9 +185,14 @@ export class Showing {
     const wanted = this.wantedOf(document);
     for (let tries = 0; tries < MOST_TRIES; tries += 1) {
       this.#ask(() => this.#quill.setContents(new Delta(this.#values.decode(wanted.ops)), this.#source));
-      if (this.#stretches(wanted) !== undefined) return true;
+      if (this.shows(document)) return true;
     }
     return false;
+  }
+
+  /** Whether the editor shows a document's text. @param {Delta} document */
+  shows(document) {
+    return this.#stretches(this.wantedOf(document)) !== undefined;
   }
 
   /**

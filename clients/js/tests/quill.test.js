@@ -344,6 +344,22 @@ real("an editor that throws at a change is set anew", async (t) => {
   assert.deepEqual(bob.troubles, []);
 });
 
+real("an editor that throws at what its user did is set anew, and the document isn't saved until he types again", async (t) => {
+  const code = { "code-block": true };
+  const ops = [{ insert: "a" }, { insert: "\n", attributes: { list: "bullet" } }, { insert: "b" }, { insert: "\n", attributes: code }, { insert: "\n", attributes: { list: "bullet" } }];
+  const { person, settled, areAlike } = await prepared(t, Real, ops);
+  const ann = await person();
+  assert.throws(() => ann.quill.deleteText(3, 2, "user"));
+  ann.quill.window.dispatchEvent(new ann.quill.window.Event("error")); // as a browser does where keys are pressed
+  await settled(ann);
+  areAlike(ann);
+  assert.deepEqual([ann.troubles, ann.document.state, parted.isDisabled], [[["Parted", [], false]], "refused", false]);
+  ann.quill.press(0, "x");
+  await settled(ann);
+  areAlike(ann);
+  assert.equal(ann.document.state, "saved");
+});
+
 each("an editor that can't show the document is disabled, and told with both contents; the document isn't saved", async (t, Quill) => {
   const { person, settled, server } = await prepared(t, Quill, [{ insert: "Hello\n" }]);
   const [ann, bob] = [await person(), await person()];

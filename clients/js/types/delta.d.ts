@@ -19,6 +19,16 @@
 export function lengthOf(op: Op): number;
 /** @param {Attributes} [one] @param {Attributes} [other] */
 export function areAlike(one?: Record<string, Value | null> | undefined, other?: Record<string, Value | null> | undefined): boolean;
+/**
+ * Whether two deltas in normal form are the same.
+ * @param {{ ops: Op[] }} one
+ * @param {{ ops: Op[] }} other
+ */
+export function areSame(one: {
+    ops: Op[];
+}, other: {
+    ops: Op[];
+}): boolean;
 export function valueOf(attributes: Attributes | undefined, name: string): Value | null | undefined;
 /** What one change does to a text, or a document, as the inserts that make it. */
 export class Delta {

@@ -39,6 +39,8 @@ export class Showing {
      * @param {Delta} document
      */
     set(document: Delta): boolean;
+    /** Whether the editor shows a document's text. @param {Delta} document */
+    shows(document: any): boolean;
     /**
      * Has the editor show the formats of a document, whose text it shows. Where it doesn't show them together, as two kinds of a line, they are
      * taken away and set in the order of their names: then the last one stays, in every window. Gives the change that takes those out of the
