@@ -125,6 +125,8 @@ class Binding {
     document.addEventListener("trouble", () => (this.#mayMend = false), { signal });
     quill.root?.addEventListener("compositionstart", () => this.#beginComposition(), { signal });
     quill.root?.addEventListener("compositionend", () => queueMicrotask(() => this.#afterComposition()), { signal });
+    // A composition whose place is gone from the page may end without a word.
+    for (const name of ["keydown", "input", "blur"]) quill.root?.addEventListener(name, (/** @type {any} */ event) => this.#notice(event), { signal });
     const view = quill.root?.ownerDocument?.defaultView;
     view?.addEventListener("error", () => queueMicrotask(() => this.#afterError()), { signal });
     this.#cursors = quill.getModule?.("cursors") ?? undefined;
@@ -249,7 +251,7 @@ class Binding {
     if (showing.isAsking && source === "user" && !showing.hasTold) return void this.#within.push(told);
     const typed = isWhole(told, before) ? told : this.#wholeOf(told, before);
     this.#mayMend = true;
-    const shown = before?.length?.() ?? this.#quill.getContents().length() - growthOf(typed);
+    const shown = before === undefined ? this.#quill.getContents().length() - growthOf(typed) : new Delta(before.ops).length();
     if (shown + growthOf(this.#held) !== this.#document.length) return this.#onParted(typed);
     const held = this.#held;
     this.#held = typed.transform(held, false);
@@ -366,6 +368,11 @@ class Binding {
   #beginComposition() {
     this.#isComposing = true;
     this.#stand();
+  }
+
+  /** @param {{ isComposing?: boolean }} event */
+  #notice({ isComposing }) {
+    if (this.#isComposing && !isComposing) this.#afterComposition();
   }
 
   #afterComposition() {

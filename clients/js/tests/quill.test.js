@@ -59,9 +59,11 @@ async function prepared(t, Quill, ops = [{ insert: "\n" }], faults = {}) {
   };
   const settled = async (...people) => {
     await new Promise(setImmediate); // what is in a page is told by then
-    await Promise.all(people.map(({ document }) => document.flush()));
-    await until(() => people.every(({ document }) => document.revision === server.documents.newest("d")));
-    await Promise.all(people.map(({ document }) => document.flush()));
+    const areThere = () => people.every(({ document }) => document.revision === server.documents.newest("d"));
+    do {
+      await until(areThere);
+      await Promise.all(people.map(({ document }) => document.flush()));
+    } while (!areThere());
   };
   const areAlike = (...people) => {
     for (const { quill, document } of people) {
@@ -411,6 +413,18 @@ each("a character that begins as its neighbour does is typed as a whole", async 
   await settled(ann);
   areAlike(ann);
   assert.deepEqual([text(), ann.troubles], ["\u{1f600}\u{1f601}\n", []]);
+});
+
+each("a composition that ends without a word is over once something else is done", async (t, Quill) => {
+  const { person, settled, areAlike } = await prepared(t, Quill, [{ insert: "one\n" }]);
+  const [ann, bob] = [await person(), await person()];
+  ann.quill.root.dispatchEvent(new (ann.quill.window ?? globalThis).Event("compositionstart"));
+  bob.quill.press(0, "bob ");
+  await settled(ann, bob);
+  assert.equal(ann.quill.getText(), "one\n");
+  ann.quill.root.dispatchEvent(new (ann.quill.window ?? globalThis).Event("keydown"));
+  areAlike(ann, bob);
+  assert.equal(ann.document.state, "saved");
 });
 
 each("what is uploaded or composed isn't saved before it is in the document", async (t, Quill) => {
