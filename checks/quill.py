@@ -162,7 +162,7 @@ class Check:
         header, bullet = ".ql-header .ql-picker-item[data-value='1']", ".ql-list[value=bullet]"
         cases = [
             (lambda ann: (ann.caret(1), ann.click(".ql-header .ql-picker-label"), ann.click(header)), lambda bob: (bob.caret(2), bob.click(bullet)), {"list": "bullet"}),
-            (lambda ann: (ann.caret(1), ann.click(bullet)), lambda bob: (bob.caret(2), bob.click(".ql-code-block")), {"list": "bullet"}),
+            (lambda ann: (ann.caret(1), ann.click(bullet)), lambda bob: (bob.caret(2), bob.click(".ql-code-block")), {"code-block": True}),
             (lambda ann: (ann.caret(0, 4), ann.key("b", CONTROL)), lambda bob: (bob.caret(2), bob.click(".ql-code-block")), {"code-block": True}),
             (lambda ann: (ann.caret(1), ann.click(".ql-blockquote")), lambda bob: (bob.caret(2), bob.click(".ql-code-block")), {"code-block": True}),
         ]

@@ -284,6 +284,8 @@ const EXCLUSIVE = [
     [{ insert: "line" }, { insert: "\n", attributes: { "code-block": true } }]],
   ["an image in a block of code", "line\n", [[{ retain: 2 }, { insert: { image: "/a.png" } }], [{ retain: 4 }, { retain: 1, attributes: { "code-block": true } }]],
     [{ insert: "li" }, { insert: { image: "/a.png" } }, { insert: "ne\n" }]],
+  ["a list and a block of code", "line\n", [[{ retain: 4 }, { retain: 1, attributes: { list: "bullet" } }], [{ retain: 4 }, { retain: 1, attributes: { "code-block": true } }]],
+    [{ insert: "line" }, { insert: "\n", attributes: { "code-block": true } }]], // which Quill keeps, though a list is set after it
   ["a list and a line that is joined to it", "one\ntwo\n", [[{ retain: 7 }, { retain: 1, attributes: { list: "ordered" } }], [{ retain: 3 }, { delete: 1 }]],
     [{ insert: "onetwo" }, { insert: "\n", attributes: { list: "ordered" } }]],
 ];
