@@ -2,11 +2,12 @@
 // A bridge for browsers: the smallest use of the gateway. It serves the pages of examples/, and this folder, from which they load the client;
 // their WebSockets are the gateway's. Whoever connects is who the address says, as ?user=ann, and may do all.
 //
-//     node clients/js/bridge.js HOST:PORT [--listen HOST:PORT] [--origin URL]... [--data FOLDER] [--quill FOLDER]
+//     node clients/js/bridge.js HOST:PORT [--listen HOST:PORT] [--origin URL]... [--data FOLDER] [--quill FOLDER] [--pages FOLDER]
 //
 // The first address is the one of `richd serve STORE --listen HOST:PORT`. It listens on 127.0.0.1:8080 unless it is told otherwise; port 0
 // is one that is free. A page may connect that comes from a URL that is given, else one that was loaded from here by a name of this machine.
-// The first FOLDER keeps which names were lent; the last holds quill.js and quill.snow.css, which the editor loads where they are given.
+// The first FOLDER keeps which names were lent; the second holds quill.js and quill.snow.css, which the editor loads where they are given; the
+// files of the last are served too, its index.html as the first page.
 
 import { readdirSync, realpathSync } from "node:fs";
 import { readFile } from "node:fs/promises";
@@ -70,17 +71,18 @@ function userOf({ url }) {
  * @param {string[]} [options.origins]  of pages that may connect
  * @param {string} [options.data]  a folder that keeps which names were lent
  * @param {string} [options.quill]  a folder with Quill's files
+ * @param {string} [options.pages]  a folder with pages of one's own
  * @returns {Promise<{ url: string, webSocketUrl: string, close: () => Promise<void> }>}
  */
-export async function startBridge({ host, port, listenHost = "127.0.0.1", listenPort = 0, origins, data = dataFor(host, port), quill }) {
-  const files = filesIn(quill === undefined ? SERVED : { ...SERVED, "/quill/": quill });
-  for (const page of PAGES) files.set(page, files.get(page + "index.html"));
+export async function startBridge({ host, port, listenHost = "127.0.0.1", listenPort = 0, origins, data = dataFor(host, port), quill, pages }) {
+  const files = filesIn({ ...(pages && { "/": pages }), ...SERVED, ...(quill && { "/quill/": quill }) });
+  for (const page of ["/", ...PAGES]) if (files.has(page + "index.html")) files.set(page, files.get(page + "index.html"));
   const gateway = await createGateway({ name: "bridge", stores: [{ name: "store", host, port }], data, origins, authorize: userOf });
 
   const server = http.createServer(async (request, response) => {
     const [pathname] = request.url.split("?");
-    if (pathname === "/") return response.writeHead(302, { location: PAGES[0] }).end();
     const file = files.get(pathname);
+    if (file === undefined && pathname === "/") return response.writeHead(302, { location: PAGES[0] }).end();
     if (file === undefined) return gateway.handleRequest(request, response) || response.writeHead(404).end("no such page\n");
     try {
       const content = await readFile(file);
@@ -120,13 +122,14 @@ async function main() {
       origin: { type: "string", multiple: true },
       data: { type: "string" },
       quill: { type: "string" },
+      pages: { type: "string" },
     },
     allowPositionals: true,
   });
-  if (positionals.length !== 1) throw new Error("usage: bridge.js HOST:PORT [--listen HOST:PORT] [--origin URL]... [--data FOLDER] [--quill FOLDER]");
+  if (positionals.length !== 1) throw new Error("usage: bridge.js HOST:PORT [--listen HOST:PORT] [--origin URL]... [--data FOLDER] [--quill FOLDER] [--pages FOLDER]");
   const [host, port] = readAddress(positionals[0]);
   const [listenHost, listenPort] = readAddress(values.listen);
-  const bridge = await startBridge({ host, port, listenHost, listenPort, origins: values.origin, data: values.data, quill: values.quill });
+  const bridge = await startBridge({ host, port, listenHost, listenPort, origins: values.origin, data: values.data, quill: values.quill, pages: values.pages });
   console.log(`bridge ${bridge.url}`);
   for (const signal of /** @type {const} */ (["SIGTERM", "SIGINT"])) process.once(signal, () => bridge.close().then(() => process.exit(0)));
 }

@@ -12,9 +12,6 @@
  *
  * @typedef {object} QuillDelta  a delta of quill-delta, whose types leave open what an attribute is
  * @property {{ insert?: string | Record<string, unknown>, retain?: number | Record<string, unknown>, delete?: number, attributes?: Record<string, unknown> }[]} ops
- * @property {(other: any, priority?: boolean) => any} transform
- *
- * @typedef {new (ops?: any) => QuillDelta} DeltaClass
  */
 
 /**
@@ -44,16 +41,39 @@ function without(attributes, drops) {
   return kept.length === 0 ? undefined : Object.fromEntries(kept);
 }
 
+/**
+ * The value that attributes have under a name. They have none under a name such as "constructor" that only their prototype has.
+ * @param {Attributes | undefined} attributes
+ * @param {string} name
+ * @returns {Value | null | undefined}
+ */
+export const valueOf = (attributes, name) => (attributes !== undefined && Object.hasOwn(attributes, name) ? attributes[name] : undefined);
+
 /** @param {Attributes} [one] @param {Attributes} [other] */
 export function areAlike(one, other) {
   if (one === other) return true;
   let more = 0; // names that `one` has more
   for (const name in one) {
-    if (one[name] !== other?.[name]) return false;
+    if (one[name] !== valueOf(other, name)) return false;
     more += 1;
   }
   for (const _ in other) more -= 1;
   return more === 0;
+}
+
+/**
+ * Whether two deltas in normal form are the same.
+ * @param {{ ops: Op[] }} one
+ * @param {{ ops: Op[] }} other
+ */
+export function areSame(one, other) {
+  if (one.ops.length !== other.ops.length) return false;
+  return one.ops.every((op, at) => {
+    const { insert, retain, delete: gone, attributes } = other.ops[at];
+    const isSame = op.retain === retain && op.delete === gone && areAlike(op.attributes, attributes);
+    if (typeof op.insert !== "object" || typeof insert !== "object") return isSame && op.insert === insert;
+    return isSame && areAlike(op.insert, insert);
+  });
 }
 
 /** @param {Op} op @param {Attributes | undefined} attributes @returns {Op} */
@@ -87,7 +107,7 @@ function composed(first, second, keepsNull) {
  * @param {boolean} priority
  */
 function transformed(first, second, priority) {
-  return without(second, (name) => priority && first?.[name] !== undefined);
+  return without(second, (name) => priority && valueOf(first, name) !== undefined);
 }
 
 /**
@@ -96,7 +116,7 @@ function transformed(first, second, priority) {
  * @param {Attributes} [base]
  */
 function inverted(change, base = {}) {
-  const back = Object.keys(change).map((name) => [name, base[name] ?? null]);
+  const back = Object.keys(change).map((name) => [name, valueOf(base, name) ?? null]);
   return without(Object.fromEntries(back), (name, value) => value === change[name]);
 }
 

@@ -1,6 +1,6 @@
 // What makes one document of another, where nobody knows what happened in between.
 
-import { Delta, areAlike, lengthOf } from "./delta.js";
+import { Delta, areAlike, lengthOf, valueOf } from "./delta.js";
 
 const MOST_STEPS = 1_000; // differences that are looked for; past them one change replaces what differs
 const LINE = /[^\n]*\n|[^\n]+$/g;
@@ -158,12 +158,12 @@ const partsOf = (text, part) => text.match(part) ?? [];
  * @param {import("./delta.js").Attributes} [to]
  */
 function attributesBetween(from = {}, to = {}) {
-  const names = [...new Set([...Object.keys(from), ...Object.keys(to)])].filter((name) => from[name] !== to[name]);
-  return names.length === 0 ? undefined : Object.fromEntries(names.map((name) => [name, to[name] ?? null]));
+  const names = [...new Set([...Object.keys(from), ...Object.keys(to)])].filter((name) => valueOf(from, name) !== valueOf(to, name));
+  return names.length === 0 ? undefined : Object.fromEntries(names.map((name) => [name, valueOf(to, name) ?? null]));
 }
 
 /** Goes over a document's operations, so many units at a time. */
-class Units {
+export class Units {
   #ops;
   #index = 0;
   #offset = 0;
@@ -171,6 +171,10 @@ class Units {
   /** @param {Op[]} ops */
   constructor(ops) {
     this.#ops = ops;
+  }
+
+  get isAtEnd() {
+    return this.#index === this.#ops.length;
   }
 
   /** How many units come that have the same attributes. */

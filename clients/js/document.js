@@ -1,21 +1,20 @@
 // A document that types ahead: what is typed shows at once, and is sent one edit at a time.
 
-import { Delta as OwnDelta } from "./delta.js";
+import { Delta } from "./delta.js";
 import { difference } from "./difference.js";
 import { Emitter } from "./emitter.js";
 import { Refusal, RichdError } from "./errors.js";
 import { ChangeEvent, DoubtEvent, RebasedEvent, StateEvent, TroubleEvent, UnkeptEvent } from "./events.js";
 import { History, Steps } from "./history.js";
+import { within } from "./limits.js";
 import { cutsPair, growthOf, reachOf, takenOver } from "./operations.js";
-import { parted } from "./parting.js";
+import { LEAST_ROOM, ROOM, isLong, isTooLong, parted, restOf } from "./parting.js";
 import { Pauses } from "./pauses.js";
 import { Places, Presence } from "./presence.js";
+import { Values } from "./values.js";
 
-const ROOM = 48 * 1024; // bytes of an edit's operations, in a line that may have 65,536
-const LEAST_ROOM = 64;
 const MOST_PAST_ENDS = 4;
 const MOST_NEWS = 1_000; // revisions that wait for the answer to an edit; then it follows anew once that is there
-const MOST_DIFF = 10_000; // units of documents that quill-delta compares, character by character
 const NEVER = { timeout: Infinity }; // an edit is sent until it is answered
 
 /**
@@ -24,40 +23,27 @@ const NEVER = { timeout: Infinity }; // an edit is sent until it is answered
  * - `offline`: there is no connection, `full`: because the server has no place; what is typed is sent once there is one;
  * - `storeFailed`: the server's store has failed; what was typed is sent until the server is started anew;
  * - `refused`: what was typed last was refused, and is no longer shown, as trouble said;
+ * - `parted`: an editor that was bound to it couldn't show it, as trouble said, and is disabled;
  * - `saving`: something typed isn't on the server's disk yet;
  * - `saved`: all is.
- * @typedef {"closed" | "offline" | "full" | "storeFailed" | "refused" | "saving" | "saved"} DocumentState
+ * @typedef {"closed" | "offline" | "full" | "storeFailed" | "refused" | "parted" | "saving" | "saved"} DocumentState
  *
  * @typedef {import("./delta.js").Op} Op
- * @typedef {import("./delta.js").Delta} Delta
  *
  * @typedef {object} OpenOptions
- * @property {Op[]} [create]  what the document is created with where it isn't there
- * @property {import("./delta.js").DeltaClass} [Delta]  what composes and transforms: quill-delta's class, by default that of the page's Quill or of the
- *     package where there is one
+ * @property {Op[] | import("./delta.js").QuillDelta["ops"]} [create]  what the document is created with where it isn't there
+ * @property {import("./values.js").Encode} [encode]  what the server keeps in a value's place, as JSON in a text for an object if it isn't given
+ * @property {import("./values.js").Decode} [decode]  the other way
  * @property {import("./keeping.js").Keeper} [keeper]  keeps what isn't on the server's disk yet; `richd/offline` gives one
  */
 
 /**
  * The events of a document, by their names.
  * @typedef {{
- *   change: ChangeEvent, trouble: TroubleEvent, doubt: DoubtEvent, unkept: UnkeptEvent, rebased: RebasedEvent,
+ *   change: ChangeEvent, trouble: TroubleEvent | import("./events.js").PartedEvent, doubt: DoubtEvent, unkept: UnkeptEvent, rebased: RebasedEvent,
  *   state: StateEvent<DocumentState>, progress: Event
  * }} DocumentEvents
  */
-
-/** @returns {Promise<typeof OwnDelta>} */
-async function deltaClass() {
-  const { Quill } = /** @type {any} */ (globalThis);
-  if (Quill?.import) return Quill.import("delta");
-  try {
-    const name = "quill-delta"; // which needn't be there
-    const found = await import(name);
-    return found.default?.default ?? found.default;
-  } catch {
-    return OwnDelta;
-  }
-}
 
 /** @param {Op} op @returns {Op} */
 function copied(op) {
@@ -76,24 +62,34 @@ function frozen(op) {
 }
 
 /**
- * Somebody else may create it at the same time. Then the server says so before it shows the document, which a crash may yet take back.
+ * A document that is created where it isn't there, with what is still to be inserted where its contents are longer than a message. Somebody
+ * else may create it at the same time. Then the server says so before it shows the document, which a crash may yet take back. Where this
+ * source began to create it, and didn't come to the end, it goes on with that.
  * @param {import("./richd.js").Client} client
  * @param {string} name
  * @param {Op[]} ops
+ * @returns {Promise<{ rev: number, ops: Op[], rest?: Delta }>}
  */
 async function fetchCreated(client, name, ops) {
   const pauses = new Pauses();
+  const hasParts = isLong(ops);
+  /** @type {{ rev: number, ops: Op[] } | undefined} */
+  let fetched;
   for (let tries = 0; ; tries += 1) {
     try {
-      return await client.fetch(name); // whoever only reads needs no number
+      fetched = await client.fetch(name); // whoever only reads needs no number
+      if (!hasParts || !restOf(fetched.ops, ops)?.ops.length) return fetched;
     } catch (error) {
       if (error.code !== Refusal.NoDocument && error.code !== Refusal.Deleted) throw error;
+      fetched = undefined;
     }
     if (tries > 0) await pauses.wait();
     try {
-      await client.create(name, ops);
+      const { rev, first, rest } = await client.begin(name, ops);
+      if (rest.ops.length > 0) return { rev, ops: first.ops, rest };
     } catch (error) {
       if (error.code !== Refusal.Exists && error.name !== "InDoubt") throw error;
+      if (fetched !== undefined) return fetched; // others are about to create it
     }
   }
 }
@@ -112,8 +108,7 @@ export class RichDocument extends Emitter {
   #client;
   /** @type {string} */
   #name;
-  /** @type {typeof OwnDelta} */
-  #Delta;
+  #values = new Values();
   /** @type {Delta} */
   #base;
   /** @type {number} */
@@ -129,8 +124,7 @@ export class RichDocument extends Emitter {
   #numbered;
   /** @type {import("./keeping.js").Keeper | undefined} */
   #keeper;
-  /** @type {Delta} */
-  #typed;
+  #typed = new Delta();
   /** @type {{ ops: Op[], rev: number }[]} */
   #news = [];
   #isStale = false; // the next revision isn't held any more, so the document has to be fetched anew
@@ -144,6 +138,8 @@ export class RichDocument extends Emitter {
   #strays = 0; // how often in a row it was fetched anew, and nothing was taken or told meanwhile
   #pastEnds = 0; // how often in a row an edit was refused by PastEnd, though the document was fetched anew
   #pauses = new Pauses();
+  /** @type {Map<object, "typing" | "parted">} those editors that show something else */
+  #editors = new Map();
   #leave = () => {};
   #depart = () => {}; // and isn't present any more
   #steps = new Steps();
@@ -153,7 +149,7 @@ export class RichDocument extends Emitter {
     pending: () => (this.#sent === null ? [this.#typed] : [this.#sent, this.#typed]),
     tell: (rev, at) => this.#client.tellPresence(this.#name, rev, at),
     since: (rev) => this.#client.since(this.#name, rev),
-    deltaOf: (ops) => new this.#Delta(ops),
+    deltaOf: (ops) => new Delta(ops),
   });
   #presence = new Presence(this.#places);
   /** @type {{ resolve: (revision: number) => void, reject: (error: Error) => void }[]} those who wait in `flush` */
@@ -168,24 +164,51 @@ export class RichDocument extends Emitter {
     const document = new RichDocument();
     document.#client = client;
     document.#name = name;
-    document.#Delta = /** @type {any} */ (options?.Delta) ?? (await deltaClass());
-    document.#typed = new document.#Delta();
+    document.#values = new Values(options?.encode, options?.decode);
     document.#keeper = options?.keeper;
     const kept = await document.#keeper?.load();
     if (kept !== undefined) {
       document.#restore(kept);
     } else {
-      const { rev, ops } = options?.create === undefined ? await client.fetch(name) : await fetchCreated(client, name, options.create);
-      document.#begin(rev, new document.#Delta(ops));
-      document.#contents = document.#base;
+      const ops = options?.create && document.#values.encode(options.create);
+      document.#start(ops === undefined ? await client.fetch(name) : await fetchCreated(client, name, ops));
     }
     document.#length = document.#contents.length();
     document.#meet();
     document.#state = document.state;
     document.#keeper?.watch(document, () => document.#snapshot());
     if (document.#sent !== null) document.#sendOff();
-    else if (kept !== undefined) document.#goOn();
+    else document.#goOn();
     return document;
+  }
+
+  /**
+   * Sends an edit in parts, as it is too long for a line. Gives the revision that the last one made.
+   * @param {import("./richd.js").Client} client
+   * @param {string} name
+   * @param {{ rev: number, ops: Op[] }} base
+   * @param {Delta} edit
+   * @param {import("./limits.js").Limits} limits
+   * @returns {Promise<{ rev: number }>}
+   */
+  static async send(client, name, base, edit, limits) {
+    const document = new RichDocument();
+    document.#client = client;
+    document.#name = name;
+    document.#start({ ...base, rest: edit });
+    document.#send();
+    try {
+      return { rev: await within(document.flush(), limits, () => new RichdError(0, "Timeout")) };
+    } finally {
+      document.close();
+    }
+  }
+
+  /** @param {{ rev: number, ops: Op[], rest?: Delta }} given  what the server has, and what is to be done to it first */
+  #start({ rev, ops, rest = new Delta() }) {
+    this.#begin(rev, new Delta(ops));
+    this.#typed = rest;
+    this.#contents = this.#base.compose(rest);
   }
 
   get name() {
@@ -202,7 +225,12 @@ export class RichDocument extends Emitter {
    * @returns {Delta}
    */
   get contents() {
-    return new this.#Delta(this.#contents.ops.map(frozen));
+    return new Delta(this.#values.decode(this.#contents.ops).map(frozen));
+  }
+
+  /** What turns values as the server keeps them into those that `contents` has, and back. */
+  get values() {
+    return this.#values;
   }
 
   /** How many units are shown: UTF-16 code units, and embeds. */
@@ -231,37 +259,43 @@ export class RichDocument extends Emitter {
     if (this.#client.state !== "connected") return this.#client.state;
     if (this.#hasStoreFailed) return "storeFailed";
     if (this.#isRefused) return "refused";
+    if ([...this.#editors.values()].includes("parted")) return "parted";
     return this.isSaved ? "saved" : "saving";
   }
 
   /** Whether all that was typed is on the server's disk. */
   get isSaved() {
-    return this.#sent === null && this.#typed.ops.length === 0;
+    return this.#isTaken && this.#editors.size === 0;
   }
 
   /** Whether what is shown would outlive the page: it is on the server's disk, or kept. */
   get isKept() {
-    return this.isSaved || (this.#keeper?.isUpToDate ?? false);
+    const isTyping = [...this.#editors.values()].includes("typing");
+    return !isTyping && (this.#isTaken || (this.#keeper?.isUpToDate ?? false));
+  }
+
+  get #isTaken() {
+    return this.#sent === null && this.#typed.ops.length === 0;
   }
 
   /**
    * Changes what is shown by something that was typed. Throws what a server would refuse it by, as BadOps, LineTooLong or PastEnd: then it
    * isn't shown, and "trouble" tells of it too.
    * @param {Op[] | { ops: Op[] } | import("./delta.js").QuillDelta} ops
+   * @param {{ isStep?: boolean }} [options]  whether `history` takes it back
    */
-  apply(ops) {
+  apply(ops, options) {
     if (this.#isClosed) throw new RichdError(0, "Closed");
     const given = /** @type {Op[]} */ (Array.isArray(ops) ? ops : ops?.ops);
     let delta;
     try {
       delta = this.#readTyped(given);
     } catch (error) {
-      this.#isRefused = true;
-      this.#tell();
-      this.dispatchEvent(new TroubleEvent(error, new this.#Delta(Array.isArray(given) ? given : []), false));
+      this.lose(new TroubleEvent(error, new Delta(Array.isArray(given) ? given : []), false));
       throw error;
     }
-    this.#steps.record(delta.invert(this.#contents));
+    if (options?.isStep ?? true) this.#steps.record(delta.invert(this.#contents));
+    else this.#steps.move(delta);
     this.#places.move(delta, true);
     this.#type(delta);
   }
@@ -281,10 +315,33 @@ export class RichDocument extends Emitter {
     this.#length += growthOf(delta);
   }
 
-  // The event has operations of its own, since whoever is told may keep and change them.
-  /** @param {Delta} delta */
-  #changeEvent({ ops }) {
-    return new ChangeEvent(new this.#Delta(ops.map(copied)));
+  /**
+   * Tells that something typed in an editor is lost.
+   * @param {TroubleEvent} event
+   */
+  lose(event) {
+    this.#isRefused = true;
+    this.#tell();
+    this.dispatchEvent(event);
+  }
+
+  /**
+   * Says how an editor stands that is bound to it: "typing" while something is typed there that isn't here yet, "parted" where it can't show
+   * what is here, and undefined where it does.
+   * @param {object} editor
+   * @param {"typing" | "parted" | undefined} how
+   */
+  stand(editor, how) {
+    if (this.#editors.get(editor) === how) return;
+    if (how === undefined) this.#editors.delete(editor);
+    else this.#editors.set(editor, how);
+    this.#tell();
+  }
+
+  // Events have operations of their own, since whoever is told may keep and change them.
+  /** @param {{ ops: Op[] }} delta @returns {Delta} */
+  #told({ ops }) {
+    return new Delta(this.#values.decode(ops).map(copied));
   }
 
   // Tells that it may stand otherwise than before.
@@ -304,16 +361,26 @@ export class RichDocument extends Emitter {
     if (step === undefined) return false;
     this.#places.move(step, true);
     this.#type(step);
-    this.dispatchEvent(this.#changeEvent(step));
+    this.dispatchEvent(new ChangeEvent(this.#told(step), true));
     return true;
   }
 
   /** @param {Op[]} ops */
   #readTyped(ops) {
-    const delta = takenOver(ops);
+    const delta = takenOver(this.#encoded(ops));
     if (reachOf(delta) > this.#length) throw new RichdError(Refusal.PastEnd, "PastEnd");
     if (cutsPair(delta, this.#contents)) throw new RichdError(Refusal.CutsPair, "CutsPair");
-    return new this.#Delta(delta.ops);
+    return delta;
+  }
+
+  /** @param {any} ops */
+  #encoded(ops) {
+    if (!Array.isArray(ops)) return ops;
+    try {
+      return this.#values.encode(ops);
+    } catch (cause) {
+      throw new RichdError(Refusal.BadOps, "BadOps", cause);
+    }
   }
 
   /**
@@ -321,7 +388,7 @@ export class RichDocument extends Emitter {
    * @returns {Promise<number>} the revision then
    */
   async flush() {
-    if (this.isSaved) return this.#revision;
+    if (this.#isTaken) return this.#revision;
     if (this.#isClosed) throw new RichdError(0, "Closed");
     return new Promise((resolve, reject) => this.#waiting.push({ resolve, reject }));
   }
@@ -385,8 +452,8 @@ export class RichDocument extends Emitter {
   #send() {
     if (this.#sent !== null || this.#isStale || this.#isClosed || this.#typed.ops.length === 0) return;
     const [first, rest] = parted(this.#typed, this.#room);
-    this.#sent = new this.#Delta(first.ops);
-    this.#typed = new this.#Delta(rest.ops);
+    this.#sent = first;
+    this.#typed = rest;
     this.#numbered = undefined;
     this.#sendOff();
   }
@@ -421,8 +488,8 @@ export class RichDocument extends Emitter {
   // Begins with what was kept. What was to be sent, and never left, is typed.
   /** @param {import("./keeping.js").Kept} kept */
   #restore({ base, revision, isStale, sent, number, lease, typed }) {
-    const [leaving, behind] = [new this.#Delta(sent ?? []), new this.#Delta(typed)];
-    this.#begin(revision, new this.#Delta(base));
+    const [leaving, behind] = [new Delta(sent ?? []), new Delta(typed)];
+    this.#begin(revision, new Delta(base));
     this.#isStale = isStale;
     this.#contents = this.#base.compose(leaving).compose(behind);
     this.#numbered = number === undefined ? undefined : { number, lease };
@@ -440,14 +507,14 @@ export class RichDocument extends Emitter {
       const next = this.#news.shift();
       if (next === undefined) break;
       if (next.rev !== this.#revision + 1) continue;
-      if (reachOf(next) <= this.#base.length()) this.#takeOver(new this.#Delta(next.ops), next.rev);
+      if (reachOf(next) <= this.#base.length()) this.#takeOver(new Delta(next.ops), next.rev);
       else this.#isStale = true; // this copy isn't the server's
     }
     if (this.#isClosed) return;
     if (this.#isBehind && !this.#isStale && !this.#isInDoubt) this.#follow();
     if (this.#isStale && !this.#isInDoubt) this.#fetchAnew();
     else this.#send();
-    if (this.isSaved) for (const { resolve } of this.#waiting.splice(0)) resolve(this.#revision);
+    if (this.#isTaken) for (const { resolve } of this.#waiting.splice(0)) resolve(this.#revision);
     this.#tell();
   }
 
@@ -492,7 +559,7 @@ export class RichDocument extends Emitter {
     this.#steps.move(shown);
     this.#places.move(shown, false);
     this.#change(shown);
-    this.dispatchEvent(this.#changeEvent(shown));
+    this.dispatchEvent(new ChangeEvent(this.#told(shown), false));
   }
 
   /** @param {RichdError} error */
@@ -507,12 +574,11 @@ export class RichDocument extends Emitter {
     if (error.name === "Closed") return this.#stop(error);
     if (error.name === "Replaced") return this.#fail(error);
     if (error.name === "InDoubt") return this.#leaveOut();
-    const isTooLong = [Refusal.TooManyOps, Refusal.TooWide, Refusal.LineTooLong].includes(error.code);
     const isElsewhere = [Refusal.Future, Refusal.TooOld].includes(error.code) || (error.code === Refusal.PastEnd && this.#pastEnds < MOST_PAST_ENDS);
     const typed = this.#sent.compose(this.#typed);
     const isOnePart = parted(this.#sent, LEAST_ROOM)[1].ops.length === 0;
     this.#sent = null;
-    if (isTooLong && !isOnePart && this.#room > LEAST_ROOM) {
+    if (isTooLong(error) && !isOnePart && this.#room > LEAST_ROOM) {
       this.#typed = typed;
       this.#room /= 2;
     } else if (isElsewhere) {
@@ -530,7 +596,7 @@ export class RichDocument extends Emitter {
     const [inDoubt, revision] = [this.#sent, this.#revision];
     this.#sent = null;
     this.#show(inDoubt.invert(this.#base));
-    this.dispatchEvent(new DoubtEvent(inDoubt, revision));
+    this.dispatchEvent(new DoubtEvent(this.#told(inDoubt), revision));
     this.#goOn();
   }
 
@@ -542,7 +608,7 @@ export class RichDocument extends Emitter {
   #drop(typed, error) {
     const shown = typed.invert(this.#base);
     this.#places.move(shown, false);
-    this.#typed = new this.#Delta();
+    this.#typed = new Delta();
     this.#steps.clear();
     this.#room = ROOM;
     this.#contents = this.#base;
@@ -550,8 +616,8 @@ export class RichDocument extends Emitter {
     this.#strays = this.#pastEnds = 0;
     this.#isRefused = true;
     for (const { reject } of this.#waiting.splice(0)) reject(error);
-    this.dispatchEvent(this.#changeEvent(shown));
-    this.dispatchEvent(new TroubleEvent(error, typed, false));
+    this.dispatchEvent(new ChangeEvent(this.#told(shown), false));
+    this.dispatchEvent(new TroubleEvent(error, this.#told(typed), false));
   }
 
   // Fetches the newest revision, and moves what was typed onto it as if one change had come.
@@ -567,8 +633,8 @@ export class RichDocument extends Emitter {
     try {
       const { rev, ops } = await this.#client.fetch(this.#name, undefined, NEVER);
       if (this.#isClosed) return;
-      const fetched = new this.#Delta(ops);
-      const change = this.#differenceTo(fetched);
+      const fetched = new Delta(ops);
+      const change = difference(this.#base, fetched);
       const from = this.#revision;
       this.#steps.clear();
       this.#begin(rev, fetched);
@@ -581,25 +647,13 @@ export class RichDocument extends Emitter {
     }
   }
 
-  /**
-   * What makes a later revision of `base`.
-   * @param {Delta} fetched
-   * @returns {Delta}
-   */
-  #differenceTo(fetched) {
-    const { diff } = /** @type {any} */ (this.#base);
-    const isSmall = Math.max(this.#base.length(), fetched.length()) <= MOST_DIFF;
-    if (typeof diff === "function" && isSmall) return diff.call(this.#base, fetched);
-    return new this.#Delta(difference(this.#base, fetched).ops);
-  }
-
   /** @param {any} error */
   #fail(error) {
     if (this.#isClosed) return;
     this.#stop(error);
     if (error.name === "Closed") return;
     const lost = this.#isInDoubt ? this.#sent.compose(this.#typed) : this.#typed;
-    this.dispatchEvent(new TroubleEvent(error, lost, true));
+    this.dispatchEvent(new TroubleEvent(error, this.#told(lost), true));
   }
 
   /** @param {any} error */

@@ -1,16 +1,18 @@
 // What a document tells.
 
+import { RichdError } from "./errors.js";
+
 /**
  * @typedef {import("./delta.js").Delta} Delta
- * @typedef {import("./errors.js").RichdError} RichdError
  */
 
-/** What others did, or an undo: `delta` changes what was shown before to `contents`. */
+/** What others did, or an undo or redo, as `isOwn` says: `delta` changes what was shown before to `contents`. */
 export class ChangeEvent extends Event {
-  /** @param {Delta} delta */
-  constructor(delta) {
+  /** @param {Delta} delta @param {boolean} isOwn */
+  constructor(delta, isOwn) {
     super("change");
     this.delta = delta;
+    this.isOwn = isOwn;
   }
 }
 
@@ -25,6 +27,20 @@ export class TroubleEvent extends Event {
     this.error = error;
     this.delta = delta;
     this.isFinal = isFinal;
+  }
+}
+
+/**
+ * Trouble named "Parted": an editor was found with `shown`, where the document has `contents`. `delta` is what was typed there, and is lost. Where
+ * `isDisabled` holds the editor can't show the document, and takes nothing more; the document itself is open.
+ */
+export class PartedEvent extends TroubleEvent {
+  /** @param {Delta} delta @param {Delta} contents @param {Delta} shown @param {boolean} isDisabled */
+  constructor(delta, contents, shown, isDisabled) {
+    super(new RichdError(0, "Parted"), delta, false);
+    this.contents = contents;
+    this.shown = shown;
+    this.isDisabled = isDisabled;
   }
 }
 

@@ -16,13 +16,13 @@ const encoder = new TextEncoder();
  */
 
 /**
- * How many bytes an operation, or a text, takes in a line, with the comma behind it.
- * @param {Op | string} op
+ * How many bytes an operation, several, or a text, take in a line, with the comma behind.
+ * @param {Op | Op[] | string} op
  */
 export const bytesOf = (op) => encoder.encode(JSON.stringify(op)).length + 1;
 
-/** @param {string} text */
-const hasHalf = (text) => /\p{Surrogate}/u.test(text);
+/** Whether a text has half of a character. @param {string} text */
+export const hasHalf = (text) => /\p{Surrogate}/u.test(text);
 
 /** @param {unknown} value */
 const isObject = (value) => typeof value === "object" && value !== null && !Array.isArray(value);

@@ -1,10 +1,36 @@
 // How an edit that is too long for one line is sent in several.
 
-import { Delta, lengthOf } from "./delta.js";
-import { bytesOf } from "./operations.js";
+import { Delta, areSame, lengthOf } from "./delta.js";
+import { Refusal } from "./errors.js";
+import { MAX_LINE, bytesOf, takenOver } from "./operations.js";
 
-const MOST_OPS = 1_000;
+export const ROOM = 48 * 1024; // bytes of an edit's operations, in a line that may have 65,536
+export const LEAST_ROOM = 64;
+const MOST_OPS = 1_000; // of the 1,024 that a message may have
 const MOST_CHARACTER = 12; // bytes of a character in JSON
+
+/** Whether a server takes it in parts alone. @param {{ code: number }} error  by which it was refused */
+export const isTooLong = ({ code }) => [Refusal.TooManyOps, Refusal.TooWide, Refusal.LineTooLong].includes(code);
+
+/**
+ * Whether operations are longer than a message may be.
+ * @param {import("./delta.js").Op[]} ops
+ */
+export const isLong = (ops) => ops.length > MOST_OPS || bytesOf(ops) > MAX_LINE - 256;
+
+/**
+ * What is to be inserted behind what a document has, so that it has all of its contents; undefined where it has something else.
+ * @param {import("./delta.js").Op[]} made
+ * @param {import("./delta.js").Op[]} ops  its contents
+ */
+export function restOf(made, ops) {
+  const [beginning, whole] = [new Delta(made), takenOver(ops)];
+  const length = beginning.length();
+  if (!areSame(beginning, whole.slice(0, length))) return undefined;
+  const rest = new Delta().retain(length);
+  for (const op of whole.slice(length).ops) rest.push(op);
+  return rest.chop();
+}
 
 /**
  * The longest beginning of a text that takes so many bytes as JSON, and parts no character; at least one character.

@@ -1,14 +1,16 @@
 // Binds an editor to a document: Quill, or whatever has its `getContents`, `setContents`, `updateContents` and `on("text-change")`.
 
-import { lengthOf } from "./delta.js";
+import { Delta, lengthOf } from "./delta.js";
 import { difference } from "./difference.js";
 import { RichdError } from "./errors.js";
-import { TroubleEvent } from "./events.js";
-import { growthOf, reachOf } from "./operations.js";
+import { PartedEvent, TroubleEvent } from "./events.js";
+import { cutsPair, growthOf, hasHalf, reachOf } from "./operations.js";
+import { Showing } from "./showing.js";
+
+const MOST_LINES = 20; // of which the formats are taken away, until the editor shows the text
 
 /**
  * @typedef {import("./delta.js").Op} Op
- * @typedef {import("./delta.js").Delta} Delta
  * @typedef {import("./document.js").RichDocument} RichDocument
  *
  * @callback Upload  keeps what an embed has as a data URL, as a pasted image does, and gives the URL that is put in its place
@@ -35,11 +37,25 @@ function colorFor(name) {
 }
 
 /**
+ * Where a change has its end, as the place of a caret.
+ * @param {Delta} change
+ * @param {Delta} document  that it made
+ */
+function endOf(change, document) {
+  const end = change.ops.reduce((length, op) => length + (op.delete === undefined ? lengthOf(op) : 0), 0);
+  const last = change.ops.at(-1);
+  const isLine = last?.delete === undefined && document.slice(end - 1, end).ops[0]?.insert === "\n";
+  return isLine ? end - 1 : end;
+}
+
+/**
  * Shows a document in an editor, and keeps both alike. An editor of Quill's kind wants a line's end at the end of its contents, which is
- * added to the document where it has none. The editor's history keeps what its user did from here on, and nothing else. What the document
- * refuses is taken out of the editor again, and the document's "trouble" tells of it; so it does where the editor is found to show something
- * else than the document ("Parted"). Where the document is closed the editor is disabled. Where the editor has the module "cursors", which is
- * quill-cursors, it shows the carets and selections of others, and they are told of its user's.
+ * added to the document where it has none. Undo and redo of the editor are the document's. Formats and embeds that the editor doesn't have
+ * aren't shown, and stay in the document; what it has and doesn't show where it stands, as bold in a block of code, is taken out of the document.
+ * What the document refuses is taken out of the editor again, and the document's "trouble" tells of it; so it does where the editor is found
+ * to show something else than the document ("Parted"). Where the document is closed the editor is disabled, and so is one that can't show it.
+ * Where the editor has the module "cursors", which is quill-cursors, it shows the carets and selections of others, and they are told of its
+ * user's.
  * @param {any} quill
  * @param {RichDocument} document
  * @param {BindOptions} [options]
@@ -51,6 +67,16 @@ export function bind(quill, document, options) {
 }
 
 /**
+ * Whether a change is one of whole characters and values.
+ * @param {Delta} change
+ * @param {Delta | undefined} before  what it was made on
+ */
+function isWhole(change, before) {
+  const areWhole = change.ops.every(({ insert, retain }) => (typeof insert !== "string" || !hasHalf(insert)) && typeof retain !== "object");
+  return areWhole && (before === undefined || !cutsPair(change, before));
+}
+
+/**
  * While an input method composes a character the editor is left alone: `held` is what others did meanwhile, and the document is what the
  * editor shows with `held` behind it.
  */
@@ -58,14 +84,13 @@ class Binding {
   #quill;
   #document;
   #upload;
-  #Delta;
   #source = { name: "richd" }; // of what this binding does to the editor; all else was typed
-  /** @type {Delta} */
-  #held;
+  #showing;
+  #held = new Delta();
   #isComposing = false;
-  #isShowing = false; // the editor is told to do something
-  #hasTold = false; // and has told that it did it
-  /** @type {Delta[]} what the user did that the editor told before that */
+  #isTurning = false; // the editor was asked for undo or redo
+  #mayMend = true; // nothing was refused since something was typed
+  /** @type {Delta[]} what the user did, and the editor told before it told what it was asked */
   #within = [];
   /** @type {Set<{ index: number }>} where what is uploaded will stand */
   #places = new Set();
@@ -84,26 +109,70 @@ class Binding {
     this.#document = document;
     this.#upload = options?.upload;
     this.#colorOf = options?.colorOf ?? colorFor;
-    this.#Delta = /** @type {any} */ (document.contents.constructor);
-    this.#held = new this.#Delta();
-    if (!document.isClosed) this.#addLineEnd();
-    this.#tell(() => quill.setContents(new this.#Delta([...document.contents.ops]), this.#source));
-    quill.history?.clear?.();
-    if (quill.history?.options) quill.history.options.userOnly = true;
-    if (document.isClosed) return void quill.enable?.(false);
+    this.#showing = new Showing(quill, document.values, this.#source);
+    if (document.isClosed) {
+      this.#showing.set(this.#contents);
+      return void quill.enable?.(false);
+    }
+    this.#takeOverHistory();
+    this.#addLineEnd();
+    this.#showAnew();
+    if (this.#ending.signal.aborted) return;
     const { signal } = this.#ending;
     quill.on("text-change", this.#onTyped);
-    document.addEventListener("change", (/** @type {any} */ { delta }) => this.#onChange(delta), { signal });
-    document.addEventListener("state", (/** @type {any} */ { state }) => state === "closed" && this.#close(), { signal });
-    quill.root?.addEventListener("compositionstart", () => (this.#isComposing = true), { signal });
+    document.addEventListener("change", ({ delta, isOwn }) => this.#onChange(new Delta(document.values.encode(delta.ops)), isOwn), { signal });
+    document.addEventListener("state", ({ state }) => state === "closed" && this.#close(), { signal });
+    document.addEventListener("trouble", () => (this.#mayMend = false), { signal });
+    quill.root?.addEventListener("compositionstart", () => this.#beginComposition(), { signal });
     quill.root?.addEventListener("compositionend", () => queueMicrotask(() => this.#afterComposition()), { signal });
+    // A composition whose place is gone from the page may end without a word.
+    for (const name of ["keydown", "input", "blur"]) quill.root?.addEventListener(name, (/** @type {any} */ event) => this.#notice(event), { signal });
+    const view = quill.root?.ownerDocument?.defaultView;
+    view?.addEventListener("error", () => queueMicrotask(() => this.#afterError()), { signal });
     this.#cursors = quill.getModule?.("cursors") ?? undefined;
     if (this.#cursors !== undefined) this.#bePresent();
+  }
+
+  // What the document has, as the server keeps it.
+  get #contents() {
+    return new Delta(this.#document.values.encode(this.#document.contents.ops));
+  }
+
+  // The editor's own history can't know what others did.
+  #takeOverHistory() {
+    const { history } = this.#quill;
+    if (!history) return;
+    history.clear?.();
+    const steps = this.#document.history;
+    const turn = (/** @type {"undo" | "redo"} */ way) => {
+      this.#quill.update?.("user"); // what is in the page, and wasn't told yet, was done before
+      this.#isTurning = true;
+      steps[way]();
+      this.#isTurning = false;
+    };
+    const calls = {
+      change: turn, // which keys and the two calls after it come to in Quill
+      undo: () => turn("undo"),
+      redo: () => turn("redo"),
+      cutoff: () => steps.endStep(),
+      clear: () => steps.clear(),
+      record() {},
+      transform() {},
+    };
+    const own = Object.fromEntries(Object.keys(calls).map((name) => [name, Object.getOwnPropertyDescriptor(history, name)]));
+    Object.assign(history, calls);
+    this.#ending.signal.addEventListener("abort", () => {
+      for (const [name, descriptor] of Object.entries(own)) {
+        delete history[name];
+        if (descriptor !== undefined) Object.defineProperty(history, name, descriptor);
+      }
+    });
   }
 
   end() {
     this.#quill.off?.("text-change", this.#onTyped);
     this.#ending.abort();
+    this.#document.stand(this.#quill, undefined);
     if (this.#cursors === undefined) return;
     this.#quill.off?.("selection-change", this.#onSelected);
     this.#document.presence.set(null);
@@ -156,42 +225,70 @@ class Binding {
   #addLineEnd() {
     const last = this.#document.contents.ops.at(-1)?.insert;
     if (typeof last === "string" && last.endsWith("\n")) return false;
-    this.#document.apply(new this.#Delta().retain(this.#document.length).insert("\n"));
-    return true;
+    return this.#mend(new Delta().retain(this.#document.length).insert("\n"));
   }
 
-  /** @param {() => void} change */
-  #tell(change) {
-    this.#isShowing = true;
-    this.#hasTold = false;
+  /**
+   * Changes the document so that the editor can show it, unless its user may not. Returns whether it did.
+   * @param {Delta} change
+   */
+  #mend(change) {
+    if (!this.#mayMend || this.#quill.isEnabled?.() === false) return false;
     try {
-      change();
-    } finally {
-      this.#isShowing = false;
+      this.#document.apply(this.#document.values.decode(change.ops), { isStep: false });
+      return true;
+    } catch (error) {
+      if (!(error instanceof RichdError)) throw error;
+      return false;
     }
   }
 
   /** @param {Delta} delta @param {Delta | undefined} before @param {unknown} source */
   #onTyped = (delta, before, source) => {
-    if (source === this.#source || (this.#isShowing && source === undefined)) {
-      this.#hasTold = true;
-      return;
-    }
-    const typed = new this.#Delta(delta.ops);
-    if (this.#isShowing && source === "user" && !this.#hasTold) return void this.#within.push(typed);
-    const shown = before?.length?.() ?? this.#quill.getContents().length() - growthOf(typed);
+    const showing = this.#showing;
+    if (showing.hears(delta, source)) return;
+    const told = showing.read(delta);
+    if (showing.isAsking && source === "user" && !showing.hasTold) return void this.#within.push(told);
+    const typed = isWhole(told, before) ? told : this.#wholeOf(told, before);
+    this.#mayMend = true;
+    const shown = before === undefined ? this.#quill.getContents().length() - growthOf(typed) : new Delta(before.ops).length();
     if (shown + growthOf(this.#held) !== this.#document.length) return this.#onParted(typed);
     const held = this.#held;
     this.#held = typed.transform(held, false);
     this.#take(held.transform(typed, true));
   };
 
-  // The editor shows something else than the document, so nobody knows where it was typed. One that can't show it is given up.
+  /**
+   * What was typed, in whole characters and values: an editor compares by code units.
+   * @param {Delta} typed
+   * @param {Delta | undefined} before
+   */
+  #wholeOf(typed, before) {
+    return before === undefined ? typed : difference(this.#showing.read(before), this.#showing.contents());
+  }
+
+  // Quill may have thrown at what its user did, and then tells nothing more of that.
+  #afterError() {
+    if (this.#ending.signal.aborted || this.#isComposing) return;
+    this.#quill.update?.("user");
+    if (this.#ending.signal.aborted || this.#showing.shows(this.#contents)) return;
+    const shown = this.#showing.contents();
+    this.#showAnew();
+    if (!this.#ending.signal.aborted) this.#document.lose(this.#parted(new Delta(), shown, false));
+  }
+
+  // The editor shows something else than the document, so nobody knows where it was typed.
   /** @param {Delta} typed */
   #onParted(typed) {
+    const shown = this.#showing.contents();
     this.#setRight();
-    if (this.#quill.getContents().length() !== this.#document.length) this.#close();
-    this.#document.dispatchEvent(new TroubleEvent(new RichdError(0, "Parted"), typed, false));
+    if (!this.#ending.signal.aborted) this.#document.lose(this.#parted(typed, shown, false));
+  }
+
+  /** @param {Delta} typed @param {Delta} shown @param {boolean} isDisabled */
+  #parted(typed, shown, isDisabled) {
+    const { values, contents } = this.#document;
+    return new PartedEvent(new Delta(values.decode(typed.ops)), contents, new Delta(values.decode(shown.ops)), isDisabled);
   }
 
   /**
@@ -201,7 +298,7 @@ class Binding {
   #take(typed) {
     const [rest, uploads] = this.#upload === undefined ? [typed, []] : this.#withoutUploads(typed);
     try {
-      if (rest.ops.length > 0) this.#document.apply(rest);
+      if (rest.ops.length > 0) this.#document.apply(this.#document.values.decode(rest.ops));
     } catch (error) {
       if (!(error instanceof RichdError)) throw error;
       if (error.name === "Closed") return this.#close();
@@ -213,13 +310,20 @@ class Binding {
     if (uploads.length > 0) this.#setRight();
   }
 
+  // What is uploaded, or composed, isn't in the document yet.
+  #stand() {
+    if (this.#ending.signal.aborted) return;
+    const isTyping = this.#isComposing || this.#places.size > 0;
+    this.#document.stand(this.#quill, isTyping ? "typing" : undefined);
+  }
+
   /**
    * What was typed without what is uploaded first, and where that will stand.
    * @param {Delta} typed
    * @returns {[Delta, { index: number, op: Op }[]]}
    */
   #withoutUploads(typed) {
-    const rest = new this.#Delta();
+    const rest = new Delta();
     const uploads = [];
     let index = 0;
     for (const op of typed.ops) {
@@ -239,27 +343,42 @@ class Binding {
     const [[name, value]] = /** @type {[string, string][]} */ (Object.entries(op.insert));
     const place = { index };
     this.#places.add(place);
+    this.#stand();
     try {
       const url = await this.#upload(value, name);
       this.#uploaded.push({ place, op: { ...op, insert: { [name]: url } } });
       this.#show();
     } catch (error) {
       this.#places.delete(place);
-      const lost = new this.#Delta().retain(place.index).push(op);
-      if (!this.#ending.signal.aborted) this.#document.dispatchEvent(new TroubleEvent(error, lost, false));
+      this.#stand();
+      const lost = new Delta().retain(place.index).push(op);
+      if (!this.#ending.signal.aborted) this.#document.lose(new TroubleEvent(error, lost, false));
     }
   }
 
-  /** @param {Delta} change */
-  #onChange(change) {
+  /** @param {Delta} change @param {boolean} isOwn */
+  #onChange(change, isOwn) {
     this.#held = this.#held.compose(change);
     for (const place of this.#places) place.index = change.transformPosition(place.index);
     this.#show();
+    const isHere = isOwn && (this.#isTurning || this.#quill.hasFocus?.() === true);
+    if (isHere && this.#held.ops.length === 0) this.#quill.setSelection?.(endOf(change, this.#document.contents), 0);
+  }
+
+  #beginComposition() {
+    this.#isComposing = true;
+    this.#stand();
+  }
+
+  /** @param {{ isComposing?: boolean }} event */
+  #notice({ isComposing }) {
+    if (this.#isComposing && !isComposing) this.#afterComposition();
   }
 
   #afterComposition() {
     this.#isComposing = false;
     this.#show();
+    this.#stand();
   }
 
   // Shows what is held, and puts in what was uploaded, unless a character is being composed.
@@ -267,14 +386,16 @@ class Binding {
     if (this.#isComposing || this.#ending.signal.aborted) return;
     this.#quill.update?.("user"); // what is in the page, and wasn't told yet, was done before
     const change = this.#held;
-    this.#held = new this.#Delta();
+    this.#held = new Delta();
     if (change.ops.length > 0) this.#update(change);
+    if (this.#ending.signal.aborted) return;
     this.#showCursors();
     this.#mendEnd(change);
     for (const { place, op } of this.#uploaded.splice(0)) {
       this.#places.delete(place);
       const source = this.#quill.isEnabled?.() === false ? "api" : "user"; // one that is disabled takes nothing of its user
-      this.#quill.updateContents(new this.#Delta().retain(place.index).push(op), source);
+      this.#quill.updateContents(new Delta().retain(place.index).push(op), source);
+      this.#stand();
     }
   }
 
@@ -284,24 +405,60 @@ class Binding {
    * @param {Delta} change
    */
   #update(change) {
-    this.#tell(() => this.#quill.updateContents(change, this.#source));
-    if (this.#within.length === 0) return;
+    const how = this.#showing.update(change);
+    if (how === "failed") return this.#showAnew();
+    if (this.#within.length === 0) return void (how === "other" && this.#agree());
     const typed = this.#within.splice(0).reduce((all, next) => all.compose(next));
-    if (this.#hasTold) this.#take(change.transform(typed, true));
-    else this.#take(this.#differenceOf(this.#document.contents, this.#quill.getContents()));
+    if (this.#showing.hasTold) this.#take(change.transform(typed, true));
+    else this.#takeShown();
     this.#setRight();
+  }
+
+  // Takes what the editor shows and the document doesn't have.
+  #takeShown() {
+    this.#take(difference(this.#showing.wantedOf(this.#contents), this.#showing.contents()));
   }
 
   // Makes the editor show the document, whatever it shows now.
   #setRight() {
-    this.#held = new this.#Delta();
-    const change = this.#differenceOf(this.#quill.getContents(), this.#document.contents);
-    if (change.ops.length > 0) this.#tell(() => this.#quill.updateContents(change, this.#source));
-    if (this.#within.splice(0).length > 0) this.#take(this.#differenceOf(this.#document.contents, this.#quill.getContents()));
+    this.#held = new Delta();
+    const change = difference(this.#showing.contents(), this.#showing.wantedOf(this.#contents));
+    const how = this.#showing.update(change);
+    if (this.#within.splice(0).length > 0) this.#takeShown();
+    if (how === "failed") this.#showAnew();
+    else if (how === "other") this.#agree();
   }
 
-  /** @param {Delta} from @param {Delta} to @returns {Delta} */
-  #differenceOf(from, to) {
-    return new this.#Delta(difference(from, to).ops);
+  // Has the editor and the document agree on formats, where the editor did something else than it was asked.
+  #agree() {
+    const change = this.#showing.agree(this.#contents);
+    if (this.#within.splice(0).length > 0) this.#takeShown();
+    if (change === undefined) this.#showAnew();
+    else if (change.ops.length > 0) this.#mend(change);
+  }
+
+  // The editor threw, or shows another text than it was asked to. Where it can't show the document's text by the formats of its lines these
+  // are taken out of the document; one that can't show it even so is given up.
+  #showAnew() {
+    this.#held = new Delta();
+    const range = this.#quill.getSelection?.();
+    let lines = 0;
+    while (!this.#showing.set(this.#contents)) {
+      const plainer = this.#showing.plainer(this.#contents);
+      lines += 1;
+      if (plainer.ops.length === 0 || lines > MOST_LINES || !this.#mend(plainer)) return this.#giveUp();
+    }
+    this.#within = [];
+    if (range) this.#quill.setSelection?.(range.index, range.length, "silent");
+    const change = this.#showing.agree(this.#contents);
+    if (change === undefined) return this.#giveUp();
+    if (change.ops.length > 0) this.#mend(change);
+  }
+
+  #giveUp() {
+    const event = this.#parted(new Delta(), this.#showing.contents(), true);
+    this.#close();
+    this.#document.stand(this.#quill, "parted");
+    this.#document.dispatchEvent(event);
   }
 }

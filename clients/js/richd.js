@@ -1,5 +1,6 @@
 // A client of richd: one session at a time, which is begun again after a cut, with any number of calls and documents in it.
 
+import { Delta } from "./delta.js";
 import { RichDocument } from "./document.js";
 import { Emitter } from "./emitter.js";
 import { Refusal, RichdError } from "./errors.js";
@@ -8,6 +9,8 @@ import { follow } from "./follow.js";
 import { LONGEST, within } from "./limits.js";
 import { Line } from "./line.js";
 import { News } from "./news.js";
+import { takenOver } from "./operations.js";
+import { LEAST_ROOM, ROOM, isLong, isTooLong, parted, restOf } from "./parting.js";
 import { Pauses } from "./pauses.js";
 import { Session } from "./session.js";
 import { takeSource, thisPage } from "./sources.js";
@@ -121,24 +124,54 @@ export class Client extends Emitter {
   }
 
   /**
-   * Creates a document, or one that was deleted again. A source that created it before, and did nothing more, gets the same answer.
+   * Creates a document, or one that was deleted again. A source that created it before, and did nothing more, gets the same answer. Contents
+   * that are longer than a message are inserted by edits behind the first part; where this source didn't come to the end of that before, and
+   * nobody did anything else, it goes on with it.
    * @param {string} doc
    * @param {Op[]} ops
    * @param {Limits} [limits]
    */
-  create(doc, ops, limits) {
-    return this.#command(doc, { do: "create", ops }, limits);
+  async create(doc, ops, limits) {
+    const { rev, first, rest } = await this.begin(doc, ops, limits);
+    return rest.ops.length === 0 ? { rev } : RichDocument.send(this, doc, { rev, ops: first.ops }, rest, this.#timed(limits));
   }
 
   /**
-   * Changes a document by operations that were made on its revision `base`.
+   * Creates a document with as much of its contents as a message may have. Gives what is left, as an edit of the first part.
+   * @param {string} doc
+   * @param {Op[]} ops
+   * @param {Limits} [limits]
+   * @returns {Promise<{ rev: number, first: { ops: Op[] }, rest: Delta }>}
+   */
+  async begin(doc, ops, limits) {
+    const isWhole = !Array.isArray(ops) || !isLong(ops);
+    for (let room = ROOM; ; room /= 2) {
+      const [first, rest] = isWhole && room === ROOM ? [{ ops }, new Delta()] : parted(takenOver(ops), room);
+      try {
+        const { ok, rev } = await this.#ask(doc, { do: "create", ops: first.ops }, true, limits);
+        if (ok === "taken" || rest.ops.length === 0) return { rev, first, rest };
+      } catch (error) {
+        if (!isTooLong(error) || room <= LEAST_ROOM) throw error;
+        continue;
+      }
+      const { rev, ops: made } = await this.fetch(doc, undefined, limits);
+      const left = restOf(made, ops);
+      if (left === undefined) throw new RichdError(Refusal.Exists, "Exists");
+      return { rev, first: { ops: made }, rest: left };
+    }
+  }
+
+  /**
+   * Changes a document by operations that were made on its revision `base`; by several edits where they are longer than a message.
    * @param {string} doc
    * @param {Op[]} ops
    * @param {number} base
    * @param {Limits} [limits]
    */
-  edit(doc, ops, base, limits) {
-    return this.#command(doc, { do: "edit", base, ops }, limits);
+  async edit(doc, ops, base, limits) {
+    if (!Array.isArray(ops) || !isLong(ops)) return this.#command(doc, { do: "edit", base, ops }, limits);
+    const edit = takenOver(ops);
+    return RichDocument.send(this, doc, await this.fetch(doc, base, limits), edit, this.#timed(limits));
   }
 
   /**
@@ -295,11 +328,16 @@ export class Client extends Emitter {
     line.add(item);
     try {
       const late = () => item.trouble ?? new RichdError(0, "Timeout");
-      return await within(answer, { ...limits, timeout: limits?.timeout ?? this.#options.timeout ?? PATIENCE }, late);
+      return await within(answer, this.#timed(limits), late);
     } catch (error) {
       line.remove(item);
       throw error;
     }
+  }
+
+  /** @param {Limits} [limits] */
+  #timed(limits) {
+    return { ...limits, timeout: limits?.timeout ?? this.#options.timeout ?? PATIENCE };
   }
 
   /** @param {string} doc */

@@ -334,12 +334,13 @@ test("whoever waits for a connection is told that the client is closed, and clos
     else session.reply(message.do === "hello" ? HELLO : contents(message));
   });
   t.after(() => server.close());
-  const client = await connect({ ...server.address, timeout: 50 });
+  const client = new Client({ ...server.address, timeout: 50 });
   t.after(() => client.close());
+  await until(() => client.state === "connected");
   isAway = true;
   server.sessions[0].cut();
   await until(() => client.state !== "connected");
-  const fetched = client.fetch("d", undefined, { timeout: 5_000 });
+  const fetched = client.fetch("d", undefined, { timeout: Infinity });
   await assert.rejects(client.connected(), { name: "Timeout" });
   isAway = false;
   assert.equal((await fetched).rev, 1);
@@ -351,32 +352,98 @@ test("the pause before it connects again doubles, until a session serves", async
   const pauses = new Pauses();
   assert.deepEqual(Array.from({ length: 8 }, () => pauses.next()), [100, 200, 400, 800, 1_600, 3_200, 5_000, 5_000]);
   let serves = false;
-  const begun = [];
+  let begun = 0;
   const server = await scripted((message, session) => {
     if (message.do === "fetch") return session.reply(contents(message));
-    begun.push(performance.now());
+    begun += 1;
     session.reply(HELLO);
-    if (!serves) setTimeout(() => session.cut(), 1);
+    if (!serves) setImmediate(() => session.cut());
   });
   t.after(() => server.close());
+  const { setTimeout } = globalThis;
+  t.after(() => (globalThis.setTimeout = setTimeout));
+  const waited = []; // as it was asked for, and not as long as a busy machine took
+  globalThis.setTimeout = (call, milliseconds) => {
+    if (milliseconds >= 100 && milliseconds <= 5_000) waited.push(milliseconds);
+    return setTimeout(call, milliseconds);
+  };
   const client = await connect(server.address);
   t.after(() => client.close());
-  await until(() => begun.length === 4);
+  await until(() => begun === 4);
   serves = true;
   await client.fetch("d");
   server.sessions.at(-1).cut();
   await client.fetch("d");
-  const waited = begun.slice(1).map((time, index) => time - begun[index]);
-  for (const [index, least] of [100, 200, 400, 800].entries()) assert.ok(waited[index] > least - 20, `${waited}`);
-  assert.ok(begun.length === 6 && waited[4] < 1_000, `${waited}`); // the session had served
+  assert.deepEqual([begun, waited], [6, [100, 200, 400, 800, 100]]); // the last session had served
 });
 
 test("a line that no server takes is refused at once", async (t) => {
   const { client } = await pair(t);
   await client.create("d", [{ insert: "ab" }]);
-  await assert.rejects(client.edit("d", [{ insert: "é".repeat(33_000) }], 1), { name: "LineTooLong", code: 23 });
+  await assert.rejects(client.edit("d", [{ insert: { image: "é".repeat(33_000) } }], 1), { name: "LineTooLong", code: 23 });
   assert.deepEqual(await client.edit("d", [{ insert: "é".repeat(30_000) }], 1), { rev: 2 });
 });
+
+const LONG = Array.from({ length: 2_500 }, (_, number) => ({ insert: `words ${number}`, attributes: { bold: number % 2 === 0 } }));
+
+for (const spoilt of [0, 1, 3]) {
+  test(`contents longer than a message are created in parts, once each, with ${spoilt} replies that are lost`, async (t) => {
+    let left = spoilt;
+    const spoil = ({ do: kind }, session) => {
+      if ((kind !== "edit" && kind !== "create") || session.source !== "ann" || left === 0) return false;
+      left -= 1;
+      session.cut();
+      return true;
+    };
+    const { client, server } = await pair(t, { spoil });
+    const { rev } = await client.create("d", LONG);
+    assert.deepEqual(server.documents.at("d"), LONG);
+    assert.equal(rev, server.documents.newest("d"));
+    const sent = server.messages.filter(({ do: kind }) => kind === "create" || kind === "edit");
+    assert.ok(rev > 1 && sent.every(({ ops }) => ops.length <= 1_024 && JSON.stringify(ops).length < 65_536));
+    assert.deepEqual(await client.create("d", LONG), { rev }, "it is there once");
+    const other = await connect({ ...server.address });
+    await assert.rejects(other.create("d", LONG), { name: "Exists" });
+    await other.close();
+    const text = "ab\u{1f600}".repeat(20_000);
+    const edited = await client.edit("d", [{ retain: 5 }, { insert: text }], rev);
+    assert.equal(edited.rev, server.documents.newest("d"));
+    assert.equal(server.documents.at("d").map(({ insert }) => insert).join("").slice(5, 5 + text.length), text);
+    await assert.rejects(client.create("d", LONG), { name: "Exists" });
+  });
+}
+
+test("a creation whose first part is too wide for the store is parted further", async (t) => {
+  const refuse = ({ do: kind, ops }) => (kind !== "fetch" && JSON.stringify(ops ?? []).length > 5_000 ? { code: 17, error: "TooWide" } : undefined);
+  const { client, server } = await pair(t, { refuse });
+  const ops = LONG.slice(0, 1_200);
+  await client.create("d", ops);
+  assert.deepEqual(server.documents.at("d"), ops);
+  await assert.rejects(client.create("e", [{ insert: { image: "A".repeat(10_000) } }]), { name: "TooWide" });
+});
+
+for (const call of ["create", "open"]) {
+  test(`a creation that ended in between goes on where its source asks for it again, by ${call}`, async (t) => {
+    const ending = new AbortController();
+    let edits = 0;
+    const spoil = ({ do: kind }, session) => {
+      if (kind === "edit" && session.source === "ann" && (edits += 1) === 1) return ending.abort(), session.cut(), true;
+      return false;
+    };
+    const { server } = await pair(t, { spoil }, { source: "observer" });
+    const first = await connect({ ...server.address, source: "ann", signal: ending.signal });
+    await assert.rejects(first.create("d", LONG));
+    const { length } = server.documents.at("d");
+    assert.deepEqual(server.documents.at("d"), LONG.slice(0, length));
+    assert.ok(length < LONG.length);
+    const [other, second] = [await connect(server.address), await connect({ ...server.address, source: "ann" })];
+    assert.equal((await other.open("d", { create: LONG })).contents.ops.length, length); // another's is left to it
+    if (call === "create") await second.create("d", LONG);
+    else await (await second.open("d", { create: LONG })).flush();
+    assert.deepEqual(server.documents.at("d"), LONG);
+    await Promise.all([other.close(), second.close()]);
+  });
+}
 
 const WRONG = [
   '{"doc":"d","news":2}',

@@ -148,3 +148,20 @@ test("an edit in parts does the same", () => {
     assert.deepEqual(contents.ops, whole.ops);
   }
 });
+
+test("names that every object has are data like others", async (t) => {
+  const names = ["constructor", "__proto__", "toString", "hasOwnProperty", "valueOf"];
+  const named = (value) => Object.fromEntries(names.map((name) => [name, value]));
+  const plain = new Delta([{ insert: "abc" }]);
+  const all = new Delta([{ insert: "abc", attributes: named(1) }]);
+  const set = new Delta([{ retain: 3, attributes: named(1) }]);
+  const shown = (delta) => JSON.stringify(delta.ops);
+  assert.equal(shown(plain.compose(set)), shown(all));
+  assert.equal(shown(all.compose(set.invert(plain))), shown(plain));
+  assert.equal(shown(all.compose(new Delta([{ retain: 3, attributes: named(2) }]).invert(all))), shown(all));
+  assert.equal(shown(difference(plain, all)), shown(set));
+  assert.equal(shown(difference(all, plain)), shown(new Delta([{ retain: 3, attributes: named(null) }])));
+  assert.equal(shown(new Delta([{ retain: 3, attributes: { bold: true } }]).transform(set, true)), shown(set));
+  assert.equal(shown(new Delta().insert("a").insert("b", named(1))), shown(new Delta([{ insert: "a" }, { insert: "b", attributes: named(1) }])));
+  assert.deepEqual(Object.keys(set.invert(plain).ops[0].attributes), names);
+});

@@ -3,7 +3,6 @@
 import assert from "node:assert/strict";
 import test from "node:test";
 import { Delta } from "../delta.js";
-import { difference } from "../difference.js";
 import { connect } from "../richd.js";
 import { Draw } from "./draw.js";
 import { served, until } from "./fake.js";
@@ -107,9 +106,9 @@ test("where the past is no longer held, what was typed is moved onto what is fet
 const PAGE = "Title\nFirst paragraph, about tea.\nSecond paragraph, about milk.\nThird paragraph, about bread.\nEnd\n";
 
 /** What two did at the same time to a page, the first while the second was away, and the past is no longer held. */
-async function awayed(t, options) {
+async function awayed(t) {
   const { open, newest, server } = await prepared(t, {}, [{ insert: PAGE }]);
-  const document = await (await open()).client.open("d", options);
+  const document = await open();
   const shown = shownBy(document);
   const rebased = [];
   document.addEventListener("rebased", ({ from, to }) => rebased.push([from, to]));
@@ -137,18 +136,6 @@ test("what was typed while away keeps its place, its deletions and its formats",
   assert.equal(merged.map(({ insert }) => insert).join(""), "A new Title\nFirst paragraph, about tea.\nSecond paragraph, about oat milk, cold.\nEnding\n");
   const first = merged.find(({ insert }) => insert === "First");
   assert.deepEqual(first.attributes, { size: 2, bold: true });
-});
-
-test("where the page's deltas have a `diff` it is asked", async (t) => {
-  let asked = 0;
-  class Other extends Delta {
-    diff(other) {
-      asked += 1;
-      return new Other(difference(this, other).ops);
-    }
-  }
-  await awayed(t, { Delta: Other });
-  assert.equal(asked, 1);
 });
 
 test("an edit that was taken, but behind what is no longer held, is shown once", async (t) => {
@@ -208,9 +195,9 @@ test("what can't be sent is refused at once, and isn't shown", async (t) => {
     ["CutsPair", [{ retain: 1 }, { delete: 1 }]],
     ["CutsPair", [{ retain: 2, attributes: { bold: true } }]],
     ["CutsPair", [{ insert: "lone \ud83d half" }]],
-    ["BadOps", [{ insert: { mention: { id: 1 } } }]],
     ["BadOps", [{ insert: { image: "a", alt: "b" } }]],
-    ["BadOps", [{ retain: 1, attributes: { "line-height": 1.5 } }]],
+    ["BadOps", [{ retain: 1, attributes: { "line-height": NaN } }]],
+    ["BadOps", [{ retain: 1, attributes: { ["n".repeat(65)]: 1 } }]],
     ["BadOps", [{ insert: "x", retain: 1 }]],
     ["BadOps", [{ insert: "x", id: 1 }]],
     ["BadOps", [{}]],
@@ -381,15 +368,60 @@ test("what is too long for a line, or for the journal, is sent in parts", async 
   assert.deepEqual(newest(), document.contents.ops);
 });
 
-test("it computes by the deltas of the page's Quill, or by those that it is given", async (t) => {
+test("a document is created with contents longer than a message, which show at once and aren't taken back by undo", async (t) => {
+  const { open, server } = await prepared(t);
+  const { client } = await open();
+  const ops = Array.from({ length: 5_000 }, (_, number) => ({ insert: `words ${number}\n`, attributes: { size: number } }));
+  const document = await client.open("long", { create: ops });
+  assert.deepEqual([document.contents.ops, document.isSaved, document.history.canUndo], [ops, false, false]);
+  await document.flush();
+  assert.deepEqual(server.documents.at("long"), ops);
+  const again = await client.open("long", { create: ops });
+  assert.deepEqual(again.contents.ops, ops);
+  await assert.rejects(client.open("none", { create: [{ insert: "x", retain: 1 }, ...ops] }), { name: "BadOps" });
+});
+
+test("values that aren't flat are kept as JSON in one spelling, or as the page says", async (t) => {
+  const { open, newest } = await prepared(t, {}, [{ insert: "a\n" }]);
+  const document = await open();
+  const shown = shownBy(await open());
+  const mention = { id: 7, name: "bob", tags: ["x", { z: null, a: 1.5 }] };
+  const ops = [{ insert: { mention } }, { insert: "b", attributes: { "line-height": 1.5, link: "json:x", bold: true } }];
+  document.apply(ops);
+  await document.flush();
+  const flat = [
+    { insert: { mention: 'json:{"id":7,"name":"bob","tags":["x",{"a":1.5,"z":null}]}' } },
+    { insert: "b", attributes: { "line-height": "json:1.5", link: 'json:"json:x"', bold: true } },
+    { insert: "a\n" },
+  ];
+  assert.deepEqual(newest(), flat);
+  const rich = [...ops, { insert: "a\n" }];
+  await until(() => shown.contents.ops.length === 3);
+  assert.deepEqual([document.contents.ops, shown.contents.ops], [rich, rich]);
+  document.history.endStep();
+  document.apply([{ retain: 1 }, { retain: 1, attributes: { "line-height": null, link: { b: 1, a: 2 } } }]);
+  document.apply([{ retain: 1 }, { retain: 1, attributes: { link: { a: 2, b: 1 } } }]); // which is equal
+  assert.equal(document.history.undo(), true);
+  await document.flush();
+  assert.deepEqual(newest(), flat);
+  const foreign = await document.client.open("foreign", { create: [{ insert: "x", attributes: { own: "json:{", other: 'json:{"b":1, "a":2}' } }] });
+  assert.deepEqual(foreign.contents.ops[0].attributes, { own: "json:{", other: 'json:{"b":1, "a":2}' });
+
+  const encode = (value, name) => (name === "mention" ? `@${value.id}` : value);
+  const decode = (value, name) => (name === "mention" ? { id: Number(String(value).slice(1)) } : value);
+  const other = await document.client.open("other", { create: [{ insert: { mention: { id: 7 } } }], encode, decode });
+  assert.deepEqual([other.contents.ops, (await document.client.fetch("other")).ops], [[{ insert: { mention: { id: 7 } } }], [{ insert: { mention: "@7" } }]]);
+  const failing = await document.client.open("d", { encode: () => JSON.parse("no") });
+  assert.throws(() => failing.apply([{ insert: { mention } }]), { name: "BadOps" });
+  assert.equal(failing.state, "refused");
+});
+
+test("it computes by its own deltas, whatever the page has", async (t) => {
   const { open } = await prepared(t);
   class Other extends Delta {}
-  const document = await open();
-  assert.equal(document.contents.constructor, Delta);
-  assert.equal((await document.client.open("d", { Delta: Other })).contents.constructor, Other);
-  globalThis.Quill = { import: (name) => (name === "delta" ? Other : undefined) };
+  globalThis.Quill = { import: () => Other };
   t.after(() => delete globalThis.Quill);
-  assert.equal((await document.client.open("d")).contents.constructor, Other);
+  assert.equal((await open()).contents.constructor, Delta);
 });
 
 test("whoever opens a document first creates it, and the others wait until it is shown", async (t) => {

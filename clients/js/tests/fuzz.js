@@ -65,7 +65,7 @@ class Person {
     this.unbind?.();
     for (;;) {
       try {
-        this.document = await this.client.open("d", { create: [{ insert: "\n" }], Delta });
+        this.document = await this.client.open("d", { create: [{ insert: "\n" }] });
         break;
       } catch (error) {
         if (!(error instanceof RichdError)) throw error;

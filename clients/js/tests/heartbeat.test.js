@@ -62,7 +62,7 @@ test("an idle reader whose line is dead begins a new one, and gets the news", as
   const writer = await connect({ ...server.address, source: "writer" });
   t.after(() => writer.close());
   await writer.create("d", [{ insert: "\n" }]);
-  const reader = await connect({ ...server.address, patience: PATIENCE });
+  const reader = await connect({ ...server.address, patience: 10 * PATIENCE });
   t.after(() => reader.close());
   const document = await reader.open("d");
   const told = [];
@@ -135,7 +135,7 @@ test("connect goes on for ever, and its state says how it stands", async (t) => 
   client.addEventListener("state", ({ state }) => told.push(state));
   assert.equal(client.state, "offline");
   const fetched = client.fetch("d");
-  await until(() => server.sessions.length === 3);
+  await until(() => server.sessions.length >= 3);
   assert.equal(client.state, "full"); // it closed without a byte
   isThere = true;
   assert.deepEqual(await fetched, { rev: 1, ops: [] });

@@ -132,10 +132,10 @@ test("who comes new asks for what a caret has to be moved over, once", async (t)
 });
 
 test("a caret whose past is no longer held isn't shown until it moves", async (t) => {
-  const { person, server, settled } = await prepared(t);
+  const { person, server, settled, told } = await prepared(t);
   const ann = await person("ann");
   ann.presence.set({ index: 3, length: 0 });
-  await pause(50);
+  await until(() => told().length === 1);
   ann.document.apply([{ retain: 5 }, { insert: "!" }]);
   await settled(ann);
   server.documents.raise("d", 2);

@@ -1,4 +1,4 @@
-// `bind`, over a stub of Quill, and over an object with the four methods of Quill that it needs.
+// `bind`, over a stub of Quill 2, over Quill 1 itself, and over an object with the four methods of Quill that it needs.
 
 import assert from "node:assert/strict";
 import { EventEmitter } from "node:events";
@@ -7,7 +7,8 @@ import { Delta } from "../delta.js";
 import { bind } from "../quill.js";
 import { connect } from "../richd.js";
 import { served, until } from "./fake.js";
-import { Quill } from "./quill_stub.js";
+import { Quill as Stub } from "./quill_stub.js";
+import { Quill as Real, needsRealQuill } from "./real_quill.js";
 
 /** As Quill: its contents end with a line's end, and each change is told, its own as well, without its source. */
 class Editor extends EventEmitter {
@@ -28,8 +29,22 @@ class Editor extends EventEmitter {
   }
 }
 
+/** Objects of this program's own, as those of a page have other prototypes. */
+const plain = (value) => JSON.parse(JSON.stringify(value));
+
+/** Runs a test over Quill itself where it is there. */
+const real = (name, run) => test(`${name}, in Quill 1.3`, needsRealQuill, (t) => run(t, Real));
+
+/** Runs a test over the stub, and over Quill itself where it is there. */
+function each(name, run) {
+  test(`${name}, in a stub`, (t) => run(t, Stub));
+  test(`${name}, in Quill 1.3`, needsRealQuill, (t) => run(t, Real));
+}
+
+let parted; // the last event of an editor that showed something else
+
 /** A server with a document, and what opens it for one who has an editor, until the test ends. */
-async function prepared(t, ops = [{ insert: "\n" }], faults = {}) {
+async function prepared(t, Quill, ops = [{ insert: "\n" }], faults = {}) {
   const server = await served(faults);
   t.after(() => server.close());
   const person = async (quill = new Quill(), options = {}, source) => {
@@ -38,26 +53,33 @@ async function prepared(t, ops = [{ insert: "\n" }], faults = {}) {
     if (server.documents.newest("d") === 0) await client.create("d", ops);
     const document = await client.open("d");
     const troubles = [];
-    document.addEventListener("trouble", ({ error, delta, isFinal }) => troubles.push([error.name, delta.ops, isFinal]));
+    document.addEventListener("trouble", ({ error, delta, isFinal }) => troubles.push([error.name, plain(delta.ops), isFinal]));
+    document.addEventListener("trouble", (event) => event.shown && (parted = event));
     return { server: server.address, client, document, quill, troubles, unbind: bind(quill, document, options) };
   };
   const settled = async (...people) => {
-    await Promise.all(people.map(({ document }) => document.flush()));
-    await until(() => people.every(({ document }) => document.isSaved && document.revision === server.documents.newest("d")));
+    await new Promise(setImmediate); // what is in a page is told by then
+    const areThere = () => people.every(({ document }) => document.revision === server.documents.newest("d"));
+    do {
+      await until(areThere);
+      await Promise.all(people.map(({ document }) => document.flush()));
+    } while (!areThere());
   };
   const areAlike = (...people) => {
     for (const { quill, document } of people) {
       assert.deepEqual(document.contents.ops, server.documents.at("d"));
-      assert.deepEqual(quill.getContents().ops, server.documents.at("d"));
+      assert.deepEqual(plain(quill.getContents().ops), server.documents.at("d"));
     }
   };
   return { server, person, settled, areAlike, text: () => server.documents.at("d").map(({ insert }) => insert).join("") };
 }
 
+const NAMES = new Map([[Stub, "a stub"], [Editor, "an object with four methods"], [Real, "Quill 1.3"]]);
+
 for (const ops of [[], [{ insert: "Hello" }], [{ insert: "Hello\n" }], [{ insert: "Hello\n" }, { insert: { image: "p" } }]]) {
-  for (const Class of [Quill, Editor]) {
-    test(`two editors on ${JSON.stringify(ops)}, each a ${Class.name}`, async (t) => {
-      const { person, settled, areAlike } = await prepared(t, ops);
+  for (const Class of [Stub, Editor, Real]) {
+    test(`two editors on ${JSON.stringify(ops)}, each ${NAMES.get(Class)}`, Class === Real ? needsRealQuill : {}, async (t) => {
+      const { person, settled, areAlike } = await prepared(t, Class, ops);
       const ann = await person(new Class());
       await ann.document.flush();
       const bob = await person(new Class());
@@ -73,8 +95,8 @@ for (const ops of [[], [{ insert: "Hello" }], [{ insert: "Hello\n" }], [{ insert
   }
 }
 
-test("undo takes back what its own user did, and neither the document nor what others typed", async (t) => {
-  const { person, settled, areAlike, text } = await prepared(t, [{ insert: "A long text.\n" }]);
+each("undo takes back what its own user did, and neither the document nor what others typed", async (t, Quill) => {
+  const { person, settled, areAlike, text } = await prepared(t, Quill, [{ insert: "A long text.\n" }]);
   const [ann, bob] = [await person(), await person()];
   bob.quill.history.undo();
   bob.quill.press(0, "bob ");
@@ -96,8 +118,36 @@ test("undo takes back what its own user did, and neither the document nor what o
   assert.deepEqual(other.contents.ops, [{ insert: "another\n" }]);
 });
 
-test("what is in the page, and wasn't told yet, comes before what others did", async (t) => {
-  const { person, settled, areAlike, text } = await prepared(t, [{ insert: "one two\n" }]);
+each("undo and redo are the document's, by keys and by the editor's history, and the caret goes there", async (t, Quill) => {
+  const { person, settled, areAlike, text } = await prepared(t, Quill, [{ insert: "one two\n" }]);
+  const [ann, bob] = [await person(), await person()];
+  ann.quill.press(3, "AAA");
+  ann.quill.history.cutoff();
+  ann.quill.press(0, "BBB");
+  await settled(ann, bob);
+  bob.quill.press(4, "xyz");
+  await settled(ann, bob);
+  assert.equal(text(), "BBBoxyzneAAA two\n");
+  ann.quill.select({ index: 16, length: 0 });
+  const undo = () => ann.quill.key("z", { ctrlKey: true });
+  const redo = () => ann.quill.key("z", { ctrlKey: true, shiftKey: true });
+  const texts = [undo, undo, undo, redo, redo].map((turn) => (turn(), ann.quill.getText()));
+  assert.deepEqual(texts, ["oxyzneAAA two\n", "oxyzne two\n", "oxyzne two\n", "oxyzneAAA two\n", "BBBoxyzneAAA two\n"]);
+  assert.deepEqual([ann.quill.getSelection().index, ann.document.history.canUndo], [3, true]);
+  ann.document.history.undo();
+  ann.quill.history.undo();
+  await settled(ann, bob);
+  areAlike(ann, bob);
+  ann.quill.history.clear();
+  assert.equal(ann.document.history.canRedo, false);
+  ann.unbind();
+  ann.quill.press(0, "alone");
+  ann.quill.history.undo();
+  assert.equal(ann.quill.getText(), "oxyzne two\n");
+});
+
+each("what is in the page, and wasn't told yet, comes before what others did", async (t, Quill) => {
+  const { person, settled, areAlike, text } = await prepared(t, Quill, [{ insert: "one two\n" }]);
   const [ann, bob] = [await person(), await person()];
   ann.quill.type(0, "\u304b");
   bob.quill.press(7, "!");
@@ -106,15 +156,15 @@ test("what is in the page, and wasn't told yet, comes before what others did", a
   assert.equal(text(), "\u304bone two!\n");
 });
 
-test("while a character is composed the editor is left alone", async (t) => {
-  const { person, settled, areAlike, text } = await prepared(t, [{ insert: "one two\n" }]);
+each("while a character is composed the editor is left alone", async (t, Quill) => {
+  const { person, settled, areAlike, text } = await prepared(t, Quill, [{ insert: "one two\n" }]);
   const [ann, bob] = [await person(), await person()];
   ann.quill.compose(3, "\u304b");
   bob.quill.press(0, "bob ");
   bob.quill.press(11, "!");
   await settled(bob);
   await until(() => ann.document.revision === bob.document.revision);
-  assert.equal(ann.quill.getText(), "one two\n");
+  assert.ok(!ann.quill.getText().includes("bob"));
   ann.quill.compose(4, "\u306a");
   ann.quill.endComposition();
   await settled(ann, bob);
@@ -127,8 +177,8 @@ test("while a character is composed the editor is left alone", async (t) => {
 
 for (const tellsAtOnce of [false, true]) {
   test(`what is composed, and told within an update${tellsAtOnce ? " together with it" : ""}, is taken`, async (t) => {
-    const { person, settled, areAlike, text } = await prepared(t, [{ insert: "one two\n" }]);
-    const quill = Object.assign(new Quill({ tellsAtOnce }), { root: undefined });
+    const { person, settled, areAlike, text } = await prepared(t, Stub, [{ insert: "one two\n" }]);
+    const quill = Object.assign(new Stub({ tellsAtOnce }), { root: undefined });
     const [ann, bob] = [await person(quill), await person()];
     quill.root = new EventTarget(); // which the binding doesn't know
     quill.compose(0, "\u304b");
@@ -142,8 +192,8 @@ for (const tellsAtOnce of [false, true]) {
   });
 }
 
-test("what a module of the editor does about another's change is taken", async (t) => {
-  const { person, settled, areAlike, text } = await prepared(t);
+each("what a module of the editor does about another's change is taken", async (t, Quill) => {
+  const { person, settled, areAlike, text } = await prepared(t, Quill);
   const quill = new Quill();
   quill.on("text-change", (delta, before, source) => {
     if (source !== "user" && delta.ops[0]?.insert === "@bob") quill.updateContents({ ops: [{ retain: 4 }, { insert: " (away)" }] });
@@ -155,8 +205,8 @@ test("what a module of the editor does about another's change is taken", async (
   areAlike(ann, bob);
 });
 
-test("a line's end that somebody takes away at the end is put there again", async (t) => {
-  const { person, settled, areAlike, text } = await prepared(t, [{ insert: "Hello\n" }]);
+each("a line's end that somebody takes away at the end is put there again", async (t, Quill) => {
+  const { person, settled, areAlike, text } = await prepared(t, Quill, [{ insert: "Hello\n" }]);
   const ann = await person();
   const bob = await connect(ann.server);
   t.after(() => bob.close());
@@ -170,9 +220,9 @@ test("a line's end that somebody takes away at the end is put there again", asyn
   assert.deepEqual(ann.troubles, []);
 });
 
-for (const Class of [Quill, Editor]) {
-  test(`a line's end that its own user takes away at the end is put there again, in a ${Class.name}`, async (t) => {
-    const { person, settled, areAlike, text } = await prepared(t, [{ insert: "Hello\n" }]);
+for (const Class of [Stub, Editor]) {
+  test(`a line's end that its own user takes away at the end is put there again, in ${NAMES.get(Class)}`, async (t) => {
+    const { person, settled, areAlike, text } = await prepared(t, Class, [{ insert: "Hello\n" }]);
     const ann = await person(new Class());
     ann.quill.updateContents({ ops: [{ retain: 4 }, { delete: 2 }] }, "user");
     ann.quill.updateContents({ ops: [{ insert: "I say: " }] }, "user");
@@ -183,16 +233,16 @@ for (const Class of [Quill, Editor]) {
   });
 }
 
-test("a line's end that is taken away while a character is composed, and what others did meanwhile", async (t) => {
-  const { person, settled, areAlike, text } = await prepared(t, [{ insert: "Hello\n" }]);
+each("a line's end that is taken away while a character is composed, and what others did meanwhile", async (t, Quill) => {
+  const { person, settled, areAlike, text } = await prepared(t, Quill, [{ insert: "Hello\n" }]);
   const ann = await person();
   const bob = await connect(ann.server);
   t.after(() => bob.close());
   ann.quill.compose(5, "!");
   await bob.edit("d", [{ insert: "Oh. " }], 1);
-  await until(() => ann.document.revision === 2);
+  await until(() => ann.document.contents.ops[0].insert.startsWith("Oh"));
   ann.quill.updateContents({ ops: [{ retain: 6 }, { delete: 1 }] }, "user");
-  assert.equal(ann.quill.getText(), "Hello!\n");
+  assert.ok(!ann.quill.getText().includes("Oh"));
   ann.quill.endComposition();
   await settled(ann);
   areAlike(ann);
@@ -200,30 +250,205 @@ test("a line's end that is taken away while a character is composed, and what ot
   assert.deepEqual(ann.troubles, []);
 });
 
-test("what the document refuses is taken out of the editor again", async (t) => {
-  const { person, settled, areAlike, text } = await prepared(t);
+each("what the document refuses is taken out of the editor again", async (t, Quill) => {
+  const { person, settled, areAlike, text } = await prepared(t, Quill);
   const [ann, bob] = [await person(), await person()];
   ann.quill.press(0, "before ");
-  const mention = { mention: { id: "1", value: "bob" } };
   const image = { image: "data:image/png;base64," + "A".repeat(70_000) };
-  for (const embed of [mention, image]) ann.quill.press(7, embed);
-  ann.quill.updateContents({ ops: [{ retain: 6, attributes: { "line-height": 1.5 } }] }, "user");
+  const link = "http://127.0.0.1/" + "a".repeat(70_000);
+  ann.quill.press(7, image);
+  ann.quill.press(7, "half \ud83d");
+  ann.quill.updateContents({ ops: [{ retain: 6, attributes: { link } }] }, "user");
+  assert.equal(ann.document.state, "refused");
   ann.quill.press(7, "after");
   await settled(ann, bob);
   areAlike(ann, bob);
   assert.equal(text(), "before after\n");
   assert.deepEqual(ann.troubles, [
-    ["BadOps", [{ retain: 7 }, { insert: mention }], false],
     ["LineTooLong", [{ retain: 7 }, { insert: image }], false],
-    ["BadOps", [{ retain: 6, attributes: { "line-height": 1.5 } }], false],
+    ["CutsPair", [{ retain: 7 }, { insert: "half \ud83d" }], false],
+    ["LineTooLong", [{ retain: 6, attributes: { link } }], false],
   ]);
   ann.quill.history.undo();
   await settled(ann, bob);
   areAlike(ann, bob);
 });
 
-test("an editor that shows something else is found at the next change, and set right", async (t) => {
-  const { person, settled, areAlike, text } = await prepared(t, [{ insert: "Hello\n" }]);
+// Each: what a document has, what two do at the same time, and what it has then.
+const EXCLUSIVE = [
+  ["a header and a list", "line\n", [[{ retain: 4 }, { retain: 1, attributes: { header: 1 } }], [{ retain: 4 }, { retain: 1, attributes: { list: "bullet" } }]],
+    [{ insert: "line" }, { insert: "\n", attributes: { list: "bullet" } }]],
+  ["a quotation and a block of code", "line\n", [[{ retain: 4 }, { retain: 1, attributes: { blockquote: true } }], [{ retain: 4 }, { retain: 1, attributes: { "code-block": true } }]],
+    [{ insert: "line" }, { insert: "\n", attributes: { "code-block": true } }]],
+  ["bold text in a block of code", "line\n", [[{ retain: 4, attributes: { bold: true } }], [{ retain: 4 }, { retain: 1, attributes: { "code-block": true } }]],
+    [{ insert: "line" }, { insert: "\n", attributes: { "code-block": true } }]],
+  ["an image in a block of code", "line\n", [[{ retain: 2 }, { insert: { image: "/a.png" } }], [{ retain: 4 }, { retain: 1, attributes: { "code-block": true } }]],
+    [{ insert: "li" }, { insert: { image: "/a.png" } }, { insert: "ne\n" }]],
+  ["a list and a block of code", "line\n", [[{ retain: 4 }, { retain: 1, attributes: { list: "bullet" } }], [{ retain: 4 }, { retain: 1, attributes: { "code-block": true } }]],
+    [{ insert: "line" }, { insert: "\n", attributes: { "code-block": true } }]], // which Quill keeps, though a list is set after it
+  ["a list and a line that is joined to it", "one\ntwo\n", [[{ retain: 7 }, { retain: 1, attributes: { list: "ordered" } }], [{ retain: 3 }, { delete: 1 }]],
+    [{ insert: "onetwo" }, { insert: "\n", attributes: { list: "ordered" } }]],
+];
+
+for (const [what, before, [one, other], after] of EXCLUSIVE) {
+  for (const isFirst of [true, false]) {
+    real(`of ${what} each window and the document keep the same, the ${isFirst ? "first" : "second"} being sooner`, async (t) => {
+      const { person, settled, areAlike, server } = await prepared(t, Real, [{ insert: before }]);
+      const [ann, bob] = [await person(), await person()];
+      const both = [() => ann.quill.updateContents({ ops: one }, "user"), () => bob.quill.updateContents({ ops: other }, "user")];
+      for (const act of isFirst ? both : both.reverse()) act();
+      await settled(ann, bob);
+      await settled(ann, bob); // what they took out, too
+      areAlike(ann, bob);
+      assert.deepEqual(server.documents.at("d"), after);
+      const { length } = server.messages;
+      ann.quill.press(0, "x");
+      bob.quill.press(bob.quill.getLength() - 1, "y");
+      await settled(ann, bob);
+      areAlike(ann, bob);
+      assert.ok(server.messages.length - length < 8, "they go on changing it");
+      assert.deepEqual([ann.troubles, bob.troubles], [[], []]);
+      ann.quill.history.undo();
+      await settled(ann, bob);
+      areAlike(ann, bob);
+    });
+  }
+}
+
+real("an editor with fewer formats shows fewer, and leaves the others to the document", async (t) => {
+  const ops = [
+    { insert: "plain " }, { insert: "both", attributes: { bold: true, italic: true } }, { insert: { image: "/a.png" } }, { insert: "end" },
+    { insert: "\n", attributes: { list: "bullet" } }, { insert: "a\rb" }, { insert: "\n", attributes: { "x-own": 7 } },
+  ];
+  const { person, settled, areAlike, server } = await prepared(t, Real, ops);
+  const [ann, bob] = [await person(), await person(new Real({ formats: ["bold"] }))];
+  const shown = [{ insert: "plain " }, { insert: "both", attributes: { bold: true } }, { insert: "\ufffcend\na b\n" }];
+  assert.deepEqual(plain(bob.quill.getContents().ops), shown);
+  assert.deepEqual(plain(ann.quill.getContents().ops.slice(0, 5)), ops.slice(0, 5));
+  bob.quill.press(0, "x");
+  ann.quill.updateContents({ ops: [{ retain: 1, attributes: { italic: true } }] }, "user");
+  await settled(ann, bob);
+  assert.deepEqual([ann, bob].map(({ document }) => document.contents.ops), [server.documents.at("d"), server.documents.at("d")]);
+  assert.deepEqual(server.documents.at("d").slice(-2), ops.slice(-2));
+  assert.deepEqual(plain(bob.quill.getContents().ops), [{ insert: "xplain " }, ...shown.slice(1)]);
+  assert.deepEqual([ann.troubles, bob.troubles, ann.document.state], [[], [], "saved"]);
+});
+
+real("an editor that throws at a change is set anew", async (t) => {
+  const code = { "code-block": true };
+  const ops = [{ insert: "ab" }, { insert: "\n\n", attributes: code }, { insert: "c" }, { insert: "\n", attributes: { list: "ordered" } }];
+  const { person, settled, areAlike } = await prepared(t, Real, ops);
+  const [ann, bob] = [await person(), await person()];
+  ann.document.apply([{ retain: 3 }, { delete: 2 }]); // at which Quill 1 throws
+  await settled(ann, bob);
+  assert.deepEqual(plain(bob.quill.getContents().ops), [{ insert: "ab" }, { insert: "\n", attributes: code }, { insert: "\n", attributes: { list: "ordered" } }]);
+  bob.quill.press(1, "x");
+  await settled(ann, bob);
+  areAlike(bob);
+  assert.deepEqual(bob.troubles, []);
+});
+
+real("an editor that throws at what its user did is set anew, and the document isn't saved until he types again", async (t) => {
+  const code = { "code-block": true };
+  const ops = [{ insert: "a" }, { insert: "\n", attributes: { list: "bullet" } }, { insert: "b" }, { insert: "\n", attributes: code }, { insert: "\n", attributes: { list: "bullet" } }];
+  const { person, settled, areAlike } = await prepared(t, Real, ops);
+  const ann = await person();
+  assert.throws(() => ann.quill.deleteText(3, 2, "user"));
+  ann.quill.window.dispatchEvent(new ann.quill.window.Event("error")); // as a browser does where keys are pressed
+  await settled(ann);
+  areAlike(ann);
+  assert.deepEqual([ann.troubles, ann.document.state, parted.isDisabled], [[["Parted", [], false]], "refused", false]);
+  ann.quill.press(0, "x");
+  await settled(ann);
+  areAlike(ann);
+  assert.equal(ann.document.state, "saved");
+});
+
+each("an editor that can't show the document is disabled, and told with both contents; the document isn't saved", async (t, Quill) => {
+  const { person, settled, server } = await prepared(t, Quill, [{ insert: "Hello\n" }]);
+  const [ann, bob] = [await person(), await person()];
+  for (const name of ["updateContents", "setContents"]) {
+    bob.quill[name] = () => {
+      throw new Error("broken");
+    };
+  }
+  ann.quill.press(0, "x");
+  await settled(ann);
+  await until(() => bob.troubles.length === 1);
+  assert.deepEqual([bob.quill.isEnabled(), bob.document.state, bob.document.isSaved, bob.document.isClosed], [false, "parted", false, false]);
+  assert.deepEqual(bob.troubles, [["Parted", [], false]]);
+  assert.deepEqual([plain(parted.contents.ops), plain(parted.shown.ops), parted.isDisabled], [[{ insert: "xHello\n" }], [{ insert: "Hello\n" }], true]);
+  assert.equal(await bob.document.flush(), server.documents.newest("d"));
+  bob.unbind();
+  assert.equal(bob.document.state, "saved");
+});
+
+// As macOS and many robots write it, with letters and accents apart; Hangul of parts; joined emoji, with a variation; from right to left.
+const TEXTS = ["cafe\u0301 noir", "\u1112\u1161\u11ab\u1100\u1173\u11af", "\u{1f468}\u200d\u{1f469}\u200d\u{1f467} \u2764\ufe0f", "\u05e9\u05c1\u05dc\u05d5\u05dd \u0628\u0650", "5 \u2126", "\ufb2a x"];
+
+for (const typed of TEXTS) {
+  each(`text stays as it was typed, composed or opened: ${JSON.stringify(typed)}`, async (t, Quill) => {
+    const { person, settled, areAlike, text } = await prepared(t, Quill, [{ insert: `${typed}\n` }]);
+    const [ann, bob] = [await person(), await person()];
+    assert.equal(ann.quill.getText(), `${typed}\n`);
+    ann.quill.type(typed.length, ` ${typed}`);
+    ann.quill.update();
+    await settled(ann, bob);
+    areAlike(ann, bob);
+    ann.quill.compose(typed.length, typed);
+    ann.quill.endComposition();
+    await settled(ann, bob);
+    areAlike(ann, bob);
+    bob.quill.press(2 * typed.length, "|");
+    bob.quill.press(0, typed);
+    await settled(ann, bob);
+    areAlike(ann, bob);
+    assert.equal(text(), `${typed}${typed}${typed}| ${typed}\n`);
+    assert.deepEqual([ann.troubles, bob.troubles, ann.document.state], [[], [], "saved"]);
+  });
+}
+
+each("a character that begins as its neighbour does is typed as a whole", async (t, Quill) => {
+  const { person, settled, areAlike, text } = await prepared(t, Quill, [{ insert: "\u{1f601}\n" }]);
+  const ann = await person();
+  ann.quill.updateContents({ ops: [{ retain: 1 }, { insert: "\ude00\ud83d" }] }, "user"); // as a comparison of code units tells it
+  await settled(ann);
+  areAlike(ann);
+  assert.deepEqual([text(), ann.troubles], ["\u{1f600}\u{1f601}\n", []]);
+});
+
+each("a composition that ends without a word is over once something else is done", async (t, Quill) => {
+  const { person, settled, areAlike } = await prepared(t, Quill, [{ insert: "one\n" }]);
+  const [ann, bob] = [await person(), await person()];
+  ann.quill.root.dispatchEvent(new (ann.quill.window ?? globalThis).Event("compositionstart"));
+  bob.quill.press(0, "bob ");
+  await settled(ann, bob);
+  assert.equal(ann.quill.getText(), "one\n");
+  ann.quill.root.dispatchEvent(new (ann.quill.window ?? globalThis).Event("keydown"));
+  areAlike(ann, bob);
+  assert.equal(ann.document.state, "saved");
+});
+
+each("what is uploaded or composed isn't saved before it is in the document", async (t, Quill) => {
+  const { person, settled } = await prepared(t, Quill);
+  let end;
+  const ann = await person(new Quill(), { upload: () => new Promise((resolve) => (end = resolve)) });
+  ann.quill.press(0, { image: "data:," });
+  await ann.document.flush();
+  assert.deepEqual([ann.document.state, ann.document.isKept], ["saving", false]);
+  end("/a.png");
+  await settled(ann);
+  assert.equal(ann.document.state, "saved");
+  ann.quill.compose(0, "か");
+  await ann.document.flush();
+  assert.equal(ann.document.state, "saving");
+  ann.quill.endComposition();
+  await settled(ann);
+  assert.equal(ann.document.state, "saved");
+});
+
+each("an editor that shows something else is found at the next change, and set right", async (t, Quill) => {
+  const { person, settled, areAlike, text } = await prepared(t, Quill, [{ insert: "Hello\n" }]);
   const ann = await person();
   ann.quill.updateContents({ ops: [{ insert: "unseen " }] }, "silent");
   ann.quill.press(12, "!");
@@ -235,8 +460,8 @@ test("an editor that shows something else is found at the next change, and set r
   assert.equal(text(), "Hello!\n");
 });
 
-test("a deletion, or the document's end, disables the editor", async (t) => {
-  const { person } = await prepared(t, [{ insert: "Hello\n" }]);
+each("a deletion, or the document's end, disables the editor", async (t, Quill) => {
+  const { person } = await prepared(t, Quill, [{ insert: "Hello\n" }]);
   const [ann, bob] = [await person(), await person()];
   await ann.client.delete("d");
   await until(() => !ann.quill.isEnabled() && !bob.quill.isEnabled());
@@ -248,13 +473,13 @@ test("a deletion, or the document's end, disables the editor", async (t) => {
   assert.deepEqual([late.getText(), late.isEnabled()], ["Hello\n", false]);
 });
 
-test("a pasted image is uploaded, and its URL put in its place", async (t) => {
-  const { person, settled, areAlike, server } = await prepared(t, [{ insert: "one two\n" }]);
+each("a pasted image is uploaded, and its URL put in its place", async (t, Quill) => {
+  const { person, settled, areAlike, server } = await prepared(t, Quill, [{ insert: "one two\n" }]);
   const uploads = [];
   const upload = (url, name) => new Promise((resolve, reject) => uploads.push({ url, name, resolve, reject }));
   const [ann, bob] = [await person(new Quill(), { upload }), await person()];
   const image = { image: "data:image/png;base64," + "A".repeat(70_000) };
-  const pasted = [{ retain: 3 }, { insert: " see " }, { insert: image, attributes: { width: 9 } }, { insert: " here" }];
+  const pasted = [{ retain: 3 }, { insert: " see " }, { insert: image, attributes: { width: "9" } }, { insert: " here" }];
   ann.quill.updateContents({ ops: pasted }, "user");
   assert.equal(ann.quill.getText(), "one see  here two\n");
   bob.quill.press(0, "bob ");
@@ -266,7 +491,7 @@ test("a pasted image is uploaded, and its URL put in its place", async (t) => {
   await settled(ann, bob);
   areAlike(ann, bob);
   const [before, embed, after] = server.documents.at("d");
-  assert.deepEqual([embed, before.insert.slice(-5), after.insert.slice(0, 5)], [{ insert: { image: "/blobs/1.png" }, attributes: { width: 9 } }, " see ", " here"]);
+  assert.deepEqual([embed, before.insert.slice(-5), after.insert.slice(0, 5)], [{ insert: { image: "/blobs/1.png" }, attributes: { width: "9" } }, " see ", " here"]);
   assert.deepEqual(ann.troubles, []);
   ann.quill.press(0, { image: "data:," });
   await until(() => uploads.length === 2);
@@ -284,14 +509,14 @@ test("a pasted image is uploaded, and its URL put in its place", async (t) => {
 });
 
 const lending = { lend: (doc, token) => ({ lease: token, epoch: 1 }) };
-const withCursors = () => new Quill({ modules: { cursors: true } });
+const withCursors = (Quill) => new Quill({ modules: { cursors: true } });
 const cursorsIn = ({ quill }) => quill.getModule("cursors").cursors().map(({ name, range }) => `${name.replace("user of ", "")} ${range.index}+${range.length}`).sort();
 const shows = (person, ...cursors) => until(() => String(cursorsIn(person)) === String(cursors));
 
-test("editors with quill-cursors show where the others are, as they select, type and go", async (t) => {
-  const { person, settled, areAlike } = await prepared(t, [{ insert: "Hello world\n" }], lending);
-  const ann = await person(withCursors(), {}, "ann");
-  const bob = await person(withCursors(), { colorOf: (user) => `color of ${user}` }, "bob");
+each("editors with quill-cursors show where the others are, as they select, type and go", async (t, Quill) => {
+  const { person, settled, areAlike } = await prepared(t, Quill, [{ insert: "Hello world\n" }], lending);
+  const ann = await person(withCursors(Quill), {}, "ann");
+  const bob = await person(withCursors(Quill), { colorOf: (user) => `color of ${user}` }, "bob");
   const cas = await person(new Quill(), {}, "cas"); // who shows nobody, and of whom nobody is told
   await shows(ann, "bob 0+0");
   await shows(bob, "ann 0+0");
@@ -319,15 +544,17 @@ test("editors with quill-cursors show where the others are, as they select, type
   assert.deepEqual(cursorsIn(bob), []);
 });
 
-test("while a character is composed a caret stays where it is, and the own one is told as the document has it", async (t) => {
-  const { person, settled, areAlike } = await prepared(t, [{ insert: "Hello world\n" }], lending);
-  const [ann, bob] = [await person(withCursors(), {}, "ann"), await person(withCursors(), {}, "bob")];
+each("while a character is composed a caret stays where it is, and the own one is told as the document has it", async (t, Quill) => {
+  const { person, settled, areAlike } = await prepared(t, Quill, [{ insert: "Hello world\n" }], lending);
+  const [ann, bob] = [await person(withCursors(Quill), {}, "ann"), await person(withCursors(Quill), {}, "bob")];
   bob.quill.select({ index: 11, length: 0 });
   await shows(ann, "bob 11+0");
   ann.quill.compose(5, "か");
+  await new Promise(setImmediate); // Quill 1 tells it at once
+  const before = cursorsIn(ann);
   bob.quill.press(0, "ABC ");
-  await until(() => ann.document.length === 16);
-  assert.deepEqual(cursorsIn(ann), ["bob 11+0"]);
+  await until(() => ann.document.contents.ops[0].insert.startsWith("ABC"));
+  assert.deepEqual(cursorsIn(ann), before);
   ann.quill.select({ index: 2, length: 0 });
   await shows(bob, "ann 6+0");
   ann.quill.endComposition();

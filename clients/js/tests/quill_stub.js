@@ -15,8 +15,8 @@ class History {
     this.options = { delay: 1_000, maxStack: 100, userOnly: false, ...options };
     quill.on("editor-change", (name, change, before, source) => {
       if (name !== "text-change" || this.ignoreChange) return;
-      if (!this.options.userOnly || source === "user") this.#record(change, before);
-      else this.#transform(change);
+      if (!this.options.userOnly || source === "user") this.record(change, before);
+      else this.transform(change);
     });
   }
 
@@ -29,14 +29,14 @@ class History {
   }
 
   undo() {
-    this.#change("undo", "redo");
+    this.change("undo", "redo");
   }
 
   redo() {
-    this.#change("redo", "undo");
+    this.change("redo", "undo");
   }
 
-  #change(from, to) {
+  change(from, to) {
     const change = this.stack[from].pop();
     if (change === undefined) return;
     this.stack[to].push(change.invert(this.quill.getContents()));
@@ -46,7 +46,7 @@ class History {
     this.ignoreChange = false;
   }
 
-  #record(change, before) {
+  record(change, before) {
     this.stack.redo = [];
     let undo = change.invert(before);
     const now = Date.now();
@@ -56,7 +56,7 @@ class History {
     if (this.stack.undo.length > this.options.maxStack) this.stack.undo.shift();
   }
 
-  #transform(change) {
+  transform(change) {
     for (const stack of Object.values(this.stack)) {
       let remote = change;
       for (let index = stack.length - 1; index >= 0; index -= 1) {
@@ -70,7 +70,7 @@ class History {
 }
 
 /** The calls of quill-cursors' module that its page documents, for carets of others. */
-class Cursors {
+export class Cursors {
   #cursors = new Map();
 
   createCursor(id, name, color) {
@@ -112,7 +112,7 @@ export class Quill extends EventEmitter {
 
   constructor({ modules = {}, formats, tellsAtOnce = false } = {}) {
     super();
-    Object.assign(this, { formats, tellsAtOnce });
+    Object.assign(this, { options: { formats }, tellsAtOnce });
     this.history = new History(this, modules.history);
     this.modules = { history: this.history, ...(modules.cursors && { cursors: new Cursors() }) };
   }
@@ -124,6 +124,12 @@ export class Quill extends EventEmitter {
   getSelection() {
     this.update();
     return this.#selection;
+  }
+
+  setSelection(index, length, source = "api") {
+    const before = this.#selection;
+    this.#selection = { index, length };
+    if (source !== "silent") this.emit("selection-change", this.#selection, before, source);
   }
 
   /** Its user selects something, or goes elsewhere with null. */
@@ -181,8 +187,9 @@ export class Quill extends EventEmitter {
   }
 
   #known(op) {
-    if (this.formats === undefined || op.attributes === undefined) return { ...op };
-    return { ...op, attributes: Object.fromEntries(Object.entries(op.attributes).filter(([name]) => this.formats.includes(name))) };
+    const { formats } = this.options;
+    if (formats === undefined || op.attributes === undefined) return { ...op };
+    return { ...op, attributes: Object.fromEntries(Object.entries(op.attributes).filter(([name]) => formats.includes(name))) };
   }
 
   #change(change, source) {
@@ -202,6 +209,12 @@ export class Quill extends EventEmitter {
   type(index, text) {
     const typed = new Delta().retain(index).insert(text);
     this.#untold = this.#untold === null ? typed : this.#untold.compose(typed);
+  }
+
+  /** Ctrl+Z, with the shift key or without. */
+  key(key, { shiftKey = false }) {
+    if (shiftKey) this.history.redo();
+    else this.history.undo();
   }
 
   compose(index, text) {

@@ -9,9 +9,10 @@
  * @param {string[]} [options.origins]  of pages that may connect
  * @param {string} [options.data]  a folder that keeps which names were lent
  * @param {string} [options.quill]  a folder with Quill's files
+ * @param {string} [options.pages]  a folder with pages of one's own
  * @returns {Promise<{ url: string, webSocketUrl: string, close: () => Promise<void> }>}
  */
-export function startBridge({ host, port, listenHost, listenPort, origins, data, quill }: {
+export function startBridge({ host, port, listenHost, listenPort, origins, data, quill, pages }: {
     host: string;
     port: number;
     listenHost?: string | undefined;
@@ -19,6 +20,7 @@ export function startBridge({ host, port, listenHost, listenPort, origins, data,
     origins?: string[] | undefined;
     data?: string | undefined;
     quill?: string | undefined;
+    pages?: string | undefined;
 }): Promise<{
     url: string;
     webSocketUrl: string;

@@ -10,9 +10,6 @@
  *
  * @typedef {object} QuillDelta  a delta of quill-delta, whose types leave open what an attribute is
  * @property {{ insert?: string | Record<string, unknown>, retain?: number | Record<string, unknown>, delete?: number, attributes?: Record<string, unknown> }[]} ops
- * @property {(other: any, priority?: boolean) => any} transform
- *
- * @typedef {new (ops?: any) => QuillDelta} DeltaClass
  */
 /**
  * How many units an operation inserts, retains or deletes.
@@ -22,6 +19,17 @@
 export function lengthOf(op: Op): number;
 /** @param {Attributes} [one] @param {Attributes} [other] */
 export function areAlike(one?: Record<string, Value | null> | undefined, other?: Record<string, Value | null> | undefined): boolean;
+/**
+ * Whether two deltas in normal form are the same.
+ * @param {{ ops: Op[] }} one
+ * @param {{ ops: Op[] }} other
+ */
+export function areSame(one: {
+    ops: Op[];
+}, other: {
+    ops: Op[];
+}): boolean;
+export function valueOf(attributes: Attributes | undefined, name: string): Value | null | undefined;
 /** What one change does to a text, or a document, as the inserts that make it. */
 export class Delta {
     /** @param {Op[] | { ops: Op[] }} [ops] */
@@ -114,6 +122,4 @@ export type QuillDelta = {
         delete?: number;
         attributes?: Record<string, unknown>;
     }[];
-    transform: (other: any, priority?: boolean) => any;
 };
-export type DeltaClass = new (ops?: any) => QuillDelta;

@@ -9,6 +9,17 @@ export function difference(from: {
 }, to: {
     ops: Op[];
 }): Delta;
+/** Goes over a document's operations, so many units at a time. */
+export class Units {
+    /** @param {Op[]} ops */
+    constructor(ops: Op[]);
+    get isAtEnd(): boolean;
+    /** How many units come that have the same attributes. */
+    get length(): number;
+    /** @param {number} length  that have the same attributes @returns {Op} */
+    take(length: number): Op;
+    #private;
+}
 export type Op = import("./delta.js").Op;
 export type Kind = "keep" | "insert" | "delete";
 /**

@@ -14,6 +14,21 @@ export class RichDocument extends Emitter<DocumentEvents> {
      * @param {OpenOptions} [options]
      */
     static open(client: import("./richd.js").Client, name: string, options?: OpenOptions | undefined): Promise<RichDocument>;
+    /**
+     * Sends an edit in parts, as it is too long for a line. Gives the revision that the last one made.
+     * @param {import("./richd.js").Client} client
+     * @param {string} name
+     * @param {{ rev: number, ops: Op[] }} base
+     * @param {Delta} edit
+     * @param {import("./limits.js").Limits} limits
+     * @returns {Promise<{ rev: number }>}
+     */
+    static send(client: import("./richd.js").Client, name: string, base: {
+        rev: number;
+        ops: Op[];
+    }, edit: Delta, limits: import("./limits.js").Limits): Promise<{
+        rev: number;
+    }>;
     constructor();
     get name(): string;
     /** The last revision of the server's that is in what is shown. */
@@ -22,7 +37,9 @@ export class RichDocument extends Emitter<DocumentEvents> {
      * What is shown: a delta of the reader's own, of operations that are frozen.
      * @returns {Delta}
      */
-    get contents(): OwnDelta;
+    get contents(): Delta;
+    /** What turns values as the server keeps them into those that `contents` has, and back. */
+    get values(): Values;
     /** How many units are shown: UTF-16 code units, and embeds. */
     get length(): number;
     /** Undo and redo of what was typed here. */
@@ -41,10 +58,25 @@ export class RichDocument extends Emitter<DocumentEvents> {
      * Changes what is shown by something that was typed. Throws what a server would refuse it by, as BadOps, LineTooLong or PastEnd: then it
      * isn't shown, and "trouble" tells of it too.
      * @param {Op[] | { ops: Op[] } | import("./delta.js").QuillDelta} ops
+     * @param {{ isStep?: boolean }} [options]  whether `history` takes it back
      */
     apply(ops: Op[] | {
         ops: Op[];
-    } | import("./delta.js").QuillDelta): void;
+    } | import("./delta.js").QuillDelta, options?: {
+        isStep?: boolean | undefined;
+    } | undefined): void;
+    /**
+     * Tells that something typed in an editor is lost.
+     * @param {TroubleEvent} event
+     */
+    lose(event: TroubleEvent): void;
+    /**
+     * Says how an editor stands that is bound to it: "typing" while something is typed there that isn't here yet, "parted" where it can't show
+     * what is here, and undefined where it does.
+     * @param {object} editor
+     * @param {"typing" | "parted" | undefined} how
+     */
+    stand(editor: object, how: "typing" | "parted" | undefined): void;
     /**
      * Waits until all that was typed is on the server's disk.
      * @returns {Promise<number>} the revision then
@@ -60,16 +92,18 @@ export class RichDocument extends Emitter<DocumentEvents> {
  * - `offline`: there is no connection, `full`: because the server has no place; what is typed is sent once there is one;
  * - `storeFailed`: the server's store has failed; what was typed is sent until the server is started anew;
  * - `refused`: what was typed last was refused, and is no longer shown, as trouble said;
+ * - `parted`: an editor that was bound to it couldn't show it, as trouble said, and is disabled;
  * - `saving`: something typed isn't on the server's disk yet;
  * - `saved`: all is.
  */
-export type DocumentState = "closed" | "offline" | "full" | "storeFailed" | "refused" | "saving" | "saved";
+export type DocumentState = "closed" | "offline" | "full" | "storeFailed" | "refused" | "parted" | "saving" | "saved";
 /**
  * How a document stands, the first of these that holds:
  * - `closed`: nothing more is taken, as trouble said that was final, or `close` was called;
  * - `offline`: there is no connection, `full`: because the server has no place; what is typed is sent once there is one;
  * - `storeFailed`: the server's store has failed; what was typed is sent until the server is started anew;
  * - `refused`: what was typed last was refused, and is no longer shown, as trouble said;
+ * - `parted`: an editor that was bound to it couldn't show it, as trouble said, and is disabled;
  * - `saving`: something typed isn't on the server's disk yet;
  * - `saved`: all is.
  */
@@ -80,16 +114,7 @@ export type Op = import("./delta.js").Op;
  * - `offline`: there is no connection, `full`: because the server has no place; what is typed is sent once there is one;
  * - `storeFailed`: the server's store has failed; what was typed is sent until the server is started anew;
  * - `refused`: what was typed last was refused, and is no longer shown, as trouble said;
- * - `saving`: something typed isn't on the server's disk yet;
- * - `saved`: all is.
- */
-export type Delta = import("./delta.js").Delta;
-/**
- * How a document stands, the first of these that holds:
- * - `closed`: nothing more is taken, as trouble said that was final, or `close` was called;
- * - `offline`: there is no connection, `full`: because the server has no place; what is typed is sent once there is one;
- * - `storeFailed`: the server's store has failed; what was typed is sent until the server is started anew;
- * - `refused`: what was typed last was refused, and is no longer shown, as trouble said;
+ * - `parted`: an editor that was bound to it couldn't show it, as trouble said, and is disabled;
  * - `saving`: something typed isn't on the server's disk yet;
  * - `saved`: all is.
  */
@@ -97,12 +122,20 @@ export type OpenOptions = {
     /**
      * what the document is created with where it isn't there
      */
-    create?: import("./delta.js").Op[] | undefined;
+    create?: import("./delta.js").Op[] | {
+        insert?: string | Record<string, unknown> | undefined;
+        retain?: number | Record<string, unknown> | undefined;
+        delete?: number | undefined;
+        attributes?: Record<string, unknown> | undefined;
+    }[] | undefined;
     /**
-     * what composes and transforms: quill-delta's class, by default that of the page's Quill or of the
-     * package where there is one
+     * what the server keeps in a value's place, as JSON in a text for an object if it isn't given
      */
-    Delta?: import("./delta.js").DeltaClass | undefined;
+    encode?: import("./values.js").Encode | undefined;
+    /**
+     * the other way
+     */
+    decode?: import("./values.js").Decode | undefined;
     /**
      * keeps what isn't on the server's disk yet; `richd/offline` gives one
      */
@@ -113,7 +146,7 @@ export type OpenOptions = {
  */
 export type DocumentEvents = {
     change: ChangeEvent;
-    trouble: TroubleEvent;
+    trouble: TroubleEvent | import("./events.js").PartedEvent;
     doubt: DoubtEvent;
     unkept: UnkeptEvent;
     rebased: RebasedEvent;
@@ -121,11 +154,12 @@ export type DocumentEvents = {
     progress: Event;
 };
 import { Emitter } from "./emitter.js";
-import { Delta as OwnDelta } from "./delta.js";
+import { Delta } from "./delta.js";
+import { Values } from "./values.js";
 import { History } from "./history.js";
 import { Presence } from "./presence.js";
-import { ChangeEvent } from "./events.js";
 import { TroubleEvent } from "./events.js";
+import { ChangeEvent } from "./events.js";
 import { DoubtEvent } from "./events.js";
 import { UnkeptEvent } from "./events.js";
 import { RebasedEvent } from "./events.js";

@@ -1,12 +1,12 @@
 /**
  * @typedef {import("./delta.js").Delta} Delta
- * @typedef {import("./errors.js").RichdError} RichdError
  */
-/** What others did, or an undo: `delta` changes what was shown before to `contents`. */
+/** What others did, or an undo or redo, as `isOwn` says: `delta` changes what was shown before to `contents`. */
 export class ChangeEvent extends Event {
-    /** @param {Delta} delta */
-    constructor(delta: Delta);
+    /** @param {Delta} delta @param {boolean} isOwn */
+    constructor(delta: Delta, isOwn: boolean);
     delta: import("./delta.js").Delta;
+    isOwn: boolean;
 }
 /**
  * Something that was typed is lost: `delta` is what, as a change of what is left without it, and `error` says why. Where `isFinal` holds
@@ -15,9 +15,20 @@ export class ChangeEvent extends Event {
 export class TroubleEvent extends Event {
     /** @param {RichdError} error @param {Delta} delta @param {boolean} isFinal */
     constructor(error: RichdError, delta: Delta, isFinal: boolean);
-    error: import("./errors.js").RichdError;
+    error: RichdError;
     delta: import("./delta.js").Delta;
     isFinal: boolean;
+}
+/**
+ * Trouble named "Parted": an editor was found with `shown`, where the document has `contents`. `delta` is what was typed there, and is lost. Where
+ * `isDisabled` holds the editor can't show the document, and takes nothing more; the document itself is open.
+ */
+export class PartedEvent extends TroubleEvent {
+    /** @param {Delta} delta @param {Delta} contents @param {Delta} shown @param {boolean} isDisabled */
+    constructor(delta: Delta, contents: Delta, shown: Delta, isDisabled: boolean);
+    contents: import("./delta.js").Delta;
+    shown: import("./delta.js").Delta;
+    isDisabled: boolean;
 }
 /**
  * An edit that was sent, before the page was loaded or under a name that a gateway has lent to another since, so that it can't be known whether
@@ -62,4 +73,4 @@ export class UnkeptEvent extends Event {
     error: unknown;
 }
 export type Delta = import("./delta.js").Delta;
-export type RichdError = import("./errors.js").RichdError;
+import { RichdError } from "./errors.js";

@@ -20,7 +20,8 @@ export function cutsPair(delta: {
     ops: Op[];
 }): boolean;
 export const MAX_LINE: 65536;
-export function bytesOf(op: Op | string): number;
+export function bytesOf(op: Op | Op[] | string): number;
+export function hasHalf(text: any): boolean;
 export function reachOf({ ops }: {
     ops: Op[];
 }): number;

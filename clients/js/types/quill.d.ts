@@ -1,9 +1,11 @@
 /**
  * Shows a document in an editor, and keeps both alike. An editor of Quill's kind wants a line's end at the end of its contents, which is
- * added to the document where it has none. The editor's history keeps what its user did from here on, and nothing else. What the document
- * refuses is taken out of the editor again, and the document's "trouble" tells of it; so it does where the editor is found to show something
- * else than the document ("Parted"). Where the document is closed the editor is disabled. Where the editor has the module "cursors", which is
- * quill-cursors, it shows the carets and selections of others, and they are told of its user's.
+ * added to the document where it has none. Undo and redo of the editor are the document's. Formats and embeds that the editor doesn't have
+ * aren't shown, and stay in the document; what it has and doesn't show where it stands, as bold in a block of code, is taken out of the document.
+ * What the document refuses is taken out of the editor again, and the document's "trouble" tells of it; so it does where the editor is found
+ * to show something else than the document ("Parted"). Where the document is closed the editor is disabled, and so is one that can't show it.
+ * Where the editor has the module "cursors", which is quill-cursors, it shows the carets and selections of others, and they are told of its
+ * user's.
  * @param {any} quill
  * @param {RichDocument} document
  * @param {BindOptions} [options]
@@ -11,7 +13,6 @@
  */
 export function bind(quill: any, document: RichDocument, options?: BindOptions | undefined): () => void;
 export type Op = import("./delta.js").Op;
-export type Delta = import("./delta.js").Delta;
 export type RichDocument = import("./document.js").RichDocument;
 /**
  * keeps what an embed has as a data URL, as a pasted image does, and gives the URL that is put in its place

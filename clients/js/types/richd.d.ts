@@ -52,24 +52,40 @@ export class Client<More extends {
     /** Waits until it is connected. Where it never was, and the time ends, the client is closed. */
     connected(): Promise<void>;
     /**
-     * Creates a document, or one that was deleted again. A source that created it before, and did nothing more, gets the same answer.
+     * Creates a document, or one that was deleted again. A source that created it before, and did nothing more, gets the same answer. Contents
+     * that are longer than a message are inserted by edits behind the first part; where this source didn't come to the end of that before, and
+     * nobody did anything else, it goes on with it.
      * @param {string} doc
      * @param {Op[]} ops
      * @param {Limits} [limits]
      */
     create(doc: string, ops: Op[], limits?: import("./limits.js").Limits | undefined): Promise<{
         rev: number;
+    } | {
+        rev: number;
     }>;
     /**
-     * Changes a document by operations that were made on its revision `base`.
+     * Creates a document with as much of its contents as a message may have. Gives what is left, as an edit of the first part.
+     * @param {string} doc
+     * @param {Op[]} ops
+     * @param {Limits} [limits]
+     * @returns {Promise<{ rev: number, first: { ops: Op[] }, rest: Delta }>}
+     */
+    begin(doc: string, ops: Op[], limits?: import("./limits.js").Limits | undefined): Promise<{
+        rev: number;
+        first: {
+            ops: Op[];
+        };
+        rest: Delta;
+    }>;
+    /**
+     * Changes a document by operations that were made on its revision `base`; by several edits where they are longer than a message.
      * @param {string} doc
      * @param {Op[]} ops
      * @param {number} base
      * @param {Limits} [limits]
      */
-    edit(doc: string, ops: Op[], base: number, limits?: import("./limits.js").Limits | undefined): Promise<{
-        rev: number;
-    }>;
+    edit(doc: string, ops: Op[], base: number, limits?: import("./limits.js").Limits | undefined): any;
     /**
      * Takes this source's last change of a document back.
      * @param {string} doc
@@ -207,4 +223,5 @@ import { RichDocument } from "./document.js";
 import { RichdError } from "./errors.js";
 import { StateEvent } from "./events.js";
 import { Emitter } from "./emitter.js";
+import { Delta } from "./delta.js";
 export { RichDocument, RichDocument as Document, RichdError };
