@@ -1,6 +1,7 @@
 // A browser's virtual session: its lines, answered as a session of its own at the store would answer them. Messages stand in a row, each with
 // its reply once that is there, and replies leave from the row's head alone.
 
+import { CODE } from "./codes.js";
 import { MOST_LINE, KIND, PROBE, REFUSAL, codeOf, isAgain, readMessage, revOf } from "./messages.js";
 import { Subscription, endedLine } from "./news.js";
 import { nameOf } from "./users.js";
@@ -77,10 +78,30 @@ export class Browser {
     this.user = user;
     this.#given = given;
     this.id = id;
-    socket.on("message", (bytes) => this.#read(bytes));
+    socket.on("message", this.#guarded((bytes) => this.#read(bytes)));
     socket.on("pong", () => (this.#isAlive = true));
-    socket.on("close", () => this.#leave());
+    socket.on("close", this.#guarded(() => this.#leave()));
     socket.on("error", () => {}); // its close follows
+  }
+
+  // A call whose fault ends this session, and nothing else.
+  #guarded(act) {
+    return (...words) => {
+      try {
+        return act(...words);
+      } catch (error) {
+        this.#gateway.fault(error, { user: this.user.id });
+        this.#fail();
+      }
+    };
+  }
+
+  #fail() {
+    try {
+      this.close(CODE.fault, "a fault of the gateway");
+    } catch {
+      this.#socket.terminate();
+    }
   }
 
   /** Its user's name, as others see it. */
@@ -94,11 +115,11 @@ export class Browser {
   }
 
   /** Gives it lines besides its replies. @param {Buffer} lines */
-  say(lines) {
+  say = this.#guarded((lines) => {
     if (this.isGone) return;
     this.#give(lines);
     this.#flush();
-  }
+  });
 
   /** Ends it now. @param {number} code @param {string} why */
   close(code, why) {
@@ -118,7 +139,7 @@ export class Browser {
   }
 
   /** Looks whether it is there: it has answered the last ping, or taken bytes since the last look. */
-  look() {
+  look = this.#guarded(() => {
     const taken = this.#givenBytes - this.#socket.bufferedAmount;
     const isSilent = !this.#isAlive && !this.#socket.isPaused; // its pong isn't read while no more messages are
     const isStuck = this.isSlow && this.#wasSlow;
@@ -130,10 +151,10 @@ export class Browser {
     this.#wasSlow = this.isSlow;
     this.#isAlive = false;
     this.#socket.ping();
-  }
+  });
 
   /** Has it send again what waits too long for a store. */
-  giveUpWaiting() {
+  giveUpWaiting = this.#guarded(() => {
     const now = performance.now();
     let hasGivenUp = false;
     for (const slot of this.#slots) {
@@ -144,7 +165,7 @@ export class Browser {
       hasGivenUp = true;
     }
     if (hasGivenUp) this.#pump();
-  }
+  });
 
   #read(bytes) {
     if (this.isGone) return;
@@ -153,7 +174,7 @@ export class Browser {
   }
 
   // Reads lines, sends what may be sent, gives the replies whose turn it is, until none of it does anything.
-  #pump() {
+  #pump = this.#guarded(() => {
     if (this.#isPumping) {
       this.#isPumpDue = true;
       return;
@@ -169,11 +190,11 @@ export class Browser {
     this.#isPumping = false;
     this.#flush();
     if (this.isGone) return;
-    if (this.#isEnding && !this.#slots.some(isOnItsWay)) return this.close(1012, "the gateway ends");
+    if (this.#isEnding && !this.#slots.some(isOnItsWay)) return this.close(CODE.ends, "the gateway ends");
     const waits = this.#slots.length >= MOST_WAITING || this.#unread.includes(10);
     if (waits) this.#socket.pause();
     else if (this.#socket.isPaused) this.#socket.resume();
-  }
+  });
 
   #readLines() {
     while (!this.isGone && !this.#isEnding && this.#slots.length < MOST_WAITING) {
@@ -310,8 +331,8 @@ export class Browser {
     slot.isSent = true;
     lease.begin();
     const began = performance.now();
-    const settle = (line) => this.#onCommand(slot, store, lease, line, began);
-    slot.ticket = store.command(lease.name, JSON.stringify(slot.message) + "\n", settle);
+    const settle = this.#guarded((line) => this.#onCommand(slot, store, lease, line, began));
+    slot.ticket = store.command(lease.name, slot.message, settle);
   }
 
   // What became of a command. Undefined: it wasn't sent, as it wasn't wanted any more; null: its session was cut.
@@ -321,7 +342,7 @@ export class Browser {
     if (line === undefined) return lease.settle(n, "refused");
     if (line === null) {
       lease.settle(n, "cut");
-      return this.close(1012, "the store's session was cut");
+      return this.close(CODE.ends, "the store's session was cut");
     }
     metrics.replies.add(performance.now() - began);
     const code = codeOf(line);
@@ -349,16 +370,16 @@ export class Browser {
     const ticket = { isSent: false, isWanted: true };
     Object.assign(slot, { isSent: true, ticket });
     const wanted = () => ticket.isWanted && !this.isGone;
-    const settle = (line) => (codeOf(line) === NO_DOCUMENT ? this.#lookAgain(slot, store, line) : this.#answer(slot, line));
+    const settle = this.#guarded((line) => (codeOf(line) === NO_DOCUMENT ? this.#lookAgain(slot, store, line) : this.#answer(slot, line)));
     const own = this.#own.get(doc) ?? 0;
-    if (message.do === "fetch") return store.fetch(JSON.stringify(message) + "\n", rev === undefined ? own : 0, settle, wanted);
+    if (message.do === "fetch") return store.fetch(message, rev === undefined ? own : 0, settle, wanted);
     if (message.do === "since") return store.since(doc, rev, settle, wanted, own);
-    const subscription = new Subscription(doc, rev, (it) => this.#followed.get(doc)?.subscription === it && this.#tell(doc) && this.#flush());
-    store.news.join(subscription, (line) => {
+    const subscription = new Subscription(doc, rev, this.#guarded((it) => this.#followed.get(doc)?.subscription === it && this.#tell(doc) && this.#flush()));
+    store.news.join(subscription, this.#guarded((line) => {
       if (this.isGone || slot.reply !== undefined) return store.news.leave(subscription);
       if (codeOf(line) === 0) slot.followed = { subscription, news: store.news };
       settle(line);
-    }, wanted);
+    }), wanted);
   }
 
   // A document may have another place by now than the one that was asked.
@@ -451,11 +472,11 @@ export class Browser {
   }
 
   #pumpLater() {
-    this.#timer ??= setTimeout(() => {
+    this.#timer ??= setTimeout(this.#guarded(() => {
       this.#timer = undefined;
       for (const doc of [...this.#followed.keys()]) this.#tell(doc);
       this.#pump();
-    }, LATER);
+    }), LATER);
     return true;
   }
 

@@ -36,6 +36,18 @@ export interface LogEvent {
   [about: string]: unknown;
 }
 
+export interface Limits {
+  /** Open at once: of the gateway 20,000, of a user 200. */
+  sessions: number;
+  userSessions: number;
+  /** Messages of a user a second: 2,000. */
+  userMessages: number;
+  /** Bytes of a document as it is fetched: 64 MiB. */
+  lineBytes: number;
+  /** Bytes of a line of news, and of all that came after a revision: 4 MiB. */
+  newsBytes: number;
+}
+
 export interface Settings {
   /** Of this gateway: 1 to 12 characters, "g" if it isn't given. */
   name?: string;
@@ -59,7 +71,8 @@ export interface Settings {
   rule?: { prefix: string; store: string }[];
   /** Of pages that may connect; without a list those of this machine's names. */
   origins?: string[];
-  limits?: { sessions?: number; userSessions?: number; userMessages?: number };
+  /** What users may take, and what is held of what a store sends; docs/GATEWAY.md has their table. */
+  limits?: Partial<Limits>;
   /** Gives who asks, or null where he isn't signed in. Without it everybody is the user "anybody". */
   authorize?: (request: Request) => User | null | undefined | Promise<User | null | undefined>;
   /** Whether a user may do something. It is asked at each message. Without it everybody may do all. */
@@ -102,4 +115,4 @@ export interface Gateway {
 export function createGateway(settings: Settings): Promise<Gateway>;
 
 /** The codes by which a WebSocket is closed. */
-export const CODE: { full: 4503; again: 4409; rights: 4403; ends: 1012 };
+export const CODE: { fault: 1011; ends: 1012; full: 4503; again: 4409; rights: 4403 };

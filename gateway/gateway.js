@@ -4,6 +4,7 @@ import { randomBytes } from "node:crypto";
 import { mkdirSync } from "node:fs";
 import path from "node:path";
 import { Browser } from "./browser.js";
+import { CODE } from "./codes.js";
 import { Etcd } from "./etcd.js";
 import { Journal, readLines } from "./journal.js";
 import { EtcdLeases } from "./leases-etcd.js";
@@ -26,7 +27,8 @@ const MOST_SAID = 20; // lines of one event within a second
 const RETRY = 1_000; // milliseconds until etcd is asked again for the pool
 const MOST_LISTED = 1_000; // documents of a page
 const MOST_LOOKED = 10_000; // places that are looked at for a page
-export const CODE = { full: 4503, again: 4409, rights: 4403, ends: 1012 };
+
+export { CODE };
 
 /** Goes on with a value, at once where it is there. */
 const chain = (value, next) => (typeof value?.then === "function" ? value.then(next) : next(value));
@@ -89,7 +91,7 @@ export class Gateway {
       await new Journal(file, [pool]).close();
       this.#pool = this.#namesOf(pool);
     } else {
-      this.#etcd = new Etcd({ ...etcd, log: this.log });
+      this.#etcd = new Etcd({ ...etcd, log: this.log, onGarbage: () => this.metrics.count("garbage", { from: "etcd" }) });
       this.places = new EtcdPlaces({ etcd: this.#etcd, stores: () => [...this.stores.values()] });
     }
     this.places.moves = etcd !== undefined;
@@ -103,12 +105,32 @@ export class Gateway {
   log = (event, about = {}) => {
     const said = this.#said.get(event) ?? 0;
     this.#said.set(event, said + 1);
-    if (said < MOST_SAID) this.#log({ time: new Date().toISOString(), event, ...about });
+    if (said >= MOST_SAID) return;
+    try {
+      this.#log({ time: new Date().toISOString(), event, ...about });
+    } catch {
+      // whoever is to be told has failed
+    }
   };
+
+  /** Something threw that shouldn't: one session ends by it. */
+  fault(error, about = {}) {
+    this.metrics.count("faults");
+    this.log("a fault of the gateway", { ...about, error: error?.stack ?? String(error) });
+  }
 
   /** Takes over a WebSocket that an HTTP server was asked for. */
   async handleUpgrade(request, socket, head) {
     socket.on("error", () => {});
+    try {
+      await this.#upgrade(request, socket, head);
+    } catch (error) {
+      this.fault(error);
+      socket.destroy();
+    }
+  }
+
+  async #upgrade(request, socket, head) {
     if (this.#isEnding) return refuse(socket, 503, "Service Unavailable");
     if (!isAllowedOrigin(request, this.#settings.origins)) {
       this.log("origin refused", { origin: request.headers.origin, host: request.headers.host });
@@ -118,12 +140,7 @@ export class Gateway {
     if (given === undefined) return refuse(socket, 503, "Service Unavailable");
     if (given === null) return refuse(socket, 401, "Unauthorized");
     if (this.#isEnding) return refuse(socket, 503, "Service Unavailable");
-    try {
-      this.#sockets.handleUpgrade(request, socket, head, (webSocket) => this.#open(webSocket, given));
-    } catch (error) {
-      this.log("a WebSocket can't be opened", { error: error.message });
-      socket.destroy();
-    }
+    this.#sockets.handleUpgrade(request, socket, head, (webSocket) => this.#open(webSocket, given));
   }
 
   /**
@@ -132,6 +149,17 @@ export class Gateway {
    * @param {import("node:http").ServerResponse} response
    */
   handleRequest(request, response) {
+    try {
+      return this.#answer(request, response);
+    } catch (error) {
+      this.fault(error);
+      if (!response.headersSent) response.writeHead(500);
+      response.end();
+      return true;
+    }
+  }
+
+  #answer(request, response) {
     const [name, query = ""] = request.url.split("?", 2);
     const json = (status, value) => {
       response.writeHead(status, { "content-type": "application/json", "cache-control": "no-store" });
@@ -288,7 +316,7 @@ export class Gateway {
   }
 
   #add(address) {
-    const { name: prefix, readers, writers: first, guests, term, data } = this.#settings;
+    const { name: prefix, readers, writers: first, guests, term, data, limits } = this.#settings;
     const onLent = (doc, { name, epoch }) => {
       this.metrics.lent[epoch === 1 ? 1 : "more"] += 1;
       if (epoch > 1) this.log("a name is lent anew", { store: address.name, doc, name, epoch });
@@ -296,7 +324,7 @@ export class Gateway {
     const leases = this.#etcd === undefined
       ? new Leases({ file: path.join(data, `leases-${address.name}`), names: this.#pool, first, term, onLent })
       : new EtcdLeases({ etcd: this.#etcd, store: address.name, pool: async () => this.#poolOrNone(), first, term, onLent });
-    const store = new Store(address, { prefix, readers, guests, leases, metrics: this.metrics, log: this.log });
+    const store = new Store(address, { prefix, readers, guests, leases, metrics: this.metrics, log: this.log, limits });
     this.stores.set(address.name, store);
     if (this.#pool !== undefined) store.openWriters(this.#pool.slice(0, first));
   }

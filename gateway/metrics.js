@@ -2,6 +2,17 @@
 
 const MOST = 10_000; // of the last times that quantiles are of
 
+// What befalls a gateway seldom, with the labels that stand there from the start.
+const COUNTED = [
+  ["garbage", [{ from: "store" }, { from: "etcd" }]],
+  ["faults", [{}]],
+];
+
+const labelled = (labels) => {
+  const all = Object.entries(labels).map(([name, value]) => `${name}="${value}"`);
+  return all.length === 0 ? "" : `{${all.join(",")}}`;
+};
+
 /** Times in milliseconds: their quantiles, count and sum. */
 class Times {
   #last = [];
@@ -36,6 +47,21 @@ export class Metrics {
   stale = 0;
   slow = 0;
 
+  /** @type {Map<string, Map<string, number>>} what -> labels -> how often */
+  #counts = new Map(COUNTED.map(([what, all]) => [what, new Map(all.map((labels) => [labelled(labels), 0]))]));
+
+  /**
+   * Counts something that is in COUNTED.
+   * @param {string} what
+   * @param {Record<string, string>} [labels]
+   * @param {number} [by]
+   */
+  count(what, labels = {}, by = 1) {
+    const counts = this.#counts.get(what);
+    const key = labelled(labels);
+    counts.set(key, (counts.get(key) ?? 0) + by);
+  }
+
   /** @param {number} code  of a line that a browser got, 0 where it is no refusal */
   refused(code) {
     if (code !== 0) this.refusals.set(code, (this.refusals.get(code) ?? 0) + 1);
@@ -62,6 +88,7 @@ export class Metrics {
       ...counter("cuts_total", [["", this.cuts]]),
       ...counter("stale_total", [["", this.stale]]),
       ...counter("slow_total", [["", this.slow]]),
+      ...[...this.#counts].flatMap(([what, counts]) => counter(`${what}_total`, [...counts])),
       "# TYPE process_resident_memory_bytes gauge", `process_resident_memory_bytes ${process.memoryUsage().rss}`,
       "# TYPE process_cpu_seconds_total counter", `process_cpu_seconds_total ${((user + system) / 1e6).toFixed(3)}`,
     ].join("\n") + "\n";

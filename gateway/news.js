@@ -7,7 +7,7 @@ const MOST_LINES = 512; // of news that are kept of a document; then the older h
 const MOST_BYTES = 4 << 20; // of these lines
 const MOST_TRIES = 5; // to begin a subscription whose document goes on meanwhile
 const MOST_TAKEN = 100; // revisions of a document whose news is waited for, to measure that
-const POKE = '{"do":"unsubscribe","doc":"-"}\n'; // a session tells its news after each message, and else each 100 milliseconds
+const POKE = { do: "unsubscribe", doc: "-" }; // a session tells its news after each message, and else each 100 milliseconds
 
 export const endedLine = (doc) => Buffer.from(`{"doc":"${doc}","ended":13}\n`);
 
@@ -42,9 +42,10 @@ export class News {
    * @param {{ host: string, port: number }} address
    * @param {string} source
    * @param {(doc: string, rev: number, settle: (line: Buffer) => void, wanted?: () => boolean) => void} since  asks what came after a revision
-   * @param {{ onCut?: () => void, onLag?: (milliseconds: number) => void }} listener
+   * @param {{ onCut?: () => void, onLag?: (milliseconds: number) => void, onGarbage?: (what: string) => void, onFault?: (error: Error) => void,
+   *   onLong?: (doc: string) => void, mostNews?: number }} listener  `mostNews` bytes of a line; whoever follows the document fetches where it has more
    */
-  constructor(address, source, since, { onCut, onLag = () => {} }) {
+  constructor(address, source, since, { onLag = () => {}, onLong = () => {}, ...listener }) {
     this.#since = since;
     this.#onLag = onLag;
     this.#follower = new Upstream(address, source, {
@@ -53,7 +54,11 @@ export class News {
         for (const [doc, entry] of this.#docs) this.#subscribe(doc, entry);
         this.#isPoked = false;
       },
-      onCut,
+      onLong: (doc) => {
+        onLong(doc);
+        if (this.#docs.has(doc)) this.#end(doc, this.#docs.get(doc));
+      },
+      ...listener,
     });
   }
 
@@ -104,7 +109,7 @@ export class News {
     const entry = this.#docs.get(subscription.doc);
     if (!entry?.subscriptions.delete(subscription) || entry.subscriptions.size > 0) return;
     this.#docs.delete(subscription.doc);
-    if (this.#follower.isOpen) this.#follower.ask(`{"do":"unsubscribe","doc":"${subscription.doc}"}\n`, () => {}, () => false);
+    if (this.#follower.isOpen) this.#follower.ask({ do: "unsubscribe", doc: subscription.doc }, () => {}, () => false);
   }
 
   /**
@@ -146,7 +151,7 @@ export class News {
 
   #subscribe(doc, entry) {
     const isRefused = (line) => codeOf(line) !== 0 && this.#docs.get(doc) === entry && this.#end(doc, entry);
-    this.#follower.ask(`{"do":"subscribe","doc":"${doc}","rev":${entry.rev}}\n`, isRefused, () => false);
+    this.#follower.ask({ do: "subscribe", doc, rev: entry.rev }, isRefused, () => false);
   }
 
   #take(doc, rev, line) {

@@ -6,7 +6,11 @@ const SESSIONS = 64; // that a store serves
 const MOST_NAMES = 4_096; // that a document has places for
 const DAY = 86_400_000; // milliseconds
 export const DEFAULTS = { name: "g", readers: 2, writers: 16, guests: 8, names: 120, term: 7, pulse: 15_000 };
-export const LIMITS = { sessions: 20_000, userSessions: 200, userMessages: 2_000 };
+const MIB = 1 << 20; // bytes
+export const LIMITS = {
+  sessions: 20_000, userSessions: 200, userMessages: 2_000,
+  lineBytes: 64 * MIB, newsBytes: 4 * MIB,
+};
 export const HOOKS = ["authorize", "can", "onCommand", "onTaken"];
 const FIELDS = [...Object.keys(DEFAULTS), "stores", "data", "etcd", "rule", "origins", "limits", ...HOOKS, "log", "hidesMetrics"];
 

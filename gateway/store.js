@@ -11,6 +11,7 @@ const FUTURE = 12;
 const DELETED = 40;
 const MOST_STALE = 100; // times that a read is asked again which is older than an own command
 const STALE_PAUSE = 10; // milliseconds
+const TOO_LONG = Buffer.from(REFUSAL.NoMemory); // another object than that of a store without memory
 
 /**
  * The sessions of one store:
@@ -25,6 +26,8 @@ export class Store {
   #prefix;
   #most;
   #metrics;
+  #log;
+  #limits;
   #readers;
   /** @type {Map<string, Upstream>} */
   #writers = new Map();
@@ -34,12 +37,27 @@ export class Store {
   #queue = []; // commands that wait for a guest's place
   #timer;
 
+  #onCut = () => (this.#metrics.cuts += 1);
+  // what each of its sessions tells
+  #listener = {
+    onCut: this.#onCut,
+    onGarbage: (what) => {
+      this.#metrics.count("garbage", { from: "store" });
+      this.#log("a store sends garbage", { store: this.name, what });
+    },
+    onFault: (error) => {
+      this.#metrics.count("faults");
+      this.#log("a fault of the gateway", { store: this.name, error: error.stack });
+    },
+  };
+
   /**
    * @param {{ name: string, host: string, port: number, new?: boolean }} address
    * @param {{ prefix: string, readers: number, guests: number, leases: any, metrics: import("./metrics.js").Metrics,
-   *   log: (event: string, about?: object) => void }} options  `prefix` is that of this gateway's own sessions
+   *   log: (event: string, about?: object) => void, limits: { lineBytes: number, newsBytes: number } }} options
+   *   `prefix` is that of this gateway's own sessions
    */
-  constructor({ name, host, port, new: takesNew = true }, { prefix, readers, guests, leases, metrics, log }) {
+  constructor({ name, host, port, new: takesNew = true }, { prefix, readers, guests, leases, metrics, log, limits }) {
     this.name = name;
     this.takesNew = takesNew;
     this.leases = leases;
@@ -47,15 +65,18 @@ export class Store {
     this.#prefix = prefix;
     this.#most = guests;
     this.#metrics = metrics;
+    this.#log = log;
+    this.#limits = limits;
     const onOpen = () => log("a store is there", { store: name });
     const onCut = () => {
       this.#onCut();
       log("a store is away", { store: name });
     };
-    const first = new Upstream(this.#address, `${prefix}-reader`, { onOpen, onCut });
-    this.#readers = [first, ...Array.from({ length: readers - 1 }, () => new Upstream(this.#address, `${prefix}-reader2`, { onCut: this.#onCut }))];
+    const first = new Upstream(this.#address, `${prefix}-reader`, { ...this.#listener, onOpen, onCut });
+    this.#readers = [first, ...Array.from({ length: readers - 1 }, () => new Upstream(this.#address, `${prefix}-reader2`, this.#listener))];
     const since = (doc, rev, settle, wanted) => this.since(doc, rev, settle, wanted);
-    this.news = new News(this.#address, `${prefix}-news`, since, { onCut: this.#onCut, onLag: (lag) => metrics.lag.add(lag) });
+    const onLong = (doc) => log("news of a document are longer than newsBytes", { store: name, doc });
+    this.news = new News(this.#address, `${prefix}-news`, since, { ...this.#listener, onLong, mostNews: limits.newsBytes, onLag: (lag) => metrics.lag.add(lag) });
     this.#timer = setInterval(() => this.#closeIdle(), IDLE / 4);
     this.#timer.unref();
   }
@@ -66,7 +87,7 @@ export class Store {
 
   /** Opens the sessions that write, once their names are known. @param {string[]} names */
   openWriters(names) {
-    for (const name of names) this.#writers.set(name, new Upstream(this.#address, name, { onCut: this.#onCut }));
+    for (const name of names) this.#writers.set(name, new Upstream(this.#address, name, this.#listener));
   }
 
   /** How many sessions of each kind are open. */
@@ -78,17 +99,21 @@ export class Store {
 
   /**
    * Fetches; again where what comes is older than what this browser has changed.
-   * @param {string} line
+   * @param {any} message
    * @param {number} least  the revision that it has to have, 0 where it may have any
    * @param {(line: Buffer) => void} settle
    * @param {() => boolean} wanted
    */
-  fetch(line, least, settle, wanted) {
-    this.#askUpTo(this.#readers[0], line, least, settle, wanted);
+  fetch(message, least, settle, wanted) {
+    const answer = (line) => {
+      if (line === TOO_LONG) this.#log("a document is longer than lineBytes", { store: this.name, doc: message.doc });
+      settle(line);
+    };
+    this.#askUpTo(this.#readers[0], message, least, answer, wanted, { most: this.#limits.lineBytes, instead: TOO_LONG });
   }
 
   /**
-   * What came after a revision, where that are a thousand revisions at most. Whether it is more is asked first, by a fetch of one that isn't
+   * What came after a revision, where that are a thousand revisions at most, and `newsBytes`. Whether it is more is asked first, by a fetch of one that isn't
    * there yet: it is refused by Future.
    * @param {string} doc
    * @param {number} rev
@@ -99,14 +124,15 @@ export class Store {
   since(doc, rev, settle, wanted, least = 0) {
     const reader = this.#readers.at(-1);
     const beyond = rev + MOST_SINCE + 1;
-    const line = JSON.stringify({ do: "since", doc, rev }) + "\n";
-    if (!Number.isSafeInteger(beyond)) return reader.ask(line, settle, wanted);
-    reader.ask(JSON.stringify({ do: "fetch", doc, rev: beyond }) + "\n", (answer) => {
+    const message = { do: "since", doc, rev };
+    if (!Number.isSafeInteger(beyond)) return reader.ask(message, settle, wanted);
+    const tooOld = { most: this.#limits.newsBytes, instead: REFUSAL.TooOld };
+    reader.ask({ do: "fetch", doc, rev: beyond }, (answer) => {
       const code = codeOf(answer);
       if (code === 0) settle(REFUSAL.TooOld);
       else if (code !== FUTURE) settle(answer);
-      else this.#askUpTo(reader, line, least, settle, wanted);
-    }, wanted);
+      else this.#askUpTo(reader, message, least, settle, wanted, tooOld);
+    }, wanted, tooOld);
   }
 
   /**
@@ -116,30 +142,30 @@ export class Store {
    * @returns {Promise<"there" | "deleted" | "nowhere">}
    */
   async standing(doc, wanted) {
-    const line = JSON.stringify({ do: "since", doc, rev: Number.MAX_SAFE_INTEGER }) + "\n";
-    const code = await new Promise((resolve) => this.#readers.at(-1).ask(line, (answer) => resolve(codeOf(answer)), wanted));
+    const message = { do: "since", doc, rev: Number.MAX_SAFE_INTEGER };
+    const code = await new Promise((resolve) => this.#readers.at(-1).ask(message, (answer) => resolve(codeOf(answer)), wanted));
     if (code === FUTURE || code === 0) return "there";
     if (code === DELETED) return "deleted";
     if (code === NO_DOCUMENT) return "nowhere";
     throw new Error(`the store answers ${code}`);
   }
 
-  #askUpTo(reader, line, least, settle, wanted, tries = 0) {
-    reader.ask(line, (answer) => {
+  #askUpTo(reader, message, least, settle, wanted, bound, tries = 0) {
+    reader.ask(message, (answer) => {
       if (!(revOf(answer) < least) || codeOf(answer) !== 0 || tries === MOST_STALE) return settle(answer);
       this.#metrics.stale += 1;
-      setTimeout(() => this.#askUpTo(reader, line, least, settle, wanted, tries + 1), STALE_PAUSE);
-    }, wanted);
+      setTimeout(() => this.#askUpTo(reader, message, least, settle, wanted, bound, tries + 1), STALE_PAUSE);
+    }, wanted, bound);
   }
 
   /**
    * Sends a command under a name. It may still wait then; `settle` is told as by a `Command`.
    * @param {string} name
-   * @param {string} line
+   * @param {any} message
    * @param {(line: Buffer | null | undefined) => void} settle
    */
-  command(name, line, settle) {
-    const command = new Command(line, settle);
+  command(name, message, settle) {
+    const command = new Command(message, settle);
     const writer = this.#writers.get(name);
     if (writer !== undefined) {
       writer.command(command);
@@ -158,7 +184,6 @@ export class Store {
     for (const { session } of this.#guests.values()) session.end();
   }
 
-  #onCut = () => (this.#metrics.cuts += 1);
 
   // Gives what waits to the sessions of its names, as far as there is room for them.
   #serveGuests() {
@@ -182,7 +207,7 @@ export class Store {
       if (idle === undefined) return undefined;
       this.#close(idle[0]);
     }
-    const session = found?.session ?? new Upstream(this.#address, name, { onCut: this.#onCut, onIdle: () => this.#onIdle() });
+    const session = found?.session ?? new Upstream(this.#address, name, { ...this.#listener, onIdle: () => this.#onIdle() });
     this.#guests.set(name, { session, used: performance.now() });
     return session;
   }

@@ -25,7 +25,7 @@ class FakeEtcd {
     this.server = http.createServer((request, response) => {
       let text = "";
       request.on("data", (part) => (text += part));
-      request.on("end", () => response.end(JSON.stringify(this[request.url.split("/").at(-1)](JSON.parse(text)))));
+      request.on("end", () => response.end(JSON.stringify({ header: {}, ...this[request.url.split("/").at(-1)](JSON.parse(text)) })));
     });
     await new Promise((resolve) => this.server.listen(port, "127.0.0.1", resolve));
     this.port = this.server.address().port;
