@@ -356,11 +356,13 @@ export class Browser {
       store.leases.own(doc, this.#holder, lease);
       store.news.taken(doc, line);
     }
-    if (result !== "refused" && isCreation && !isOthers) this.#gateway.places.created(doc);
+    const listing = result !== "refused" && isCreation && !isOthers ? this.#gateway.places.created(doc) : undefined;
+    listing?.catch(() => {});
     if (result !== "refused" && base !== PROBE) this.#gateway.taken(this.#given, slot.message, revOf(line), result === "again");
     if (this.isGone) return;
     if (code === FULL_STORE && isCreation) return this.#sendElsewhere(slot, store, line, this.#gateway.places.move(doc, store.name));
     if (code === NO_DOCUMENT) return this.#lookAgain(slot, store, line);
+    if (listing !== undefined) return this.#find(slot, listing, () => (slot.reply ??= line)); // where it can't be listed it is sent again
     this.#answer(slot, isOthers ? REFUSAL.OldNumber : line);
   }
 

@@ -1,14 +1,14 @@
 // A gateway: many browsers on a few sessions of some stores.
 
 import { randomBytes } from "node:crypto";
-import { mkdirSync } from "node:fs";
+import { mkdirSync, readdirSync } from "node:fs";
 import path from "node:path";
 import { Browser } from "./browser.js";
 import { CODE } from "./codes.js";
 import { Etcd } from "./etcd.js";
 import { Journal, readLines } from "./journal.js";
 import { EtcdLeases } from "./leases-etcd.js";
-import { Leases } from "./leases.js";
+import { Leases, hasDamage } from "./leases.js";
 import { lock } from "./lock.js";
 import { KIND, RIGHT } from "./messages.js";
 import { Metrics } from "./metrics.js";
@@ -85,11 +85,8 @@ export class Gateway {
     if (etcd === undefined) {
       mkdirSync(data, { recursive: true, mode: 0o700 });
       this.#unlock = await lock(data);
-      this.places = new RuledPlaces({ rule, folder: data });
-      const file = path.join(data, "pool");
-      const [pool = randomBytes(4).toString("hex")] = readLines(file);
-      await new Journal(file, [pool]).close();
-      this.#pool = this.#namesOf(pool);
+      this.places = new RuledPlaces({ rule, folder: data, onFailure: this.#onUnwritten });
+      this.#pool = this.#namesOf(await this.#keptPool(data));
     } else {
       this.#etcd = new Etcd({ ...etcd, log: this.log, onGarbage: () => this.metrics.count("garbage", { from: "etcd" }) });
       this.places = new EtcdPlaces({ etcd: this.#etcd, stores: () => [...this.stores.values()] });
@@ -100,6 +97,22 @@ export class Gateway {
     this.#timers.push(setInterval(() => this.#look(), pulse), setInterval(() => this.#eachSecond(), SECOND));
     for (const timer of this.#timers) timer.unref();
   }
+
+  // The pool of names is of this folder. Where lines of it are damaged names may be lent of which nothing is known, so all are new from then on.
+  async #keptPool(data) {
+    const file = path.join(data, "pool");
+    const damaged = readdirSync(data).filter((name) => name.startsWith("leases-") && !name.endsWith(".new") && hasDamage(path.join(data, name)));
+    for (const name of damaged) this.log("a file of leases is damaged, so all names are new", { file: path.join(data, name) });
+    const [kept] = readLines(file, (value) => typeof value === "string").values;
+    const pool = kept === undefined || damaged.length > 0 ? randomBytes(4).toString("hex") : kept;
+    await new Journal(file, [pool]).close();
+    return pool;
+  }
+
+  #onUnwritten = (error) => {
+    this.metrics.count("unwritten");
+    this.log("a file can't be written", { error: error.message });
+  };
 
   // Of one event so many lines a second are said; what befalls thousands of browsers at the same time isn't said of each.
   log = (event, about = {}) => {
@@ -322,7 +335,7 @@ export class Gateway {
       if (epoch > 1) this.log("a name is lent anew", { store: address.name, doc, name, epoch });
     };
     const leases = this.#etcd === undefined
-      ? new Leases({ file: path.join(data, `leases-${address.name}`), names: this.#pool, first, term, onLent })
+      ? new Leases({ file: path.join(data, `leases-${address.name}`), names: this.#pool, first, term, onLent, onFailure: this.#onUnwritten })
       : new EtcdLeases({ etcd: this.#etcd, store: address.name, pool: async () => this.#poolOrNone(), first, term, onLent });
     const store = new Store(address, { prefix, readers, guests, leases, metrics: this.metrics, log: this.log, limits });
     this.stores.set(address.name, store);

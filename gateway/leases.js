@@ -9,6 +9,7 @@ export class Lease {
   next;
   onWay = 0; // commands that were sent and have no reply
   isTold = false; // its holder asked for it, and counts on it
+  isKept = true; // it is on the disk
 
   /**
    * @param {string} name
@@ -53,6 +54,16 @@ export function oldest(leases, before) {
   return first;
 }
 
+const isCount = (value) => Number.isSafeInteger(value) && value >= 0;
+
+/** Whether a value is a line of leases: a document, a holder, and his name there, or null. */
+const isLine = (line) =>
+  Array.isArray(line) && typeof line[0] === "string" && typeof line[1] === "string"
+  && (line[2] === null || (typeof line[2] === "string" && isCount(line[3]) && line[3] > 0 && Number.isFinite(line[4]) && typeof line[5] === "boolean"));
+
+/** Whether a file has lines that are none, so that names may be lent there of which nothing is known. @param {string} file */
+export const hasDamage = (file) => readLines(file, isLine).damaged > 0;
+
 /** Leases of one store, kept in a file. */
 export class Leases {
   #names;
@@ -66,21 +77,22 @@ export class Leases {
   #journal;
 
   /**
-   * @param {{ file: string, names: string[], first: number, term: number, now?: () => number, onLent?: (doc: string, lease: Lease) => void }} options
-   *     `first` of the names have sessions that are always open; `term` in milliseconds
+   * @param {{ file: string, names: string[], first: number, term: number, now?: () => number, onLent?: (doc: string, lease: Lease) => void,
+   *   onFailure?: (error: Error) => void, open?: (file: string, flags: string) => Promise<any> }} options
+   *     `first` of the names have sessions that are always open; `term` in milliseconds; the others are those of a Journal
    */
-  constructor({ file, names, first, term, now = Date.now, onLent = () => {} }) {
+  constructor({ file, names, first, term, now = Date.now, onLent = () => {}, ...options }) {
     this.#names = names;
     this.#first = first;
     this.#term = term;
     this.#now = now;
     this.#onLent = onLent;
-    for (const [doc, holder, name, epoch, used, isOwn] of readLines(file)) {
+    for (const [doc, holder, name, epoch, used, isOwn] of readLines(file, isLine).values) {
       if (name === null) this.#docs.get(doc)?.delete(holder);
       else this.#put(doc, holder, new Lease(name, epoch, used, isOwn));
     }
     const kept = [...this.#docs].flatMap(([doc, holders]) => [...holders].map(([holder, lease]) => this.#line(doc, holder, lease)));
-    this.#journal = new Journal(file, kept);
+    this.#journal = new Journal(file, kept, options);
   }
 
   /**
@@ -93,12 +105,10 @@ export class Leases {
   lend(doc, holder) {
     const found = this.#docs.get(doc)?.get(holder);
     if (found === undefined) return this.#lendNew(doc, holder);
-    const now = this.#now();
-    if (now - found.used > this.#term / 8) {
-      found.used = now;
-      this.#journal.add(this.#line(doc, holder, found)).catch(() => {}); // it is written again when it is used next
-    }
-    return this.#written.get(found) ?? found;
+    const age = this.#now() - found.used;
+    const writing = this.#written.get(found) ?? (age > this.#term / 8 ? this.#renew(doc, holder, found) : undefined);
+    // that it is used may be written later, as long as the file keeps it from being lent anew
+    return writing !== undefined && (age > this.#term || !found.isKept) ? writing : found;
   }
 
   /** Whether `lend` is known to make no new lease. */
@@ -133,24 +143,44 @@ export class Leases {
     return this.#journal.close();
   }
 
+  #renew(doc, holder, lease) {
+    const used = this.#now();
+    const written = this.#journal.add(this.#line(doc, holder, { ...lease, used })).then(
+      () => {
+        this.#written.delete(lease);
+        lease.used = used;
+        return lease;
+      },
+      (error) => {
+        this.#written.delete(lease); // it is written again when it is used next
+        throw error;
+      },
+    );
+    written.catch(() => {});
+    this.#written.set(lease, written);
+    return written;
+  }
+
   #lendNew(doc, holder) {
     const now = this.#now();
     const taken = [...(this.#docs.get(doc) ?? [])];
     const names = new Set(taken.map(([, { name }]) => name));
     const free = namesFor(doc, this.#names, this.#first).find((name) => !names.has(name));
-    const old = free === undefined ? oldest(taken, now - this.#term) : undefined;
+    const old = free === undefined ? oldest(taken.filter(([, it]) => !this.#written.has(it)), now - this.#term) : undefined;
     if (free === undefined && old === undefined) return undefined;
     const lease = old === undefined ? new Lease(free, 1, now) : new Lease(old[1].name, old[1].epoch + 1, now);
     if (old === undefined) lease.next = 1;
+    lease.isKept = false;
     this.#put(doc, holder, lease);
     const written = this.#journal.add(this.#line(doc, holder, lease)).then(
       () => {
         this.#written.delete(lease);
+        lease.isKept = true;
         this.#onLent(doc, lease);
         return lease;
       },
       (error) => {
-        this.#docs.get(doc).delete(holder);
+        this.#docs.get(doc)?.delete(holder);
         if (old !== undefined) this.#put(doc, old[0], old[1]);
         throw error;
       },

@@ -6,6 +6,7 @@ const MOST = 10_000; // of the last times that quantiles are of
 const COUNTED = [
   ["garbage", [{ from: "store" }, { from: "etcd" }]],
   ["faults", [{}]],
+  ["unwritten", [{}]],
 ];
 
 const labelled = (labels) => {

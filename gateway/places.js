@@ -16,13 +16,15 @@ export class RuledPlaces {
   #docs;
   #journal;
   #sorted = null;
+  /** @type {Map<string, Promise<void>>} documents that are being written */
+  #written = new Map();
 
-  /** @param {{ rule: { prefix: string, store: string }[], folder: string }} options */
-  constructor({ rule, folder }) {
+  /** @param {{ rule: { prefix: string, store: string }[], folder: string, onFailure?: (error: Error) => void }} options */
+  constructor({ rule, folder, ...options }) {
     this.#rule = [...rule].sort((one, other) => other.prefix.length - one.prefix.length);
     const file = path.join(folder, "documents");
-    this.#docs = new Set(readLines(file));
-    this.#journal = new Journal(file, [...this.#docs]);
+    this.#docs = new Set(readLines(file, (doc) => typeof doc === "string").values);
+    this.#journal = new Journal(file, [...this.#docs], options);
   }
 
   /** The store's name; null where there is none, undefined where it has to be found first. */
@@ -44,11 +46,17 @@ export class RuledPlaces {
     return this.cached(doc);
   }
 
+  /** A document is there: it is listed from then on. Gives a promise where that has to be written first. */
   created(doc) {
-    if (this.#docs.has(doc)) return;
+    if (this.#docs.has(doc)) return undefined;
+    if (!this.#written.has(doc)) this.#written.set(doc, this.#write(doc).finally(() => this.#written.delete(doc)));
+    return this.#written.get(doc);
+  }
+
+  async #write(doc) {
+    await this.#journal.add(doc);
     this.#docs.add(doc);
     this.#sorted = null;
-    this.#journal.add(doc).catch(() => {}); // it isn't listed after the next start
   }
 
   /** Names behind one, in order, at most so many. */
@@ -61,7 +69,7 @@ export class RuledPlaces {
   /** Takes in documents that a store had. Gives those whose place is another. */
   async take(docs, store) {
     const elsewhere = docs.filter((doc) => this.cached(doc) !== store);
-    for (const doc of docs) if (this.cached(doc) === store) this.created(doc);
+    await Promise.all(docs.filter((doc) => this.cached(doc) === store).map((doc) => this.created(doc)));
     return elsewhere;
   }
 
@@ -125,7 +133,9 @@ export class EtcdPlaces {
     return found === undefined ? null : this.#know(doc, found.value);
   }
 
-  created() {}
+  created() {
+    return undefined; // its place was there before it
+  }
 
   async list(after, limit) {
     const found = await this.#etcd.under("place/", { after, limit, keysOnly: true });

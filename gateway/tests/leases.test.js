@@ -1,7 +1,8 @@
 // Which name a holder has in a document.
 
 import assert from "node:assert/strict";
-import { appendFileSync, readFileSync } from "node:fs";
+import { appendFileSync, readFileSync, writeFileSync } from "node:fs";
+import { open } from "node:fs/promises";
 import path from "node:path";
 import test from "node:test";
 import { Leases } from "../leases.js";
@@ -130,6 +131,105 @@ test("a lease that can't be written isn't given", async (t) => {
   assert.equal(readFileSync(file, "utf8").split("\n").length, 2);
 });
 
+/** Opens files on a disk that has room for so many bytes more. */
+function smallDisk(room) {
+  const disk = { room, open: async (file, flags) => {
+    const handle = await open(file, flags);
+    const refused = () => Object.assign(new Error("ENOSPC: no space left on device"), { code: "ENOSPC" });
+    return {
+      write: async (bytes, from, length, place) => {
+        const most = Math.min(length, disk.room);
+        if (most === 0) throw refused();
+        disk.room -= most;
+        return handle.write(bytes, from, most, place);
+      },
+      truncate: async (length) => {
+        if (disk.isBroken) throw refused();
+        disk.room += (await handle.stat()).size - length;
+        return handle.truncate(length);
+      },
+      datasync: () => handle.datasync(),
+      close: () => handle.close(),
+    };
+  } };
+  return disk;
+}
+
+test("on a full disk no lease is given, what was written of one is taken back, and what is given then is kept", async (t) => {
+  for (const isBroken of [false, true]) {
+    const disk = smallDisk(40);
+    let failures = 0;
+    const { book, file, begin } = booked(t, { open: disk.open, onFailure: () => (failures += 1) });
+    const ann = await book.lend("d", "ann");
+    disk.isBroken = isBroken;
+    const kept = readFileSync(file, "utf8");
+    for (const holder of ["bob", "eve"]) await assert.rejects(async () => book.lend("d", holder), /ENOSPC/);
+    assert.equal(failures, 2);
+    assert.equal(book.has("d", "bob"), false);
+    if (!isBroken) assert.equal(readFileSync(file, "utf8"), kept);
+    Object.assign(disk, { room: 10_000, isBroken: false });
+    const [bob, eve] = [await book.lend("d", "bob"), await book.lend("d", "eve")];
+    await book.close();
+    const again = begin();
+    assert.deepEqual(["ann", "bob", "eve"].map((holder) => again.has("d", holder)), [true, true, true]);
+    assert.deepEqual([await again.lend("d", "ann"), await again.lend("d", "bob"), await again.lend("d", "eve")].map(({ name }) => name), [ann, bob, eve].map(({ name }) => name));
+  }
+});
+
+test("a lease that is there is used on a full disk until its term by the file is over", async (t) => {
+  const disk = smallDisk(60);
+  const { book, clock } = booked(t, { open: disk.open });
+  const ann = await book.lend("d", "ann");
+  disk.room = 0;
+  clock.now = 2 * DAY;
+  assert.equal(await book.lend("d", "ann"), ann);
+  await pause(50);
+  assert.equal(ann.used, 0);
+  clock.now = 7 * DAY + 1;
+  await assert.rejects(async () => book.lend("d", "ann"), /ENOSPC/);
+  disk.room = 1_000;
+  assert.equal(await book.lend("d", "ann"), ann);
+  assert.equal(ann.used, clock.now);
+});
+
+test("lines that are none are left out, and a gateway lends new names then", async (t) => {
+  const lines = ['["d","ann","p0",1,0,false]', '["d","bob","p["e","cat","p1",1,0,false]', '["d","eve","p1",0,0,false]', '["d","dan","p1",1,0,"no"]', '{"d":1}', ""];
+  const { file, begin, book } = booked(t);
+  await book.close();
+  writeFileSync(file, lines.join("\n") + '["d","kim","p2",1,0,false]'); // the last one has no end
+  const again = begin();
+  assert.deepEqual(["ann", "bob", "eve", "dan", "kim"].map((holder) => again.has("d", holder)), [true, false, false, false, false]);
+  const { begin: beginGateway, url, close, data } = await begun(t);
+  const { lease } = await (await Talk.begin(t, url, "ann")).ask({ do: "lease", doc: "d" });
+  await close();
+  appendFileSync(path.join(data, "leases-s1"), '["d","bo\n');
+  const after = await beginGateway();
+  assert.deepEqual(after.events.map(({ event }) => event).filter((event) => event.includes("damaged")), ["a file of leases is damaged, so all names are new"]);
+  assert.equal((await (await Talk.begin(t, after.url, "ann")).ask({ do: "lease", doc: "d" })).lease, lease);
+  const other = (await (await Talk.begin(t, after.url, "bob")).ask({ do: "lease", doc: "d" })).lease;
+  assert.notEqual(other.split("-")[1], lease.split("-")[1]);
+});
+
+test("a creation is answered once it is listed on the disk, and else by 22", async (t) => {
+  const { store, url, gateway, data } = await begun(t);
+  const ann = await Talk.begin(t, url, "ann");
+  const { places } = gateway;
+  const created = places.created.bind(places);
+  let isFull = true;
+  places.created = (doc) => (isFull ? Promise.reject(new Error("ENOSPC")) : created(doc));
+  const create = { do: "create", doc: "d", n: 1, ops: [] };
+  store.isNowhere = () => true;
+  for (const ok of ["taken", "again"]) {
+    ann.send(create);
+    const { message, reply } = await store.next();
+    reply(taken(message, 1, ok));
+    await until(() => ann.replies.length === (ok === "taken" ? 2 : 3));
+    isFull = false;
+  }
+  assert.deepEqual(ann.replies.slice(1).map(({ code, ok }) => code ?? ok), [22, "again"]);
+  assert.equal(readFileSync(path.join(data, "documents"), "utf8"), '"d"\n');
+});
+
 test("the next number is known as long as each command's reply came", async (t) => {
   const { book } = booked(t);
   const lease = await book.lend("d", "ann");
@@ -167,7 +267,7 @@ async function begun(t, settings) {
   const store = await FakeStore.begin(t);
   const data = folderFor(t);
   const begin = () => gatewayFor(t, { stores: [{ name: "s1", ...store.address }], data, writers: 1, guests: 1, names: 2, ...settings });
-  return { store, begin, ...(await begin()) };
+  return { store, begin, data, ...(await begin()) };
 }
 
 const edit = (n, doc = "d") => ({ do: "edit", doc, n, base: 1, ops: [] });
