@@ -26,6 +26,7 @@ const UNKNOWN = [21, 22]; // a command that is refused so may have been taken
  * @typedef {object} Slot  a message in the row
  * @property {string} kind
  * @property {any} [message]
+ * @property {number} [bytes]  of the message, and of its reply
  * @property {Buffer} [reply]
  * @property {boolean} [isAllowed]
  * @property {boolean} [needsLease]  its holder may have a new lease in its document
@@ -63,7 +64,11 @@ export class Browser {
   #isEnding = false;
   #timer;
 
+  #slotBytes = 0; // of the messages in the row, and of their replies
+  #backlogBytes = 0; // of news that wait behind a subscription
+
   isGone = false;
+  waiting = 0; // bytes, at the last count
 
   /**
    * @param {any} gateway  what the gateway has for its browsers, see gateway.js
@@ -126,10 +131,28 @@ export class Browser {
     if (this.isGone) return;
     this.#flush();
     this.#leave();
+    if (this.isSlow) return this.#socket.terminate(); // its farewell would stand behind what it doesn't take, and hold that
     if (this.#socket.isPaused) this.#socket.resume(); // else its farewell isn't read
     this.#socket.close(code, why);
     setTimeout(() => this.#socket.terminate(), FAREWELL).unref();
   }
+
+  /** Counts the bytes that wait for it. */
+  count() {
+    if (this.isGone) return;
+    const bytes = this.#socket.bufferedAmount + this.#outBytes + this.#slotBytes + this.#backlogBytes + this.#unread.length;
+    this.#gateway.waiting.note(this, bytes);
+  }
+
+  /** Ends it, as more waits for it than there is room for. */
+  closeAsSlow = this.#guarded(() => {
+    if (this.isGone) return;
+    this.#gateway.metrics.count("overfull");
+    this.#gateway.log("too much waits for browsers, so the slowest is closed", { user: this.user.id, bytes: this.waiting });
+    this.#out = []; // what it doesn't get anyway
+    this.#outBytes = 0;
+    this.close(CODE.later, "too much waits for you");
+  });
 
   /** Ends it once its commands that were sent are answered. No others are sent. */
   finish() {
@@ -189,6 +212,7 @@ export class Browser {
     } while (this.#isPumpDue && !this.isGone);
     this.#isPumping = false;
     this.#flush();
+    this.count();
     if (this.isGone) return;
     if (this.#isEnding && !this.#slots.some(isOnItsWay)) return this.close(CODE.ends, "the gateway ends");
     const waits = this.#slots.length >= MOST_WAITING || this.#unread.includes(10);
@@ -223,8 +247,9 @@ export class Browser {
     if (refusal !== undefined) return this.#refuse(refusal);
     if (message.do === "hello") return this.#greet(message.source);
     /** @type {Slot} */
-    const slot = { kind: KIND[message.do], message, since: performance.now() };
+    const slot = { kind: KIND[message.do], message, since: performance.now(), bytes: line.length };
     this.#slots.push(slot);
+    this.#slotBytes += line.length;
     this.#open.set(message.doc, (this.#open.get(message.doc) ?? 0) + 1);
     const verdict = this.#gateway.judge(this.#given, message);
     if (typeof verdict === "boolean") this.#judged(slot, verdict);
@@ -379,7 +404,10 @@ export class Browser {
     const subscription = new Subscription(doc, rev, this.#guarded((it) => this.#followed.get(doc)?.subscription === it && this.#tell(doc) && this.#flush()));
     store.news.join(subscription, this.#guarded((line) => {
       if (this.isGone || slot.reply !== undefined) return store.news.leave(subscription);
-      if (codeOf(line) === 0) slot.followed = { subscription, news: store.news };
+      if (codeOf(line) === 0) {
+        slot.followed = { subscription, news: store.news };
+        this.#backlogBytes += subscription.backlogBytes;
+      }
       settle(line);
     }), wanted);
   }
@@ -403,6 +431,8 @@ export class Browser {
   #answer(slot, line) {
     if (this.isGone || slot.reply !== undefined) return;
     slot.reply = line;
+    slot.bytes += line.length;
+    this.#slotBytes += line.length;
     this.#pump();
   }
 
@@ -410,7 +440,8 @@ export class Browser {
   #deliver() {
     const before = this.#slots.length;
     while (!this.isGone && this.#slots[0]?.reply !== undefined) {
-      const { kind, message, reply, followed } = this.#slots.shift();
+      const { kind, message, reply, followed, bytes = 0 } = this.#slots.shift();
+      this.#slotBytes -= bytes;
       const code = codeOf(reply);
       if (reply.length > LARGE_REPLY) this.#readsAtOnce = 1;
       if (message?.do === "unsubscribe" && code === 0) this.#unfollow(message.doc);
@@ -448,7 +479,10 @@ export class Browser {
     const { backlog } = subscription;
     while (backlog.length > 0 && subscription.told < last) {
       if (this.#isBehind()) return this.#pumpLater();
-      this.#giveNews(subscription, backlog.shift());
+      const line = backlog.shift();
+      subscription.backlogBytes -= line.length;
+      this.#backlogBytes -= line.length;
+      this.#giveNews(subscription, line);
     }
     if (backlog.length > 0 || subscription.told >= last) return true;
     const lines = news.linesFor(subscription, last);
@@ -494,6 +528,7 @@ export class Browser {
     this.#out = [];
     this.#outBytes = 0;
     if (this.isGone) return;
+    if (!this.#isPumping) queueMicrotask(() => this.count()); // once it is sent
     let small = [];
     const send = (bytes) => this.#socket.send(bytes, { binary: true });
     const sendSmall = () => {
@@ -515,12 +550,14 @@ export class Browser {
     const followed = this.#followed.get(doc);
     if (followed === undefined) return;
     this.#followed.delete(doc);
+    this.#backlogBytes -= followed.subscription.backlogBytes;
     followed.news.leave(followed.subscription);
   }
 
   #leave() {
     if (this.isGone) return;
     this.isGone = true;
+    this.#gateway.waiting.note(this, 0);
     clearTimeout(this.#timer);
     for (const { ticket } of this.#slots) if (ticket !== undefined) ticket.isWanted = false;
     for (const doc of [...this.#followed.keys()]) this.#unfollow(doc);

@@ -46,6 +46,10 @@ export interface Limits {
   lineBytes: number;
   /** Bytes of a line of news, and of all that came after a revision: 4 MiB. */
   newsBytes: number;
+  /** Bytes that wait for all browsers of the gateway: 256 MiB. */
+  waitingBytes: number;
+  /** Bytes of news that are kept of all documents that somebody follows: 64 MiB. */
+  keptBytes: number;
 }
 
 export interface Settings {
@@ -115,4 +119,4 @@ export interface Gateway {
 export function createGateway(settings: Settings): Promise<Gateway>;
 
 /** The codes by which a WebSocket is closed. */
-export const CODE: { fault: 1011; ends: 1012; full: 4503; again: 4409; rights: 4403 };
+export const CODE: { fault: 1011; ends: 1012; later: 1013; full: 4503; again: 4409; rights: 4403 };

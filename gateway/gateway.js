@@ -18,6 +18,7 @@ import { Presence } from "./presence.js";
 import { checkOrigins, checkStore, checked } from "./settings.js";
 import { Store } from "./store.js";
 import { User, idOf } from "./users.js";
+import { Waiting } from "./waiting.js";
 import { webSockets } from "./websockets.js";
 
 const MOST_FRAME = 1 << 17; // bytes of a WebSocket's message
@@ -46,6 +47,7 @@ export class Gateway {
   #onCommand;
   #onTaken;
   #sockets;
+  #kept; // of the news of all stores
   #etcd;
   #pool;
   #unlock = () => {};
@@ -76,6 +78,8 @@ export class Gateway {
     this.#can = can;
     this.#onCommand = onCommand;
     this.#onTaken = onTaken;
+    this.waiting = new Waiting({ most: settings.limits.waitingBytes, all: () => this.#browsers });
+    this.#kept = { bytes: 0, most: settings.limits.keptBytes };
     const { WebSocketServer } = webSockets();
     this.#sockets = new WebSocketServer({ noServer: true, maxPayload: MOST_FRAME, clientTracking: false });
   }
@@ -199,7 +203,7 @@ export class Gateway {
   }
 
   metricsText() {
-    return this.metrics.text({ sessions: this.#browsers.size, stores: this.stores.values() });
+    return this.metrics.text({ sessions: this.#browsers.size, stores: this.stores.values(), waiting: this.waiting.total, kept: this.#kept.bytes });
   }
 
   /** Adds a store, or says anew whether one takes new documents. */
@@ -337,7 +341,7 @@ export class Gateway {
     const leases = this.#etcd === undefined
       ? new Leases({ file: path.join(data, `leases-${address.name}`), names: this.#pool, first, term, onLent, onFailure: this.#onUnwritten })
       : new EtcdLeases({ etcd: this.#etcd, store: address.name, pool: async () => this.#poolOrNone(), first, term, onLent });
-    const store = new Store(address, { prefix, readers, guests, leases, metrics: this.metrics, log: this.log, limits });
+    const store = new Store(address, { prefix, readers, guests, leases, metrics: this.metrics, log: this.log, limits, kept: this.#kept });
     this.stores.set(address.name, store);
     if (this.#pool !== undefined) store.openWriters(this.#pool.slice(0, first));
   }
@@ -388,7 +392,10 @@ export class Gateway {
 
   #eachSecond() {
     this.#said.clear();
-    for (const browser of [...this.#browsers]) browser.giveUpWaiting();
+    for (const browser of [...this.#browsers]) {
+      browser.giveUpWaiting();
+      browser.count();
+    }
   }
 }
 

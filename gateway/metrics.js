@@ -7,6 +7,7 @@ const COUNTED = [
   ["garbage", [{ from: "store" }, { from: "etcd" }]],
   ["faults", [{}]],
   ["unwritten", [{}]],
+  ["overfull", [{}]],
 ];
 
 const labelled = (labels) => {
@@ -69,16 +70,18 @@ export class Metrics {
   }
 
   /**
-   * @param {{ sessions: number, stores: Iterable<{ name: string, open: Record<string, number> }> }} now
+   * @param {{ sessions: number, waiting: number, kept: number, stores: Iterable<{ name: string, open: Record<string, number> }> }} now
    * @returns {string}
    */
-  text({ sessions, stores }) {
+  text({ sessions, stores, waiting, kept }) {
     const name = (it) => `richd_gateway_${it}`;
     const counter = (it, values) => [`# TYPE ${name(it)} counter`, ...values.map(([labels, value]) => `${name(it)}${labels} ${value}`)];
     const open = [...stores].flatMap((store) => Object.entries(store.open).map(([kind, count]) => `${name("store_sessions")}{store="${store.name}",kind="${kind}"} ${count}`));
     const { user, system } = process.cpuUsage();
     return [
       `# TYPE ${name("sessions")} gauge`, `${name("sessions")} ${sessions}`,
+      `# TYPE ${name("waiting_bytes")} gauge`, `${name("waiting_bytes")} ${waiting}`,
+      `# TYPE ${name("kept_bytes")} gauge`, `${name("kept_bytes")} ${kept}`,
       `# TYPE ${name("store_sessions")} gauge`, ...open,
       ...counter("commands_total", Object.entries(this.commands).map(([result, count]) => [`{result="${result}"}`, count])),
       ...counter("refusals_total", [...this.refusals].map(([code, count]) => [`{code="${code}"}`, count])),

@@ -9,7 +9,7 @@ export const DEFAULTS = { name: "g", readers: 2, writers: 16, guests: 8, names: 
 const MIB = 1 << 20; // bytes
 export const LIMITS = {
   sessions: 20_000, userSessions: 200, userMessages: 2_000,
-  lineBytes: 64 * MIB, newsBytes: 4 * MIB,
+  lineBytes: 64 * MIB, newsBytes: 4 * MIB, waitingBytes: 256 * MIB, keptBytes: 64 * MIB,
 };
 export const HOOKS = ["authorize", "can", "onCommand", "onTaken"];
 const FIELDS = [...Object.keys(DEFAULTS), "stores", "data", "etcd", "rule", "origins", "limits", ...HOOKS, "log", "hidesMetrics"];
@@ -91,5 +91,7 @@ export function checked(given) {
     demand(limit in LIMITS, `limits: ${limit} is none of ${Object.keys(LIMITS).join(", ")}`);
     demand(isBetween(value, 1, 2 ** 31), `limits: ${limit} is a whole number above 0`);
   }
+  const { lineBytes, newsBytes, waitingBytes, keptBytes } = limits;
+  demand(waitingBytes >= lineBytes && lineBytes >= newsBytes && keptBytes >= newsBytes, "limits: waitingBytes is at least lineBytes, and lineBytes and keptBytes at least newsBytes");
   return { ...settings, term: term * DAY, rule: rule ?? [{ prefix: "", store: stores[0].name }] };
 }

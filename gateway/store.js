@@ -54,10 +54,10 @@ export class Store {
   /**
    * @param {{ name: string, host: string, port: number, new?: boolean }} address
    * @param {{ prefix: string, readers: number, guests: number, leases: any, metrics: import("./metrics.js").Metrics,
-   *   log: (event: string, about?: object) => void, limits: { lineBytes: number, newsBytes: number } }} options
+   *   log: (event: string, about?: object) => void, limits: { lineBytes: number, newsBytes: number }, kept: import("./news.js").Kept }} options
    *   `prefix` is that of this gateway's own sessions
    */
-  constructor({ name, host, port, new: takesNew = true }, { prefix, readers, guests, leases, metrics, log, limits }) {
+  constructor({ name, host, port, new: takesNew = true }, { prefix, readers, guests, leases, metrics, log, limits, kept }) {
     this.name = name;
     this.takesNew = takesNew;
     this.leases = leases;
@@ -76,7 +76,7 @@ export class Store {
     this.#readers = [first, ...Array.from({ length: readers - 1 }, () => new Upstream(this.#address, `${prefix}-reader2`, this.#listener))];
     const since = (doc, rev, settle, wanted) => this.since(doc, rev, settle, wanted);
     const onLong = (doc) => log("news of a document are longer than newsBytes", { store: name, doc });
-    this.news = new News(this.#address, `${prefix}-news`, since, { ...this.#listener, onLong, mostNews: limits.newsBytes, onLag: (lag) => metrics.lag.add(lag) });
+    this.news = new News(this.#address, `${prefix}-news`, since, { ...this.#listener, onLong, mostNews: limits.newsBytes, kept, onLag: (lag) => metrics.lag.add(lag) });
     this.#timer = setInterval(() => this.#closeIdle(), IDLE / 4);
     this.#timer.unref();
   }

@@ -38,7 +38,9 @@ const WRONG = [
   [{ rule: [{ prefix: "a", store: "s1" }, { prefix: "a", store: "s1" }] }, /^rule: a prefix stands twice/],
   [{ origins: "https://notes.example" }, /^origins is a list/],
   [{ origins: ["https://notes.example/"] }, /^origins is a list/],
-  [{ limits: { session: 1 } }, /^limits: session is none of sessions, userSessions, userMessages, lineBytes, newsBytes/],
+  [{ limits: { session: 1 } }, /^limits: session is none of sessions, /],
+  [{ limits: { waitingBytes: 1_000 } }, /^limits: waitingBytes is at least lineBytes/],
+  [{ limits: { newsBytes: 1.5 } }, /^limits: newsBytes is a whole number above 0/],
   [{ limits: { sessions: 0 } }, /^limits: sessions is a whole number above 0/],
   [{ user: { header: "x-remote-user" } }, /^there is no setting user/],
   [{ authorise: () => null }, /^there is no setting authorise/],
@@ -55,7 +57,7 @@ test("each wrong setting is refused with a reason", async () => {
 test("the least settings have defaults", () => {
   const { name, readers, writers, guests, names, term, limits } = checked(right);
   assert.deepEqual({ name, readers, writers, guests, names, term }, { name: "g", readers: 2, writers: 16, guests: 8, names: 120, term: 7 * 86_400_000 });
-  assert.deepEqual(limits, { sessions: 20_000, userSessions: 200, userMessages: 2_000, lineBytes: 67_108_864, newsBytes: 4_194_304 });
+  assert.deepEqual(limits, { sessions: 20_000, userSessions: 200, userMessages: 2_000, lineBytes: 67_108_864, newsBytes: 4_194_304, waitingBytes: 268_435_456, keptBytes: 67_108_864 });
   assert.equal(checked({ stores: [store, { ...store, name: "s2" }], etcd }).data, undefined);
 });
 
