@@ -147,7 +147,7 @@ export class Browser {
   /** Ends it, as more waits for it than there is room for. */
   closeAsSlow = this.#guarded(() => {
     if (this.isGone) return;
-    this.#gateway.metrics.count("overfull");
+    this.#gateway.metrics.count("overfull_total");
     this.#gateway.log("too much waits for browsers, so the slowest is closed", { user: this.user.id, bytes: this.waiting });
     this.#out = []; // what it doesn't get anyway
     this.#outBytes = 0;

@@ -92,7 +92,7 @@ export class Gateway {
       this.places = new RuledPlaces({ rule, folder: data, onFailure: this.#onUnwritten });
       this.#pool = this.#namesOf(await this.#keptPool(data));
     } else {
-      this.#etcd = new Etcd({ ...etcd, log: this.log, onGarbage: () => this.metrics.count("garbage", { from: "etcd" }) });
+      this.#etcd = new Etcd({ ...etcd, log: this.log, onGarbage: () => this.metrics.count("garbage_total", { from: "etcd" }) });
       this.places = new EtcdPlaces({ etcd: this.#etcd, stores: () => [...this.stores.values()] });
     }
     this.places.moves = etcd !== undefined;
@@ -114,7 +114,7 @@ export class Gateway {
   }
 
   #onUnwritten = (error) => {
-    this.metrics.count("unwritten");
+    this.metrics.count("unwritten_total");
     this.log("a file can't be written", { error: error.message });
   };
 
@@ -132,7 +132,7 @@ export class Gateway {
 
   /** Something threw that shouldn't: one session ends by it. */
   fault(error, about = {}) {
-    this.metrics.count("faults");
+    this.metrics.count("faults_total");
     this.log("a fault of the gateway", { ...about, error: error?.stack ?? String(error) });
   }
 

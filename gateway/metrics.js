@@ -4,10 +4,10 @@ const MOST = 10_000; // of the last times that quantiles are of
 
 // What befalls a gateway seldom, with the labels that stand there from the start.
 const COUNTED = [
-  ["garbage", [{ from: "store" }, { from: "etcd" }]],
-  ["faults", [{}]],
-  ["unwritten", [{}]],
-  ["overfull", [{}]],
+  ["garbage_total", [{ from: "store" }, { from: "etcd" }]],
+  ["faults_total", [{}]],
+  ["unwritten_total", [{}]],
+  ["overfull_total", [{}]],
 ];
 
 const labelled = (labels) => {
@@ -92,7 +92,7 @@ export class Metrics {
       ...counter("cuts_total", [["", this.cuts]]),
       ...counter("stale_total", [["", this.stale]]),
       ...counter("slow_total", [["", this.slow]]),
-      ...[...this.#counts].flatMap(([what, counts]) => counter(`${what}_total`, [...counts])),
+      ...[...this.#counts].flatMap(([what, counts]) => counter(what, [...counts])),
       "# TYPE process_resident_memory_bytes gauge", `process_resident_memory_bytes ${process.memoryUsage().rss}`,
       "# TYPE process_cpu_seconds_total counter", `process_cpu_seconds_total ${((user + system) / 1e6).toFixed(3)}`,
     ].join("\n") + "\n";

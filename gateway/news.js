@@ -174,7 +174,6 @@ export class News {
     entry.bytes += line.length;
     this.#kept.bytes += line.length;
     if (entry.ring.length > MOST_LINES || (entry.bytes > MOST_BYTES && entry.ring.length > 1)) this.#shorten(entry);
-    if (this.#kept.bytes > this.#kept.most) this.#shed();
     const began = entry.taken.get(rev);
     if (began !== undefined) this.#onLag(performance.now() - began);
     entry.taken.delete(rev);
@@ -206,6 +205,7 @@ export class News {
     const entries = [...this.#fresh];
     this.#fresh.clear();
     for (const { subscriptions } of entries) for (const subscription of subscriptions) subscription.onNews(subscription);
+    if (this.#kept.bytes > this.#kept.most) this.#shed();
   }
 
   #end(doc, entry) {

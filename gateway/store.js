@@ -42,11 +42,11 @@ export class Store {
   #listener = {
     onCut: this.#onCut,
     onGarbage: (what) => {
-      this.#metrics.count("garbage", { from: "store" });
+      this.#metrics.count("garbage_total", { from: "store" });
       this.#log("a store sends garbage", { store: this.name, what });
     },
     onFault: (error) => {
-      this.#metrics.count("faults");
+      this.#metrics.count("faults_total");
       this.#log("a fault of the gateway", { store: this.name, error: error.stack });
     },
   };

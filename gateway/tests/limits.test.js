@@ -38,9 +38,9 @@ test("where too much waits for all browsers, the one for whom most waits is clos
 });
 
 test("news that are kept of all documents have one bound, and who is behind them is told to fetch", async (t) => {
-  const it = await begun(t, { limits: { newsBytes: 2 * MIB, keptBytes: 8 * MIB } });
+  const it = await begun(t, { limits: { newsBytes: MIB, keptBytes: 2 * MIB } });
   const [ann, bob] = [await Talk.begin(t, it.url, "a", as("ann")), await Talk.begin(t, it.url, "b", as("bob"))];
-  const docs = Array.from({ length: 20 }, (_, index) => `d${index}`);
+  const docs = Array.from({ length: 60 }, (_, index) => `d${index}`);
   const replies = new Map();
   for (const doc of docs) {
     for (const talk of [ann, bob]) talk.send({ do: "subscribe", doc, rev: 1 });
@@ -53,11 +53,11 @@ test("news that are kept of all documents have one bound, and who is behind them
   }
   bob.socket.pause();
   for (const [index, doc] of docs.entries()) {
-    for (const news of [2, 3]) replies.get(doc)({ doc, news, ops: [{ insert: "x".repeat(MIB) }] });
+    for (const news of [2, 3]) replies.get(doc)({ doc, news, ops: [{ insert: "x".repeat(MIB / 4) }] });
     await until(() => ann.news.length === 2 * index + 2);
     assert.deepEqual(ann.news.slice(-2).map(({ news }) => news), [2, 3]);
   }
-  assert.ok(counted(it, "kept_bytes") <= 8 * MIB);
+  assert.ok(counted(it, "kept_bytes") <= 2 * MIB);
   bob.socket.resume();
   await until(() => docs.every((doc) => bob.news.some((line) => line.doc === doc && (line.ended === 13 || line.news === 3))));
   assert.ok(bob.news.some(({ ended }) => ended === 13));
