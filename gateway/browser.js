@@ -30,6 +30,7 @@ const UNKNOWN = [21, 22]; // a command that is refused so may have been taken
  * @property {Buffer} [reply]
  * @property {boolean} [isAllowed]
  * @property {boolean} [needsLease]  its holder may have a new lease in its document
+ * @property {boolean} [waitsForName]
  * @property {boolean} [isAsking]  something is found out before it can be sent
  * @property {boolean} [isSent]  to the sessions of a store, where it may still wait
  * @property {{ isSent: boolean, isWanted: boolean }} [ticket]
@@ -279,7 +280,7 @@ export class Browser {
       if (!slot.isSent) {
         const isRead = slot.kind === "fetch" || slot.kind === "since";
         if (isRead && this.isSlow) return this.#pumpLater();
-        if ((isRead && asked >= this.#readsAtOnce) || !slot.isAllowed || slot.isAsking || !this.#send(slot)) return;
+        if ((isRead && asked >= this.#readsAtOnce) || !slot.isAllowed || slot.isAsking || slot.waitsForName || !this.#send(slot)) return;
       }
       if (slot.reply !== undefined) continue;
       kind = slot.kind;
@@ -331,16 +332,34 @@ export class Browser {
     if (!slot.needsLease && !store.leases.has(message.doc, this.#holder)) {
       return this.#find(slot, store.standing(message.doc, () => !this.isGone), (standing) => this.#needLease(slot, standing, store.leases));
     }
-    const lease = store.leases.lend(message.doc, this.#holder);
-    if (lease instanceof Promise) return this.#find(slot, lease, (found) => found === undefined && (slot.reply ??= REFUSAL.TooManySources));
-    if (lease === undefined) slot.reply = REFUSAL.TooManySources;
-    else if (kind === "lease") slot.reply = leaseLine(message.doc, Object.assign(lease, { isTold: true }));
+    this.#written.add(message.doc);
+    const lease = kind === "lease" ? store.leases.reserve(message.doc, this.#holder) : store.leases.lend(message.doc, this.#holder);
+    if (lease instanceof Promise) return this.#find(slot, lease, (found) => found === undefined && this.#waitForName(slot, store));
+    if (lease === undefined) return this.#waitForName(slot, store);
+    if (kind === "lease") slot.reply = leaseLine(message.doc, Object.assign(lease, { isTold: true }));
     else if (message.do === "undo" && lease.epoch > 1 && !lease.isOwn) {
       if (this.#slots.some((it) => it !== slot && isWaiting(it) && it.message.doc === message.doc)) return false; // it may become one's own
       slot.reply = REFUSAL.NothingToUndo; // what there is was another's
     } else this.#command(slot, store, lease);
-    this.#written.add(message.doc);
     return true;
+  }
+
+  // All names are lent in a document: it is asked again as they come back. Gives that the next message may not follow.
+  #waitForName(slot, store) {
+    const { kind, message: { doc } } = slot;
+    const ask = async () => (kind === "lease" ? store.leases.reserve(doc, this.#holder) : store.leases.lend(doc, this.#holder));
+    slot.waitsForName = true;
+    store.waitForName(this.user.id, doc, {
+      user: this.user.id,
+      isWanted: () => !this.isGone && slot.reply === undefined,
+      isServed: async () => {
+        if ((await ask()) === undefined) return false;
+        slot.waitsForName = false;
+        this.#pump();
+        return true;
+      },
+    });
+    return false;
   }
 
   // A name isn't lent for a document that is nowhere, and none is needed to be told that one is there already.
@@ -357,7 +376,7 @@ export class Browser {
     lease.begin();
     const began = performance.now();
     const settle = this.#guarded((line) => this.#onCommand(slot, store, lease, line, began));
-    slot.ticket = store.command(lease.name, slot.message, settle);
+    slot.ticket = store.command(this.user.id, lease.name, slot.message, settle);
   }
 
   // What became of a command. Undefined: it wasn't sent, as it wasn't wanted any more; null: its session was cut.

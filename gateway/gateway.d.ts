@@ -42,6 +42,8 @@ export interface Limits {
   userSessions: number;
   /** Messages of a user a second: 2,000. */
   userMessages: number;
+  /** Names of a user in one document: 4. */
+  userNames: number;
   /** Bytes of a document as it is fetched: 64 MiB. */
   lineBytes: number;
   /** Bytes of a line of news, and of all that came after a revision: 4 MiB. */
@@ -66,6 +68,8 @@ export interface Settings {
   names?: number;
   /** Days after which a name may be lent anew where all are lent: 7. */
   term?: number;
+  /** Seconds after which a name that isn't used may be asked back where all are lent: 60. */
+  recall?: number;
   /** Milliseconds between two pings: 15,000. A browser that has answered none, and has taken nothing, by the next but one is cut off. */
   pulse?: number;
   /** A folder of this gateway's own, needed without etcd. */

@@ -333,14 +333,24 @@ export class Gateway {
   }
 
   #add(address) {
-    const { name: prefix, readers, writers: first, guests, term, data, limits } = this.#settings;
+    const { name: prefix, readers, writers: first, guests, term, recall, data, limits } = this.#settings;
     const onLent = (doc, { name, epoch }) => {
       this.metrics.lent[epoch === 1 ? 1 : "more"] += 1;
       if (epoch > 1) this.log("a name is lent anew", { store: address.name, doc, name, epoch });
     };
+    const naming = {
+      most: limits.userNames,
+      recall: recall * SECOND,
+      isHere: (holder) => this.#holders.has(holder),
+      onRecall: (doc, from, to) => {
+        this.metrics.count("recalled_total");
+        this.log("a name is asked back", { store: address.name, doc, from, to });
+        this.#holders.get(from)?.close(CODE.ends, "its name was asked back"); // it asks anew under which name it writes
+      },
+    };
     const leases = this.#etcd === undefined
-      ? new Leases({ file: path.join(data, `leases-${address.name}`), names: this.#pool, first, term, onLent, onFailure: this.#onUnwritten })
-      : new EtcdLeases({ etcd: this.#etcd, store: address.name, pool: async () => this.#poolOrNone(), first, term, onLent });
+      ? new Leases({ file: path.join(data, `leases-${address.name}`), names: this.#pool, first, term, onLent, naming, onFailure: this.#onUnwritten })
+      : new EtcdLeases({ etcd: this.#etcd, store: address.name, pool: async () => this.#poolOrNone(), first, term, onLent, naming, at: prefix });
     const store = new Store(address, { prefix, readers, guests, leases, metrics: this.metrics, log: this.log, limits, kept: this.#kept });
     this.stores.set(address.name, store);
     if (this.#pool !== undefined) store.openWriters(this.#pool.slice(0, first));
@@ -392,6 +402,7 @@ export class Gateway {
 
   #eachSecond() {
     this.#said.clear();
+    for (const store of this.stores.values()) store.serveNames();
     for (const browser of [...this.#browsers]) {
       browser.giveUpWaiting();
       browser.count();

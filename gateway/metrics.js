@@ -8,6 +8,8 @@ const COUNTED = [
   ["faults_total", [{}]],
   ["unwritten_total", [{}]],
   ["overfull_total", [{}]],
+  ["name_waits_total", [{}]],
+  ["recalled_total", [{}]],
 ];
 
 const labelled = (labels) => {

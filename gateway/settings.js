@@ -5,10 +5,10 @@ const STORE = /^[A-Za-z0-9._-]{1,32}$/;
 const SESSIONS = 64; // that a store serves
 const MOST_NAMES = 4_096; // that a document has places for
 const DAY = 86_400_000; // milliseconds
-export const DEFAULTS = { name: "g", readers: 2, writers: 16, guests: 8, names: 120, term: 7, pulse: 15_000 };
+export const DEFAULTS = { name: "g", readers: 2, writers: 16, guests: 8, names: 120, term: 7, recall: 60, pulse: 15_000 };
 const MIB = 1 << 20; // bytes
 export const LIMITS = {
-  sessions: 20_000, userSessions: 200, userMessages: 2_000,
+  sessions: 20_000, userSessions: 200, userMessages: 2_000, userNames: 4,
   lineBytes: 64 * MIB, newsBytes: 4 * MIB, waitingBytes: 256 * MIB, keptBytes: 64 * MIB,
 };
 export const HOOKS = ["authorize", "can", "onCommand", "onTaken"];
@@ -70,6 +70,7 @@ export function checked(given) {
   for (const field of Object.keys(given)) demand(FIELDS.includes(field), `there is no setting ${field}`);
   for (const hook of HOOKS) demand(given[hook] === undefined || typeof given[hook] === "function", `${hook} is a function`);
   const settings = { ...DEFAULTS, ...given, limits: { ...LIMITS, ...given.limits } };
+  if (given.authorize === undefined) settings.limits.userNames = given.limits?.userNames ?? settings.names; // all are one user
   const { name, stores, readers, writers, guests, names, term, data, etcd, rule, origins, limits } = settings;
   demand(isText(name) && NAME.test(name), `name has 1 to 12 characters of A-Z a-z 0-9 . _ -, and not ${JSON.stringify(name)}`);
   checkStores(stores);
@@ -80,6 +81,7 @@ export function checked(given) {
   demand(share <= SESSIONS, `readers, writers, guests and one for the news are ${share} sessions, and a store has ${SESSIONS}`);
   demand(isBetween(names, writers, MOST_NAMES), `names is at least writers, which is ${writers}, and at most ${MOST_NAMES}`);
   demand(Number.isFinite(term) && term > 0, "term is a number of days above 0");
+  demand(isBetween(settings.recall, 1, 2 ** 31 - 1), "recall is a whole number of seconds above 0");
   demand(isBetween(settings.pulse, 1, 2 ** 31 - 1), "pulse is a whole number of milliseconds above 0");
   demand(etcd !== undefined || isText(data), "data: a folder of this gateway's own is needed without etcd");
   if (etcd !== undefined) checkEtcd(etcd);

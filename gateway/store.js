@@ -2,6 +2,7 @@
 
 import { codeOf, revOf, REFUSAL } from "./messages.js";
 import { News } from "./news.js";
+import { Turns } from "./turns.js";
 import { Command, Upstream } from "./upstream.js";
 
 const MOST_SINCE = 1_000; // revisions that are asked for at once: a reply is held whole
@@ -12,6 +13,13 @@ const DELETED = 40;
 const MOST_STALE = 100; // times that a read is asked again which is older than an own command
 const STALE_PAUSE = 10; // milliseconds
 const TOO_LONG = Buffer.from(REFUSAL.NoMemory); // another object than that of a store without memory
+
+/**
+ * @typedef {object} Waiter  a message that waits for a name
+ * @property {string} user
+ * @property {() => boolean} isWanted
+ * @property {() => Promise<boolean>} isServed  asks again
+ */
 
 /**
  * The sessions of one store:
@@ -33,8 +41,11 @@ export class Store {
   #writers = new Map();
   /** @type {Map<string, { session: Upstream, used: number }>} in the order in which they were used last */
   #guests = new Map();
-  /** @type {{ name: string, command: Command }[]} */
-  #queue = []; // commands that wait for a guest's place
+  /** @type {Turns<{ name: string, command: Command }>} commands that wait for a guest's place */
+  #queue = new Turns();
+  /** @type {Map<string, Turns<Waiter>>} document -> messages that wait for a name */
+  #names = new Map();
+  #isNaming = false;
   #timer;
 
   #onCut = () => (this.#metrics.cuts += 1);
@@ -159,26 +170,56 @@ export class Store {
   }
 
   /**
-   * Sends a command under a name. It may still wait then; `settle` is told as by a `Command`.
+   * Sends a command under a name. It may still wait then, by turns of users; `settle` is told as by a `Command`.
+   * @param {string} user
    * @param {string} name
    * @param {any} message
    * @param {(line: Buffer | null | undefined) => void} settle
    */
-  command(name, message, settle) {
+  command(user, name, message, settle) {
     const command = new Command(message, settle);
     const writer = this.#writers.get(name);
     if (writer !== undefined) {
       writer.command(command);
       return command;
     }
-    this.#queue.push({ name, command });
+    this.#queue.add(user, { name, command });
     this.#serveGuests();
     return command;
   }
 
+  /**
+   * Has a message wait for a name in a document, by turns of users.
+   * @param {string} user
+   * @param {string} doc
+   * @param {Waiter} waiter
+   */
+  waitForName(user, doc, waiter) {
+    this.#metrics.count("name_waits_total");
+    this.#log("a message waits for a name", { store: this.name, doc, user });
+    if (!this.#names.has(doc)) this.#names.set(doc, new Turns());
+    this.#names.get(doc).add(user, waiter);
+  }
+
+  /** Looks whether there are names for those who wait. */
+  async serveNames() {
+    if (this.#isNaming) return;
+    this.#isNaming = true;
+    for (const [doc, turns] of this.#names) {
+      // one of each user is looked at, and again those who got one
+      for (let tries = turns.users; tries > 0 && !turns.isEmpty; tries -= 1) {
+        const waiter = turns.next(() => true);
+        if (!waiter.isWanted() || (await waiter.isServed().catch(() => false))) continue;
+        turns.add(waiter.user, waiter);
+      }
+      if (turns.isEmpty) this.#names.delete(doc);
+    }
+    this.#isNaming = false;
+  }
+
   end() {
     clearInterval(this.#timer);
-    this.#queue = [];
+    this.#queue = new Turns();
     this.news.end();
     for (const session of [...this.#readers, ...this.#writers.values()]) session.end();
     for (const { session } of this.#guests.values()) session.end();
@@ -187,33 +228,36 @@ export class Store {
 
   // Gives what waits to the sessions of its names, as far as there is room for them.
   #serveGuests() {
-    const full = new Set(); // names that have to wait
-    const queue = this.#queue;
-    this.#queue = [];
-    for (const item of queue) {
-      const session = !item.command.isWanted || full.has(item.name) ? undefined : this.#guest(item.name);
-      if (!item.command.isWanted) item.command.settle(undefined);
-      else if (session !== undefined) session.command(item.command);
-      else if (full.add(item.name)) this.#queue.push(item);
+    for (;;) {
+      const item = this.#queue.next(({ name, command }) => !command.isWanted || this.#hasRoom(name));
+      if (item === undefined) return;
+      if (item.command.isWanted) this.#guest(item.name).command(item.command);
+      else item.command.settle(undefined);
     }
+  }
+
+  // While several users wait a guest gets nothing new until it is idle, so that its place may be another's.
+  #hasRoom(name) {
+    const found = this.#guests.get(name);
+    if (found !== undefined) return found.session.isIdle || this.#queue.users === 1;
+    return this.#guests.size < this.#most || this.#idle !== undefined;
+  }
+
+  get #idle() {
+    return [...this.#guests].find(([, { session }]) => session.isIdle)?.[0];
   }
 
   #guest(name) {
     const found = this.#guests.get(name);
-    if (found !== undefined) {
-      this.#guests.delete(name);
-    } else if (this.#guests.size >= this.#most) {
-      const idle = [...this.#guests].find(([, { session }]) => session.isIdle);
-      if (idle === undefined) return undefined;
-      this.#close(idle[0]);
-    }
+    if (found !== undefined) this.#guests.delete(name);
+    else if (this.#guests.size >= this.#most) this.#close(this.#idle);
     const session = found?.session ?? new Upstream(this.#address, name, { ...this.#listener, onIdle: () => this.#onIdle() });
     this.#guests.set(name, { session, used: performance.now() });
     return session;
   }
 
   #onIdle() {
-    if (this.#queue.length > 0) setImmediate(() => this.#serveGuests());
+    if (!this.#queue.isEmpty) setImmediate(() => this.#serveGuests());
   }
 
   #close(name) {

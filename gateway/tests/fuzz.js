@@ -37,7 +37,7 @@ const store = new Richd(test, "--sources", "256", "--docs", "256", "--cell", "10
 await store.serve();
 const data = path.join(folderFor(test), "data");
 const gateway = new GatewayProgram(test, () => ({
-  name: "f", stores: [{ name: "s1", host: "127.0.0.1", port: store.port }], data, ...(lends ? LENDING : {}), limits: { userSessions: 10_000, userMessages: 1_000_000 },
+  name: "f", stores: [{ name: "s1", host: "127.0.0.1", port: store.port }], data, ...(lends ? LENDING : {}), limits: { userSessions: 10_000, userMessages: 1_000_000, userNames: 1_000 },
 }), process.env.LOG ? "inherit" : "ignore");
 await gateway.start();
 

@@ -30,6 +30,7 @@ const WRONG = [
   [{ readers: 2, writers: 54, guests: 8 }, /are 65 sessions, and a store has 64/],
   [{ writers: 32, names: 31 }, /^names is at least writers, which is 32/],
   [{ term: 0 }, /^term is a number of days above 0/],
+  [{ recall: 0 }, /^recall is a whole number of seconds above 0/],
   [{ data: undefined }, /^data: a folder of this gateway's own/],
   [{ etcd: {} }, /^etcd: urls is a list/],
   [{ etcd: { urls: ["127.0.0.1:2379"] } }, /isn't http:\/\/HOST:PORT/],
@@ -55,9 +56,10 @@ test("each wrong setting is refused with a reason", async () => {
 });
 
 test("the least settings have defaults", () => {
-  const { name, readers, writers, guests, names, term, limits } = checked(right);
+  const { name, readers, writers, guests, names, term, limits } = checked({ ...right, authorize: () => null });
   assert.deepEqual({ name, readers, writers, guests, names, term }, { name: "g", readers: 2, writers: 16, guests: 8, names: 120, term: 7 * 86_400_000 });
-  assert.deepEqual(limits, { sessions: 20_000, userSessions: 200, userMessages: 2_000, lineBytes: 67_108_864, newsBytes: 4_194_304, waitingBytes: 268_435_456, keptBytes: 67_108_864 });
+  assert.deepEqual(limits, { sessions: 20_000, userSessions: 200, userMessages: 2_000, userNames: 4, lineBytes: 67_108_864, newsBytes: 4_194_304, waitingBytes: 268_435_456, keptBytes: 67_108_864 });
+  assert.equal(checked(right).limits.userNames, 120, "without authorize all are one user");
   assert.equal(checked({ stores: [store, { ...store, name: "s2" }], etcd }).data, undefined);
 });
 
