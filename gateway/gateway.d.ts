@@ -79,14 +79,16 @@ export interface Settings {
   rule?: { prefix: string; store: string }[];
   /** Of pages that may connect; without a list those of this machine's names. */
   origins?: string[];
+  /** Names by which /healthz, /metrics and /docs are asked for, besides those of the origins, of this machine, and addresses. */
+  hosts?: string[];
   /** What users may take, and what is held of what a store sends; docs/GATEWAY.md has their table. */
   limits?: Partial<Limits>;
   /** Gives who asks, or null where he isn't signed in. Without it everybody is the user "anybody". */
   authorize?: (request: Request) => User | null | undefined | Promise<User | null | undefined>;
   /** Whether a user may do something. It is asked at each message. Without it everybody may do all. */
   can?: (user: any, doc: string, action: Action) => boolean | Promise<boolean>;
-  /** Is asked before a command leaves: false refuses it. */
-  onCommand?: (about: { user: any; doc: string; message: Command }) => boolean | void | Promise<boolean | void>;
+  /** Is asked before a command leaves: true lets it pass, and anything else refuses it. */
+  onCommand?: (about: { user: any; doc: string; message: Command }) => boolean | Promise<boolean>;
   /** Is told of each command that was taken. */
   onTaken?: (about: { user: any; doc: string; message: Command; rev: number; isAgain: boolean }) => void | Promise<void>;
   log?: (event: LogEvent) => void;
@@ -106,6 +108,8 @@ export interface Gateway {
   handleUpgrade(request: Request, socket: any, head: any): Promise<void>;
   /** Answers /healthz, /metrics and /docs; gives false where it was none of them. */
   handleRequest(request: Request, response: any): boolean;
+  /** Answers /healthz and /metrics, for an address of their own; gives false where it was none of them. */
+  handleWatch(request: Request, response: any): boolean;
   /** Closes a user's sessions, as his rights have changed. */
   closeUser(id: string): void;
   /** Adds a store, or says anew whether one takes new documents. */

@@ -12,7 +12,7 @@ import { Leases, hasDamage } from "./leases.js";
 import { lock } from "./lock.js";
 import { KIND, RIGHT } from "./messages.js";
 import { Metrics } from "./metrics.js";
-import { isAllowedOrigin } from "./origins.js";
+import { isAllowedOrigin, isKnownHost } from "./origins.js";
 import { EtcdPlaces, RuledPlaces } from "./places.js";
 import { Presence } from "./presence.js";
 import { checkOrigins, checkStore, checked } from "./settings.js";
@@ -28,6 +28,8 @@ const MOST_SAID = 20; // lines of one event within a second
 const RETRY = 1_000; // milliseconds until etcd is asked again for the pool
 const MOST_LISTED = 1_000; // documents of a page
 const MOST_LOOKED = 10_000; // places that are looked at for a page
+
+const PAGES = ["/healthz", "/metrics", "/docs"];
 
 export { CODE };
 
@@ -166,8 +168,27 @@ export class Gateway {
    * @param {import("node:http").ServerResponse} response
    */
   handleRequest(request, response) {
+    return this.#handle(request, response, PAGES.filter((page) => page !== "/metrics" || !this.#settings.hidesMetrics));
+  }
+
+  /** Answers /healthz and /metrics, for an address of their own. Gives whether it was one of them. */
+  handleWatch(request, response) {
+    return this.#handle(request, response, ["/healthz", "/metrics"]);
+  }
+
+  #handle(request, response, pages) {
     try {
-      return this.#answer(request, response);
+      const [name, query = ""] = request.url.split("?", 2);
+      if (!pages.includes(name)) return false;
+      if (isKnownHost(request, this.#settings) && isAllowedOrigin(request, this.#settings.origins)) {
+        this.#answer(name, query, request, response);
+      } else {
+        const { host, origin } = request.headers;
+        this.metrics.count("pages_refused_total");
+        this.log("a page is refused", { page: name, host, origin });
+        response.writeHead(403).end();
+      }
+      return true;
     } catch (error) {
       this.fault(error);
       if (!response.headersSent) response.writeHead(500);
@@ -176,8 +197,7 @@ export class Gateway {
     }
   }
 
-  #answer(request, response) {
-    const [name, query = ""] = request.url.split("?", 2);
+  #answer(name, query, request, response) {
     const json = (status, value) => {
       response.writeHead(status, { "content-type": "application/json", "cache-control": "no-store" });
       response.end(JSON.stringify(value) + "\n");
@@ -185,16 +205,15 @@ export class Gateway {
     if (name === "/healthz") {
       const health = this.health();
       json(health.ok ? 200 : 503, health);
-    } else if (name === "/metrics" && !this.#settings.hidesMetrics) {
+    } else if (name === "/metrics") {
       response.writeHead(200, { "content-type": "text/plain; version=0.0.4" });
       response.end(this.metricsText());
-    } else if (name === "/docs") {
+    } else {
       this.#list(request, new URLSearchParams(query)).then(([status, value]) => json(status, value), (error) => {
         this.log("the list can't be given now", { error: error.message });
         json(503, { error: "later" });
       });
-    } else return false;
-    return true;
+    }
   }
 
   health() {
@@ -256,12 +275,18 @@ export class Gateway {
     try {
       const verdict = chain(this.#mayDo(user, doc, what), (may) => {
         if (!may || KIND[what] !== "command" || this.#onCommand === undefined) return may;
-        return chain(this.#onCommand({ user, doc, message }), (it) => it !== false);
+        return chain(this.#onCommand({ user, doc, message }), (it) => this.#lets(it));
       });
       return chain(verdict, Boolean);
     } catch (error) {
       return Promise.reject(error);
     }
+  }
+
+  // What onCommand gave: true alone lets a command pass.
+  #lets(verdict) {
+    if (typeof verdict !== "boolean") this.log("onCommand gave neither true nor false, which refuses the command", { gave: typeof verdict });
+    return verdict === true;
   }
 
   /** A command was taken. */

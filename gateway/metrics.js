@@ -10,6 +10,7 @@ const COUNTED = [
   ["overfull_total", [{}]],
   ["name_waits_total", [{}]],
   ["recalled_total", [{}]],
+  ["pages_refused_total", [{}]],
 ];
 
 const labelled = (labels) => {

@@ -16,7 +16,7 @@ import { HOOKS } from "./settings.js";
 
 const USAGE = "usage: richd-gateway --settings FILE, or richd-gateway import STORE --settings FILE [LIST]";
 const OWN = ["127.0.0.1", "localhost", "[::1]", "::1"];
-const FIELDS = ["listen", "watch", "name", "stores", "readers", "writers", "guests", "names", "data", "etcd", "rule", "term", "recall", "origins", "user", "module", "anybody", "limits"];
+const FIELDS = ["listen", "watch", "name", "stores", "readers", "writers", "guests", "names", "data", "etcd", "rule", "term", "recall", "origins", "hosts", "user", "module", "anybody", "limits"];
 
 /** @param {any} text @param {string} field */
 function addressIn(text, field) {
@@ -79,8 +79,7 @@ async function serve(file) {
   server.on("upgrade", (request, socket, head) => gateway.handleUpgrade(request, socket, head));
   console.log(`listening ${await listening(server, address)}`);
   const watching = http.createServer((request, response) => {
-    if (request.url === "/metrics") response.writeHead(200, { "content-type": "text/plain; version=0.0.4" }).end(gateway.metricsText());
-    else if (request.url !== "/healthz" || !gateway.handleRequest(request, response)) response.writeHead(404).end("no such page\n");
+    if (!gateway.handleWatch(request, response)) response.writeHead(404).end("no such page\n");
   });
   if (watched !== undefined) console.log(`watching ${await listening(watching, watched)}`);
   process.on("uncaughtException", (error) => {

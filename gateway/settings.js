@@ -12,7 +12,7 @@ export const LIMITS = {
   lineBytes: 64 * MIB, newsBytes: 4 * MIB, waitingBytes: 256 * MIB, keptBytes: 64 * MIB,
 };
 export const HOOKS = ["authorize", "can", "onCommand", "onTaken"];
-const FIELDS = [...Object.keys(DEFAULTS), "stores", "data", "etcd", "rule", "origins", "limits", ...HOOKS, "log", "hidesMetrics"];
+const FIELDS = [...Object.keys(DEFAULTS), "stores", "data", "etcd", "rule", "origins", "hosts", "limits", ...HOOKS, "log", "hidesMetrics"];
 
 /** Throws a reason where something doesn't hold. */
 function demand(holds, reason) {
@@ -89,6 +89,8 @@ export function checked(given) {
   demand(etcd !== undefined || rule !== undefined || stores.length === 1, "several stores need etcd, or a rule");
   if (rule !== undefined) checkRule(rule, stores);
   checkOrigins(origins);
+  const { hosts } = settings;
+  demand(hosts === undefined || (Array.isArray(hosts) && hosts.every((it) => isText(it) && /^[^/:]+$/.test(it))), "hosts is a list of names without a port");
   for (const [limit, value] of Object.entries(limits)) {
     demand(limit in LIMITS, `limits: ${limit} is none of ${Object.keys(LIMITS).join(", ")}`);
     demand(isBetween(value, 1, 2 ** 31), `limits: ${limit} is a whole number above 0`);

@@ -39,6 +39,8 @@ const WRONG = [
   [{ rule: [{ prefix: "a", store: "s1" }, { prefix: "a", store: "s1" }] }, /^rule: a prefix stands twice/],
   [{ origins: "https://notes.example" }, /^origins is a list/],
   [{ origins: ["https://notes.example/"] }, /^origins is a list/],
+  [{ hosts: "gateway" }, /^hosts is a list of names without a port/],
+  [{ hosts: ["gateway:8080"] }, /^hosts is a list of names without a port/],
   [{ limits: { session: 1 } }, /^limits: session is none of sessions, /],
   [{ limits: { waitingBytes: 1_000 } }, /^limits: waitingBytes is at least lineBytes/],
   [{ limits: { newsBytes: 1.5 } }, /^limits: newsBytes is a whole number above 0/],
