@@ -18,6 +18,7 @@ const LARGE = 65_536; // bytes of a line that is sent by itself
 const HELLO = Buffer.from('{"gateway":1,"ok":"hello"}\n');
 const EMPTY = Buffer.alloc(0);
 const FULL_STORE = 20;
+const NOT_ALLOWED = 60;
 const NO_DOCUMENT = 6;
 const NOT_MADE = [3, 4, 7, 15, 16, 17, FULL_STORE]; // a creation that is refused so used no number
 const UNKNOWN = [21, 22]; // a command that is refused so may have been taken
@@ -50,6 +51,7 @@ export class Browser {
   #own = new Map(); // doc -> the revision of the last own command that was answered
   /** @type {Map<string, { subscription: Subscription, news: import("./news.js").News }>} */
   #followed = new Map();
+  #judgedAt = new Map(); // doc -> when the right to read it was asked for last
   #written = new Set(); // documents with a lease
   /** @type {Buffer[]} */
   #out = [];
@@ -190,6 +192,56 @@ export class Browser {
     }
     if (hasGivenUp) this.#pump();
   });
+
+  /**
+   * Asks for its rights again, where it is told of a document: what its user may no longer read ends by 60.
+   * @param {number} before  those that were asked for last before this time
+   * @param {string} [only]  one document alone
+   */
+  judgeAgain = this.#guarded((before, only) => {
+    const told = new Set([...this.#followed.keys(), ...this.#gateway.presence.docsOf(this)]);
+    for (const doc of this.#judgedAt.keys()) if (!told.has(doc)) this.#judgedAt.delete(doc);
+    for (const doc of told) {
+      if ((only ?? doc) !== doc) continue;
+      if (!this.#judgedAt.has(doc)) this.#judgedAt.set(doc, performance.now());
+      if (this.#judgedAt.get(doc) > before) continue;
+      this.#judgedAt.set(doc, Infinity); // until it is known
+      this.#gateway.mayRead(this.#given, doc).then(this.#guarded((may) => {
+        this.#judgedAt.set(doc, performance.now());
+        if (!may && !this.isGone) this.#endDocument(doc);
+      }), (error) => {
+        this.#judgedAt.set(doc, performance.now());
+        this.#gateway.log("rights can't be asked for again now", { user: this.user.id, doc, error: error?.message });
+      });
+    }
+  });
+
+  /** What it waits for and isn't sent is judged anew, and what it was given nothing of yet. @param {string} [only] */
+  judgeWaiting = this.#guarded((only) => {
+    for (const slot of this.#slots) {
+      const { message, kind, ticket } = slot;
+      const isRead = kind === "fetch" || kind === "since";
+      if (message === undefined || (only ?? message.doc) !== message.doc || (!isRead && (ticket?.isSent || slot.reply !== undefined))) continue;
+      if (isRead && slot.reply !== undefined && codeOf(slot.reply) !== 0) continue;
+      this.#gateway.mayDo(this.#given, message.doc, message.do).then(this.#guarded((may) => {
+        if (may || (!isRead && (slot.reply !== undefined || slot.ticket?.isSent))) return;
+        if (slot.ticket !== undefined) slot.ticket.isWanted = false;
+        slot.followed = undefined;
+        slot.reply = REFUSAL.NotAllowed;
+        this.#pump();
+      }), () => {});
+    }
+  });
+
+  #endDocument(doc) {
+    this.#gateway.metrics.count("rights_ended_total");
+    this.#gateway.log("a user may no longer read what he is told of", { user: this.user.id, doc });
+    this.#gateway.presence.end(this, doc);
+    if (!this.#followed.has(doc)) return;
+    this.#give(endedLine(doc, NOT_ALLOWED));
+    this.#unfollow(doc);
+    this.#flush();
+  }
 
   #read(bytes) {
     if (this.isGone) return;

@@ -70,6 +70,8 @@ export interface Settings {
   term?: number;
   /** Seconds after which a name that isn't used may be asked back where all are lent: 60. */
   recall?: number;
+  /** Seconds after which `can` is asked again for what a browser is told of a document: 5. */
+  recheck?: number;
   /** Milliseconds between two pings: 15,000. A browser that has answered none, and has taken nothing, by the next but one is cut off. */
   pulse?: number;
   /** A folder of this gateway's own, needed without etcd. */
@@ -112,6 +114,8 @@ export interface Gateway {
   handleWatch(request: Request, response: any): boolean;
   /** Closes a user's sessions, as his rights have changed. */
   closeUser(id: string): void;
+  /** A user's rights have changed, of one document or of all: what he may no longer do ends at once. His sessions stay. */
+  revoke(id: string, doc?: string): void;
   /** Adds a store, or says anew whether one takes new documents. */
   addStore(store: StoreAddress): void;
   /** Says anew which pages may connect. */

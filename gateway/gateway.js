@@ -244,6 +244,14 @@ export class Gateway {
     for (const browser of this.#users.get(id)?.browsers ?? []) browser.close(CODE.rights, "the rights have changed");
   }
 
+  /** A user's rights have changed, of one document or of all: what he may no longer do ends at once, and his sessions stay. */
+  revoke(id, doc) {
+    for (const browser of [...(this.#users.get(id)?.browsers ?? [])]) {
+      browser.judgeWaiting(doc);
+      browser.judgeAgain(Infinity, doc);
+    }
+  }
+
   /** Takes in documents that a store had before. Gives those that have another place. */
   take(docs, store) {
     return this.places.take(docs, store);
@@ -281,6 +289,15 @@ export class Gateway {
     } catch (error) {
       return Promise.reject(error);
     }
+  }
+
+  /** Whether a user may do something, apart from what `onCommand` says. */
+  async mayDo(user, doc, what) {
+    return Boolean(await this.#mayDo(user, doc, what));
+  }
+
+  async mayRead(user, doc) {
+    return this.mayDo(user, doc, "fetch");
   }
 
   // What onCommand gave: true alone lets a command pass.
@@ -428,8 +445,10 @@ export class Gateway {
   #eachSecond() {
     this.#said.clear();
     for (const store of this.stores.values()) store.serveNames();
+    const before = performance.now() - SECOND * this.#settings.recheck;
     for (const browser of [...this.#browsers]) {
       browser.giveUpWaiting();
+      if (this.#can !== undefined) browser.judgeAgain(before);
       browser.count();
     }
   }

@@ -11,6 +11,7 @@ const COUNTED = [
   ["name_waits_total", [{}]],
   ["recalled_total", [{}]],
   ["pages_refused_total", [{}]],
+  ["rights_ended_total", [{}]],
 ];
 
 const labelled = (labels) => {

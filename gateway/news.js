@@ -10,7 +10,7 @@ const MOST_TRIES = 5; // to begin a subscription whose document goes on meanwhil
 const MOST_TAKEN = 100; // revisions of a document whose news is waited for, to measure that
 const POKE = { do: "unsubscribe", doc: "-" }; // a session tells its news after each message, and else each 100 milliseconds
 
-export const endedLine = (doc) => Buffer.from(`{"doc":"${doc}","ended":13}\n`);
+export const endedLine = (doc, code = 13) => Buffer.from(`{"doc":"${doc}","ended":${code}}\n`);
 
 /**
  * @typedef {{ bytes: number, most: number }} Kept  bytes of the news that are kept of all documents of a gateway, and how many they may be

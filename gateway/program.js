@@ -16,7 +16,7 @@ import { HOOKS } from "./settings.js";
 
 const USAGE = "usage: richd-gateway --settings FILE, or richd-gateway import STORE --settings FILE [LIST]";
 const OWN = ["127.0.0.1", "localhost", "[::1]", "::1"];
-const FIELDS = ["listen", "watch", "name", "stores", "readers", "writers", "guests", "names", "data", "etcd", "rule", "term", "recall", "origins", "hosts", "user", "module", "anybody", "limits"];
+const FIELDS = ["listen", "watch", "name", "stores", "readers", "writers", "guests", "names", "data", "etcd", "rule", "term", "recall", "recheck", "origins", "hosts", "user", "module", "anybody", "limits"];
 
 /** @param {any} text @param {string} field */
 function addressIn(text, field) {

@@ -5,7 +5,7 @@ const STORE = /^[A-Za-z0-9._-]{1,32}$/;
 const SESSIONS = 64; // that a store serves
 const MOST_NAMES = 4_096; // that a document has places for
 const DAY = 86_400_000; // milliseconds
-export const DEFAULTS = { name: "g", readers: 2, writers: 16, guests: 8, names: 120, term: 7, recall: 60, pulse: 15_000 };
+export const DEFAULTS = { name: "g", readers: 2, writers: 16, guests: 8, names: 120, term: 7, recall: 60, recheck: 5, pulse: 15_000 };
 const MIB = 1 << 20; // bytes
 export const LIMITS = {
   sessions: 20_000, userSessions: 200, userMessages: 2_000, userNames: 4,
@@ -56,9 +56,17 @@ function checkEtcd(etcd) {
   demand(etcd.prefix === undefined || isText(etcd.prefix), "etcd: prefix is a text that isn't empty");
 }
 
+function isUrl(text) {
+  try {
+    return Boolean(new URL(text));
+  } catch {
+    return false;
+  }
+}
+
 /** @param {any} origins */
 export function checkOrigins(origins) {
-  const isOrigin = (it) => isText(it) && /^https?:\/\/[^/]+$/.test(it);
+  const isOrigin = (it) => isText(it) && /^https?:\/\/[^/]+$/.test(it) && isUrl(it);
   demand(origins === undefined || (Array.isArray(origins) && origins.every(isOrigin)), "origins is a list of scheme://host[:port]");
 }
 
@@ -82,6 +90,7 @@ export function checked(given) {
   demand(isBetween(names, writers, MOST_NAMES), `names is at least writers, which is ${writers}, and at most ${MOST_NAMES}`);
   demand(Number.isFinite(term) && term > 0, "term is a number of days above 0");
   demand(isBetween(settings.recall, 1, 2 ** 31 - 1), "recall is a whole number of seconds above 0");
+  demand(isBetween(settings.recheck, 1, 2 ** 31 - 1), "recheck is a whole number of seconds above 0");
   demand(isBetween(settings.pulse, 1, 2 ** 31 - 1), "pulse is a whole number of milliseconds above 0");
   demand(etcd !== undefined || isText(data), "data: a folder of this gateway's own is needed without etcd");
   if (etcd !== undefined) checkEtcd(etcd);

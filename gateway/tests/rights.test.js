@@ -165,6 +165,82 @@ test("a user's sessions are closed where his rights change, and nobody else's", 
   assert.deepEqual([await one.closed(), await other.closed(), bob.code], [4403, 4403, null]);
 });
 
+/** Ann and bob follow a document of a gateway that asks what they may. */
+async function following(t, settings) {
+  const rights = { ann: true, bob: true, asked: 0, fault: false };
+  const can = (user) => {
+    rights.asked += 1;
+    if (rights.fault) throw new Error("no database");
+    return rights[user];
+  };
+  const it = await begun(t, { authorize: ({ headers }) => headers["x-user"], can, ...settings });
+  const talks = [];
+  for (const user of ["ann", "bob"]) {
+    const talk = await Talk.begin(t, it.url, user, { headers: { "x-user": user } });
+    talk.send({ do: "subscribe", doc: "d", rev: 1 }, { at: [0, 0], do: "presence", doc: "d", rev: 1 });
+    if (user === "ann") {
+      (await it.store.next(({ do: what }) => what === "since")).reply({ deltas: [], doc: "d", ok: "since", rev: 1 });
+      it.follower = await it.store.next(({ do: what }) => what === "subscribe");
+      it.follower.reply({ doc: "d", ok: "subscribed", rev: 1 });
+    }
+    await until(() => talk.replies.length === 3);
+    talks.push(talk);
+  }
+  const [ann, bob] = talks;
+  const news = async (rev) => {
+    it.follower.reply({ doc: "d", news: rev, ops: [] });
+    await until(() => bob.news.some((line) => line.news === rev));
+  };
+  return { ...it, rights, ann, bob, news };
+}
+
+test("rights that are taken away end news and carets, by 60, after a time, and nobody else's", async (t) => {
+  const { rights, ann, bob, news, events } = await following(t, { recheck: 1 });
+  await news(2);
+  rights.ann = false;
+  await until(() => ann.news.some(({ ended }) => ended === 60));
+  await news(3);
+  await bob.ask({ at: [1, 1], do: "presence", doc: "d", rev: 3 });
+  await until(() => bob.carets.some(({ at }) => at === null), "ann's caret goes");
+  assert.deepEqual(ann.news, [{ doc: "d", news: 2, ops: [] }, { doc: "d", ended: 60 }]);
+  assert.equal(ann.carets.some(({ at }) => at?.[0] === 1), false);
+  assert.ok(events.some(({ event, user, doc }) => event === "a user may no longer read what he is told of" && user === "ann" && doc === "d"));
+});
+
+test("rights that can't be asked for again are asked for later, and nothing ends", async (t) => {
+  const { rights, ann, news, events } = await following(t, { recheck: 1 });
+  rights.fault = true;
+  await until(() => events.some(({ event }) => event === "rights can't be asked for again now"));
+  await news(2);
+  assert.deepEqual(ann.news, [{ doc: "d", news: 2, ops: [] }]);
+  Object.assign(rights, { fault: false, ann: false });
+  await until(() => ann.news.some(({ ended }) => ended === 60));
+});
+
+test("revoke ends at once what a user may no longer do, of one document or all, and his sessions stay", async (t) => {
+  const { rights, ann, bob, news, gateway, store } = await following(t, { recheck: 1_000_000 });
+  rights.ann = false;
+  gateway.revoke("ann", "e");
+  gateway.revoke("zoe");
+  await news(2);
+  assert.deepEqual(ann.news, [{ doc: "d", news: 2, ops: [] }]);
+  ann.send({ do: "fetch", doc: "d" });
+  await until(() => ann.replies.length === 4);
+  assert.deepEqual(ann.replies[3], NOT_ALLOWED);
+  rights.ann = true;
+  ann.send({ do: "fetch", doc: "d" });
+  const fetch = await store.next();
+  rights.ann = false;
+  gateway.revoke("ann");
+  await until(() => ann.replies.length === 5);
+  assert.deepEqual(ann.replies[4], NOT_ALLOWED);
+  fetch.reply({ doc: "d", ok: "doc", ops: [{ insert: "a secret" }], rev: 2 });
+  await until(() => ann.news.some(({ ended }) => ended === 60));
+  await news(3);
+  assert.deepEqual(await bob.ask({ do: "unsubscribe", doc: "d" }), { doc: "d", ok: "unsubscribed" });
+  assert.deepEqual([ann.code, ann.news.at(-1), ann.replies.length], [null, { doc: "d", ended: 60 }, 5]);
+});
+
 const status = async (talk) => {
   await until(() => talk.error !== undefined);
   return Number(/(\d{3})$/.exec(talk.error.message)[1]);

@@ -31,6 +31,8 @@ const WRONG = [
   [{ writers: 32, names: 31 }, /^names is at least writers, which is 32/],
   [{ term: 0 }, /^term is a number of days above 0/],
   [{ recall: 0 }, /^recall is a whole number of seconds above 0/],
+  [{ recheck: 0.5 }, /^recheck is a whole number of seconds above 0/],
+  [{ origins: ["https://a b"] }, /^origins is a list/],
   [{ data: undefined }, /^data: a folder of this gateway's own/],
   [{ etcd: {} }, /^etcd: urls is a list/],
   [{ etcd: { urls: ["127.0.0.1:2379"] } }, /isn't http:\/\/HOST:PORT/],
