@@ -20,7 +20,8 @@ const EMPTY = Buffer.alloc(0);
 const FULL_STORE = 20;
 const NOT_ALLOWED = 60;
 const NO_DOCUMENT = 6;
-const NOT_MADE = [3, 4, 7, 15, 16, 17, FULL_STORE]; // a creation that is refused so used no number
+const EXISTS = 7;
+const NOT_MADE = [3, 4, EXISTS, 9, 14, 15, 16, 17, FULL_STORE]; // a creation that is refused so used no number
 const UNKNOWN = [21, 22]; // a command that is refused so may have been taken
 
 /**
@@ -31,6 +32,7 @@ const UNKNOWN = [21, 22]; // a command that is refused so may have been taken
  * @property {Buffer} [reply]
  * @property {boolean} [isAllowed]
  * @property {boolean} [needsLease]  its holder may have a new lease in its document
+ * @property {boolean} [isNew]  it creates a document that is nowhere
  * @property {boolean} [waitsForName]
  * @property {boolean} [isAsking]  something is found out before it can be sent
  * @property {boolean} [isSent]  to the sessions of a store, where it may still wait
@@ -226,6 +228,7 @@ export class Browser {
       this.#gateway.mayDo(this.#given, message.doc, message.do).then(this.#guarded((may) => {
         if (may || (!isRead && (slot.reply !== undefined || slot.ticket?.isSent))) return;
         if (slot.ticket !== undefined) slot.ticket.isWanted = false;
+        slot.followed?.news.leave(slot.followed.subscription);
         slot.followed = undefined;
         slot.reply = REFUSAL.NotAllowed;
         this.#pump();
@@ -385,9 +388,11 @@ export class Browser {
       return this.#find(slot, store.standing(message.doc, () => !this.isGone), (standing) => this.#needLease(slot, standing, store.leases));
     }
     this.#written.add(message.doc);
-    const lease = kind === "lease" ? store.leases.reserve(message.doc, this.#holder) : store.leases.lend(message.doc, this.#holder);
+    const lease = kind === "lease" ? store.leases.reserve(message.doc, this.#holder) : store.leases.lend(message.doc, this.#holder, slot.isNew);
     if (lease instanceof Promise) return this.#find(slot, lease, (found) => found === undefined && this.#waitForName(slot, store));
     if (lease === undefined) return this.#waitForName(slot, store);
+    const { places } = this.#gateway;
+    if (message.do === "create" && places.isOpen(message.doc)) return this.#find(slot, places.place(message.doc, store.name), () => {});
     if (kind === "lease") slot.reply = leaseLine(message.doc, Object.assign(lease, { isTold: true }));
     else if (message.do === "undo" && lease.epoch > 1 && !lease.isOwn) {
       if (this.#slots.some((it) => it !== slot && isWaiting(it) && it.message.doc === message.doc)) return false; // it may become one's own
@@ -399,7 +404,7 @@ export class Browser {
   // All names are lent in a document: it is asked again as they come back. Gives that the next message may not follow.
   #waitForName(slot, store) {
     const { kind, message: { doc } } = slot;
-    const ask = async () => (kind === "lease" ? store.leases.reserve(doc, this.#holder) : store.leases.lend(doc, this.#holder));
+    const ask = async () => (kind === "lease" ? store.leases.reserve(doc, this.#holder) : store.leases.lend(doc, this.#holder, slot.isNew));
     slot.waitsForName = true;
     store.waitForName(this.user.id, doc, {
       user: this.user.id,
@@ -418,9 +423,12 @@ export class Browser {
   async #needLease(slot, standing, leases) {
     const { do: what, doc } = slot.message;
     const isCreation = what === "create";
+    const { places } = this.#gateway;
+    if (isCreation && standing !== "nowhere" && places.isOpen(doc)) await places.place(doc, places.cached(doc)); // the store had it before its place
     if (isCreation && standing === "there" && !(await leases.isHeld(doc, this.#holder))) slot.reply ??= REFUSAL.Exists;
     else if (!isCreation && standing === "nowhere") slot.reply ??= REFUSAL.NoDocument;
     else slot.needsLease = true;
+    slot.isNew = isCreation && standing === "nowhere";
   }
 
   #command(slot, store, lease) {
@@ -446,13 +454,14 @@ export class Browser {
     const isCreation = what === "create";
     metrics.commands[result] += 1;
     lease.settle(n, UNKNOWN.includes(code) ? "cut" : result);
-    if (isCreation && NOT_MADE.includes(code)) store.leases.release(doc, this.#holder, lease);
+    const releases = (isCreation && NOT_MADE.includes(code)) || code === NO_DOCUMENT;
+    if (releases) store.leases.release(doc, this.#holder, lease, code !== EXISTS && code !== FULL_STORE);
     const isOthers = result === "again" && isCreation && n === 1 && lease.epoch > 1 && !lease.isOwn;
     if (result === "taken") {
       store.leases.own(doc, this.#holder, lease);
       store.news.taken(doc, line);
     }
-    const listing = result !== "refused" && isCreation && !isOthers ? this.#gateway.places.created(doc) : undefined;
+    const listing = result !== "refused" && isCreation && !isOthers ? this.#gateway.places.created(doc, store.name) : undefined;
     listing?.catch(() => {});
     if (result !== "refused" && base !== PROBE) this.#gateway.taken(this.#given, slot.message, revOf(line), result === "again");
     if (this.isGone) return;

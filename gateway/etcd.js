@@ -40,12 +40,14 @@ export class Etcd {
   isThere = true; // as far as is known
 
   #onGarbage;
+  #most;
 
   /**
-   * @param {{ urls: string[], prefix?: string, log?: (event: string, about?: object) => void, onGarbage?: () => void }} options  `onGarbage` is
-   *     called where what comes is no answer of etcd
+   * @param {{ urls: string[], prefix?: string, log?: (event: string, about?: object) => void, onGarbage?: () => void, most?: number }} options
+   *     `onGarbage` is called where what comes is no answer of etcd; one has `most` bytes
    */
-  constructor({ urls, prefix = "richd/", log = () => {}, onGarbage = () => {} }) {
+  constructor({ urls, prefix = "richd/", log = () => {}, onGarbage = () => {}, most = MOST_ANSWER }) {
+    this.#most = most;
     this.#onGarbage = onGarbage;
     this.#urls = urls;
     this.#prefix = prefix;
@@ -65,12 +67,12 @@ export class Etcd {
   }
 
   /**
-   * One transaction. Gives whether all that is compared holds; then all is done.
+   * One transaction. Gives its revision where all that is compared holds, so that all is done, and false else.
    * @param {{ key: string, mod?: number }[]} compare  a key's revision; without it, that there is no such key
    * @param {{ key: string, value?: string }[]} then  what is put, or deleted where it has no value
    */
   async transact(compare, then) {
-    const { succeeded = false } = await this.#post("txn", (it) => isVerdict(it), {
+    const { succeeded = false, header } = await this.#post("txn", (it) => isVerdict(it), {
       compare: compare.map(({ key, mod }) => (mod === undefined
         ? { key: this.#key(key), target: "CREATE", result: "EQUAL", create_revision: 0 }
         : { key: this.#key(key), target: "MOD", result: "EQUAL", mod_revision: mod })),
@@ -79,7 +81,7 @@ export class Etcd {
         : { requestPut: { key: this.#key(key), value: encoded(value) } })),
       failure: [],
     });
-    return succeeded;
+    return succeeded && String(header.revision);
   }
 
   /** Puts a value where there is none, in one transaction. Gives the value that stands there then, and its revision. */
@@ -91,6 +93,11 @@ export class Etcd {
       failure: [get],
     });
     return this.#found(responses.at(-1).response_range)[0];
+  }
+
+  /** Deletes all whose key begins with a text. */
+  async removeUnder(text) {
+    await this.#post("deleterange", () => true, { key: this.#key(text), range_end: encoded(above(this.#prefix + text)) });
   }
 
   async range(body) {
@@ -138,22 +145,23 @@ export class Etcd {
         const garbage = (text) => {
           this.#onGarbage();
           this.#log("etcd sends garbage", { what: text.slice(0, SHOWN) });
-          asked.destroy(new Error("etcd sends garbage"));
+          reject(new Error("etcd sends garbage"));
         };
         response.on("data", (part) => {
           parts.push(part);
           bytes += part.length;
-          if (bytes > MOST_ANSWER && !asked.destroyed) garbage(parts[0].toString());
+          if (bytes <= this.#most || asked.destroyed) return;
+          garbage(parts[0].toString());
+          asked.destroy();
         });
         response.on("error", reject);
         response.on("end", () => {
-          if (asked.destroyed && bytes > MOST_ANSWER) return;
+          if (asked.destroyed && bytes > this.#most) return;
           const text = Buffer.concat(parts).toString();
           if (response.statusCode !== 200) return reject(new Error(`etcd answers ${response.statusCode}: ${text.slice(0, 200)}`));
           const answer = parsed(text);
           if (isObject(answer) && isObject(answer.header) && isAnswer(answer)) return resolve(answer);
           garbage(text);
-          reject(new Error("etcd sends garbage"));
         });
       });
       let timer;

@@ -17,6 +17,7 @@ import { EtcdPlaces, RuledPlaces } from "./places.js";
 import { Presence } from "./presence.js";
 import { checkOrigins, checkStore, checked } from "./settings.js";
 import { Store } from "./store.js";
+import { Sweep } from "./sweep.js";
 import { User, idOf } from "./users.js";
 import { Waiting } from "./waiting.js";
 import { webSockets } from "./websockets.js";
@@ -63,6 +64,7 @@ export class Gateway {
   /** @type {Map<string, number>} event -> how often in this second */
   #said = new Map();
   #isEnding = false;
+  #sweep;
   #timers = [];
 
   metrics = new Metrics();
@@ -99,7 +101,10 @@ export class Gateway {
     }
     this.places.moves = etcd !== undefined;
     for (const store of stores) this.#add(store);
-    if (etcd !== undefined) this.#findPool();
+    if (etcd !== undefined) {
+      this.#findPool();
+      this.#sweepUp();
+    }
     this.#timers.push(setInterval(() => this.#look(), pulse), setInterval(() => this.#eachSecond(), SECOND));
     for (const timer of this.#timers) timer.unref();
   }
@@ -269,6 +274,7 @@ export class Gateway {
       store.end();
       await store.leases.close();
     }
+    this.#sweep?.end();
     await this.places?.close();
     this.#etcd?.close();
     this.#unlock();
@@ -392,7 +398,7 @@ export class Gateway {
     };
     const leases = this.#etcd === undefined
       ? new Leases({ file: path.join(data, `leases-${address.name}`), names: this.#pool, first, term, onLent, naming, onFailure: this.#onUnwritten })
-      : new EtcdLeases({ etcd: this.#etcd, store: address.name, pool: async () => this.#poolOrNone(), first, term, onLent, naming, at: prefix });
+      : new EtcdLeases({ etcd: this.#etcd, store: address.name, pool: async () => this.#poolOrNone(), first, term, onLent, naming, at: prefix, places: this.places });
     const store = new Store(address, { prefix, readers, guests, leases, metrics: this.metrics, log: this.log, limits, kept: this.#kept });
     this.stores.set(address.name, store);
     if (this.#pool !== undefined) store.openWriters(this.#pool.slice(0, first));
@@ -415,6 +421,17 @@ export class Gateway {
     }
     if (this.#isEnding) return;
     for (const store of this.stores.values()) store.openWriters(this.#pool.slice(0, this.#settings.writers));
+  }
+
+  async #sweepUp() {
+    this.#sweep = new Sweep({ etcd: this.#etcd, stores: this.stores });
+    try {
+      const removed = await this.#sweep.run();
+      this.metrics.count("swept_total", {}, removed);
+      if (removed > 0) this.log("rests of creations that were refused are removed from etcd", { documents: removed });
+    } catch (error) {
+      this.log("etcd can't be swept", { error: error.message });
+    }
   }
 
   async #list(request, query) {

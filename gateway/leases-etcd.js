@@ -18,6 +18,7 @@ export class EtcdLeases {
   #at;
   #naming;
   #began;
+  #places;
   /** @type {Map<string, Lease>} `doc/holder` -> lease */
   #known = new Map();
   /** @type {Map<string, Promise<Lease | undefined>>} */
@@ -25,9 +26,10 @@ export class EtcdLeases {
 
   /**
    * @param {{ etcd: import("./etcd.js").Etcd, store: string, pool: () => Promise<string[]>, first: number, term: number, now?: () => number,
-   *   onLent?: (doc: string, lease: Lease) => void, at?: string, naming?: import("./leases.js").Naming }} options  `at` is this gateway's name
+   *   onLent?: (doc: string, lease: Lease) => void, at?: string, naming?: import("./leases.js").Naming, places?: import("./places.js").EtcdPlaces }} options  `at` is this gateway's name
    */
-  constructor({ etcd, store, pool, first, term, now = Date.now, onLent = () => {}, at = "g", naming = NAMING }) {
+  constructor({ etcd, store, pool, first, term, now = Date.now, onLent = () => {}, at = "g", naming = NAMING, places }) {
+    this.#places = places;
     this.#at = at;
     this.#naming = naming;
     this.#began = now();
@@ -41,13 +43,13 @@ export class EtcdLeases {
   }
 
   /**
-   * As `lend` of a file's leases. A lease that was used of late needs no etcd.
+   * As `lend` of a file's leases; with `isNew` for a creation, whose place is written with the lease. A lease that was used of late needs no etcd.
    * @param {string} doc
    * @param {string} holder
    * @returns {Lease | Promise<Lease | undefined>}
    */
-  lend(doc, holder) {
-    return this.#find(doc, holder, true);
+  lend(doc, holder, isNew = false) {
+    return this.#find(doc, holder, true, isNew);
   }
 
   /** As `reserve` of a file's leases. */
@@ -55,7 +57,7 @@ export class EtcdLeases {
     return this.#find(doc, holder, false);
   }
 
-  #find(doc, holder, isCommand) {
+  #find(doc, holder, isCommand, isNew = false) {
     const key = `${doc}/${holder}`;
     const known = this.#known.get(key);
     if (known !== undefined) known.seen = this.#now();
@@ -65,7 +67,7 @@ export class EtcdLeases {
     if (!this.#asked.has(asked)) {
       // what a holder asks for at the same time is done one after the other
       const before = this.#asked.get(`${!isCommand} ${key}`)?.catch(() => {});
-      this.#asked.set(asked, (before ?? Promise.resolve()).then(() => this.#ask(doc, holder, isCommand)).finally(() => this.#asked.delete(asked)));
+      this.#asked.set(asked, (before ?? Promise.resolve()).then(() => this.#ask(doc, holder, isCommand, isNew)).finally(() => this.#asked.delete(asked)));
     }
     return this.#asked.get(asked);
   }
@@ -78,7 +80,22 @@ export class EtcdLeases {
     return (await this.#etcd.get(this.#key(doc, holder))) !== undefined;
   }
 
-  release() {} // a place in etcd is there before a lease is
+  /** Takes back a lease that was new, and under which nothing was taken; and with it the place of a document that isn't made. */
+  release(doc, holder, lease, isNowhere) {
+    const key = `${doc}/${holder}`;
+    if (!lease.isUnused || lease.mod === undefined || this.#known.get(key) !== lease) return;
+    this.#known.delete(key);
+    const place = isNowhere ? this.#places?.disclaim(doc) : undefined;
+    if (place) this.#places.disclaimed(doc);
+    this.#takeBack(doc, holder, lease, place).catch(() => {}); // the next start sweeps it away
+  }
+
+  async #takeBack(doc, holder, lease, place) {
+    const own = { key: this.#key(doc, holder), mod: lease.mod };
+    const all = [{ key: own.key }, { key: this.#nameKey(doc, lease.name) }];
+    if (place && (await this.#etcd.transact([own, place.compare], [...all, place.remove]))) return;
+    await this.#etcd.transact([own], all); // the place is another creation's by now
+  }
 
   own(doc, holder, lease) {
     if (lease.isOwn || lease.epoch === 1) return;
@@ -107,12 +124,12 @@ export class EtcdLeases {
     }
   }
 
-  async #ask(doc, holder, isCommand) {
+  async #ask(doc, holder, isCommand, isNew) {
     for (let tries = 0; tries < MOST_TRIES; tries += 1) {
       const under = `lease/${this.#store}/${doc}/`;
       const all = (await this.#etcd.under(under)).map(({ key, value, mod }) => ({ key, mod, holder: key.slice(under.length), ...JSON.parse(value) }));
       const own = all.find((lease) => lease.holder === holder);
-      const lease = own === undefined ? await this.#lendNew(doc, holder, all, isCommand) : await this.#renew(doc, holder, own);
+      const lease = own === undefined ? await this.#lendNew(doc, holder, all, isCommand, isNew) : await this.#renew(doc, holder, own);
       if (lease !== null) return lease;
     }
     throw new Error(`no lease in ${doc}: others were faster each time`);
@@ -126,6 +143,7 @@ export class EtcdLeases {
     if (known?.isReserved) this.#naming.onRecall(doc, holder, holder); // he was told another name
     lease.used = own.used; // perhaps at another gateway
     lease.isAway = false;
+    lease.mod = undefined; // it may have been used
     if (now - own.used > this.#term / 8 || own.at !== this.#at) {
       const value = JSON.stringify({ ...kept(own), used: now, at: this.#at });
       if (!(await this.#etcd.transact([{ key: own.key, mod: own.mod }], [{ key: own.key, value }]))) return null;
@@ -135,12 +153,12 @@ export class EtcdLeases {
   }
 
   // A new lease; undefined where there is none, null where others were faster.
-  async #lendNew(doc, holder, all, isCommand) {
+  async #lendNew(doc, holder, all, isCommand, isNew) {
     const now = this.#now();
     const names = await this.#pool();
     const { recall, onRecall } = this.#naming;
     const reserved = this.#known.get(`${doc}/${holder}`);
-    if (reserved?.isReserved) return this.#lendFree(doc, holder, reserved);
+    if (reserved?.isReserved) return this.#lendFree(doc, holder, reserved, isNew);
     const under = `${doc}/`;
     const user = holder.slice(0, holder.lastIndexOf("/") + 1);
     const taken = all.filter((it) => names.includes(it.name) || it.holder.startsWith(user)).map((it) => {
@@ -160,7 +178,7 @@ export class EtcdLeases {
         this.#known.delete(under + old[0]);
         onRecall(doc, old[0], holder);
       }
-      return isCommand ? this.#lendFree(doc, holder, lease) : this.#keep(doc, holder, lease);
+      return isCommand ? this.#lendFree(doc, holder, lease, isNew) : this.#keep(doc, holder, lease);
     }
     const [from, { name, epoch, key: oldKey, mod }] = old;
     const lease = new Lease(name, epoch + 1, now);
@@ -171,16 +189,21 @@ export class EtcdLeases {
     return this.#lent(doc, holder, lease);
   }
 
-  // Lends a name that nobody had in a document.
-  async #lendFree(doc, holder, lease) {
+  // Lends a name that nobody had in a document, with the place of one that is new, in one transaction.
+  async #lendFree(doc, holder, lease, isNew) {
     const key = this.#key(doc, holder);
     const nameKey = this.#nameKey(doc, lease.name); // a name is new in a document once
-    if (!(await this.#etcd.transact([{ key }, { key: nameKey }], [{ key, value: this.#kept(lease) }, { key: nameKey, value: holder }]))) {
+    const place = isNew ? await this.#places?.claim(doc, this.#store) : undefined;
+    const compare = [{ key }, { key: nameKey }, ...(place ? [place.compare] : [])];
+    const put = [{ key, value: this.#kept(lease) }, { key: nameKey, value: holder }, ...(place ? [place.put] : [])];
+    const mod = await this.#etcd.transact(compare, put);
+    if (mod === false) {
       if (this.#known.get(`${doc}/${holder}`) === lease) this.#known.delete(`${doc}/${holder}`);
       if (lease.isTold) this.#naming.onRecall(doc, holder, holder); // he was told a name that he doesn't get
       return null;
     }
-    lease.isReserved = false;
+    if (place) this.#places.claimed(doc, this.#store, mod);
+    Object.assign(lease, { isReserved: false, mod });
     return this.#lent(doc, holder, lease);
   }
 

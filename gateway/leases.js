@@ -10,6 +10,8 @@ export class Lease {
   onWay = 0; // commands that were sent and have no reply
   isTold = false; // its holder asked for it, and counts on it
   isKept = true; // it is on the disk
+  /** @type {string | undefined} the revision of etcd that wrote it, where nothing was sent under it before */
+  mod;
   isReserved = false; // it was asked for, and is lent with the first command
   isAway = false; // its holder has gone since it was asked for; where leases are in etcd
 

@@ -12,6 +12,7 @@ const COUNTED = [
   ["recalled_total", [{}]],
   ["pages_refused_total", [{}]],
   ["rights_ended_total", [{}]],
+  ["swept_total", [{}]],
 ];
 
 const labelled = (labels) => {

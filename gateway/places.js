@@ -5,6 +5,9 @@ import { Journal, readLines } from "./journal.js";
 
 const FULL = 600_000; // milliseconds that a store counts as full which refused a new document for that
 const AT_ONCE = 20; // places that an import writes at the same time
+const SURE = 30_000; // milliseconds within which nobody sweeps a place away, see sweep.js
+const MOST_OPEN = 10_000; // places that are chosen and not written
+const MOST_KNOWN = 200_000; // places in memory; then those that were learnt longest ago are asked for anew
 const MOST_TRIES = 10; // of a transaction that others were faster than
 const ordered = (one, other) => (one < other ? -1 : one > other ? 1 : 0);
 
@@ -35,6 +38,13 @@ export class RuledPlaces {
   async find(doc) {
     return this.cached(doc);
   }
+
+  /** Whether a place is chosen and not kept yet. */
+  isOpen() {
+    return false;
+  }
+
+  async place() {}
 
   /** Where a creation goes that a store refused as it is full of documents; null: nowhere. */
   async move() {
@@ -78,7 +88,10 @@ export class RuledPlaces {
   }
 }
 
-/** With etcd: a place is written once, by a creation, in one transaction. */
+/**
+ * With etcd: a creation chooses a place, and writes it in one transaction with its name. Where the store refuses it all that is taken back in
+ * another, unless a second creation has written the place meanwhile.
+ */
 export class EtcdPlaces {
   #etcd;
   #stores;
@@ -89,6 +102,10 @@ export class EtcdPlaces {
   #asked = new Map();
   /** @type {Map<string, number>} store -> until when it counts as full */
   #full = new Map();
+  /** @type {Map<string, string>} places that are chosen, and aren't in etcd yet */
+  #open = new Map();
+  /** @type {Map<string, { mod: string, since: number }>} places that a creation from here has written, which has no reply */
+  #made = new Map();
   #turn = 0;
 
   /**
@@ -101,7 +118,50 @@ export class EtcdPlaces {
   }
 
   cached(doc) {
-    return this.#known.get(doc);
+    return this.#known.get(doc) ?? this.#open.get(doc);
+  }
+
+  isOpen(doc) {
+    return this.#open.has(doc);
+  }
+
+  /** What of a transaction writes a document's place, for a creation of it in a store; fails where it is placed elsewhere. */
+  async claim(doc, store) {
+    const key = `place/${doc}`;
+    const found = await this.#etcd.get(key);
+    if (found !== undefined && found.value !== store) {
+      this.#open.delete(doc);
+      this.#know(doc, found.value);
+      throw new Error(`${doc} was placed elsewhere meanwhile`);
+    }
+    return { compare: found === undefined ? { key } : { key, mod: found.mod }, put: { key, value: store } };
+  }
+
+  /** A transaction with what `claim` gave was done. */
+  claimed(doc, store, mod) {
+    this.#open.delete(doc);
+    this.#made.set(doc, { mod, since: this.#now() });
+    this.#know(doc, store);
+  }
+
+  /** What of a transaction takes a place back that a creation from here has written; undefined where there is nothing to take back. */
+  disclaim(doc) {
+    const made = this.#made.get(doc);
+    return made && { compare: { key: `place/${doc}`, mod: made.mod }, remove: { key: `place/${doc}` } };
+  }
+
+  /** A place was taken back, or is another creation's now. */
+  disclaimed(doc) {
+    this.#made.delete(doc);
+    this.#known.delete(doc);
+  }
+
+  /** Writes a place that was chosen, where the name is there already. */
+  async place(doc, store) {
+    const { compare, put } = await this.claim(doc, store);
+    const mod = await this.#etcd.transact([compare], [put]);
+    if (mod === false) throw new Error(`${doc} is being placed elsewhere`);
+    this.claimed(doc, store, mod);
   }
 
   /**
@@ -121,20 +181,45 @@ export class EtcdPlaces {
       const found = await this.#etcd.get(`place/${doc}`);
       if (found !== undefined && found.value !== from) return this.#know(doc, found.value); // another gateway has moved it
       const next = this.#choose();
-      if (found === undefined || next === undefined || next === from) return null;
-      if (await this.#etcd.transact([{ key: found.key, mod: found.mod }], [{ key: found.key, value: next }])) return this.#know(doc, next);
+      if (found === undefined) return null;
+      if (next === undefined || next === from) {
+        await this.#takeBack(doc);
+        return null;
+      }
+      const mod = await this.#etcd.transact([{ key: found.key, mod: found.mod }], [{ key: found.key, value: next }]);
+      if (mod === false) continue;
+      this.claimed(doc, next, mod);
+      return next;
     }
     throw new Error(`${doc} can't be placed: others were faster each time`);
   }
 
   async again(doc) {
     const found = await this.#etcd.get(`place/${doc}`);
-    if (found === undefined) this.#known.delete(doc);
+    if (found === undefined) {
+      this.#known.delete(doc);
+      this.#open.delete(doc);
+    }
     return found === undefined ? null : this.#know(doc, found.value);
   }
 
-  created() {
-    return undefined; // its place was there before it
+  async #takeBack(doc) {
+    const back = this.disclaim(doc);
+    if (back === undefined) return;
+    this.disclaimed(doc);
+    await this.#etcd.transact([back.compare], [back.remove]);
+  }
+
+  /** A document is there. Its place was before it; where that may have been taken for another's rest meanwhile it is looked at again. */
+  created(doc, store) {
+    const made = this.#made.get(doc);
+    this.#made.delete(doc);
+    return made !== undefined && this.#now() - made.since < SURE ? undefined : this.#confirm(doc, store);
+  }
+
+  async #confirm(doc, store) {
+    const { value } = await this.#etcd.create(`place/${doc}`, store);
+    this.#know(doc, value);
   }
 
   async list(after, limit) {
@@ -159,12 +244,16 @@ export class EtcdPlaces {
     if (!isNew) return this.again(doc);
     const found = await this.#etcd.get(key);
     if (found !== undefined) return this.#know(doc, found.value);
-    const store = this.#choose() ?? this.#stores()[0].name; // where all are full, one of them says so
-    return this.#know(doc, (await this.#etcd.create(key, store)).value);
+    if (!this.#open.has(doc)) this.#open.set(doc, this.#choose() ?? this.#stores()[0].name); // where all are full, one of them says so
+    while (this.#open.size > MOST_OPEN) this.#open.delete(this.#open.keys().next().value);
+    return this.#open.get(doc) ?? null;
   }
 
   #know(doc, store) {
+    this.#open.delete(doc);
+    this.#known.delete(doc);
     this.#known.set(doc, store);
+    if (this.#known.size > MOST_KNOWN) this.#known.delete(this.#known.keys().next().value);
     return store;
   }
 

@@ -101,6 +101,11 @@ export class Store {
     for (const name of names) this.#writers.set(name, new Upstream(this.#address, name, this.#listener));
   }
 
+  /** How many users wait for a guest's place. */
+  get waiting() {
+    return this.#queue.users;
+  }
+
   /** How many sessions of each kind are open. */
   get open() {
     const count = (sessions) => sessions.filter(({ isOpen }) => isOpen).length;

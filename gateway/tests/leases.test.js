@@ -371,7 +371,7 @@ test("a name that isn't used is asked back where all are lent, and not one with 
 });
 
 test("users take turns at the places of guests, however much one of them sends", async (t) => {
-  const { store, url } = await begun(t, { ...signedIn, names: 16, writers: 1, guests: 1, limits: { userNames: 8 } });
+  const { store, url, gateway } = await begun(t, { ...signedIn, names: 16, writers: 1, guests: 1, limits: { userNames: 8 } });
   const talks = [];
   for (const [user, token] of [["ann", "a0"], ["eve", "e0"], ["eve", "e1"], ["eve", "e2"], ["eve", "e3"], ["bob", "b0"]]) {
     const talk = await Talk.begin(t, url, token, as(user));
@@ -382,7 +382,7 @@ test("users take turns at the places of guests, however much one of them sends",
     talk.send(edit(1), edit(2));
     if (user === "eve" && talk === others[0][1]) await until(() => store.asked.length === 2);
   }
-  await pause(100);
+  await until(() => gateway.stores.get("s1").waiting === 2);
   const order = [];
   for (let k = 0; k < 10; k += 1) {
     const { source, message, reply } = await store.next();

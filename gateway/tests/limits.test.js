@@ -19,13 +19,14 @@ test("where too much waits for all browsers, the one for whom most waits is clos
   const it = await begun(t, { limits: { lineBytes: 24 * MIB, waitingBytes: 32 * MIB } });
   const [ann, bob, eve] = [await Talk.begin(t, it.url, "a", as("ann")), await Talk.begin(t, it.url, "b", as("bob")), await Talk.begin(t, it.url, "c", as("eve"))];
   for (const talk of [bob, eve]) talk.socket.pause();
-  const fetched = async (talk, bytes) => {
-    talk.send({ do: "fetch", doc: "d" });
-    (await it.store.next()).reply(document("d", bytes));
+  const fetched = async (talk, bytes, times = 1) => {
+    talk.send(...Array(times).fill({ do: "fetch", doc: "d" }));
+    const asked = [];
+    for (let k = 0; k < times; k += 1) asked.push(await it.store.next());
+    for (const { reply } of asked) reply(document("d", bytes));
   };
   await fetched(bob, 12 * MIB);
-  await fetched(eve, 20 * MIB);
-  await fetched(eve, 20 * MIB); // whatever the system takes of it, more than 32 MiB wait now
+  await fetched(eve, 20 * MIB, 3); // whatever the system takes of it, more than 32 MiB wait now
   await until(() => counted(it, "overfull_total") === 1);
   await until(() => counted(it, "sessions") === 2);
   assert.ok(counted(it, "waiting_bytes") <= 32 * MIB);
