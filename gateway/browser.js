@@ -13,6 +13,8 @@ const MOST_BUFFERED = 1 << 20; // bytes that the browser hasn't taken; then it g
 const MOST_OWN = 1_000; // documents of which the last own revision is known
 const LATER = 50; // milliseconds until a browser that took too little is looked at again
 const PATIENCE = 10_000; // milliseconds that a message waits for a store that isn't there, then it is to be sent again
+const FRAME = 64; // bytes beside a line that count as its own: its end, and a frame's head
+const MOST_OWED = 10; // seconds that a user isn't read; where it would be more his sessions are closed
 const FAREWELL = 5_000; // milliseconds that a browser has to answer the end
 const LARGE = 65_536; // bytes of a line that is sent by itself
 const HELLO = Buffer.from('{"gateway":1,"ok":"hello"}\n');
@@ -33,6 +35,7 @@ const UNKNOWN = [21, 22]; // a command that is refused so may have been taken
  * @property {boolean} [isAllowed]
  * @property {boolean} [needsLease]  its holder may have a new lease in its document
  * @property {boolean} [isNew]  it creates a document that is nowhere
+ * @property {boolean} [isCounted]  among its user's creations
  * @property {boolean} [waitsForName]
  * @property {boolean} [isAsking]  something is found out before it can be sent
  * @property {boolean} [isSent]  to the sessions of a store, where it may still wait
@@ -63,6 +66,8 @@ export class Browser {
   #taken = 0; // of them, at the last look
   #isAlive = true;
   #wasSlow = false; // at the last look
+  #address;
+  #isOwing = false;
   #holder;
   #isPumping = false;
   #isPumpDue = false;
@@ -81,13 +86,16 @@ export class Browser {
    * @param {import("./users.js").User} user
    * @param {any} given  the user as `authorize` gave him for this session
    * @param {number} id
+   * @param {import("./users.js").Address} address
    */
-  constructor(gateway, socket, user, given, id) {
+  constructor(gateway, socket, user, given, id, address) {
     this.#gateway = gateway;
     this.#socket = socket;
     this.user = user;
     this.#given = given;
     this.id = id;
+    this.#address = address;
+    socket._socket?.prependListener("data", this.#guarded((bytes) => this.#weigh(bytes.length)));
     socket.on("message", this.#guarded((bytes) => this.#read(bytes)));
     socket.on("pong", () => (this.#isAlive = true));
     socket.on("close", this.#guarded(() => this.#leave()));
@@ -190,6 +198,7 @@ export class Browser {
       if (reply !== undefined || !(now - slot.since > PATIENCE) || (kind === "command" && ticket?.isSent)) continue;
       if (ticket !== undefined) ticket.isWanted = false;
       slot.reply = REFUSAL.NoMemory;
+      if (ticket === undefined) this.#uncount(slot, false);
       hasGivenUp = true;
     }
     if (hasGivenUp) this.#pump();
@@ -246,6 +255,41 @@ export class Browser {
     this.#flush();
   }
 
+  /** How many documents it is told of. */
+  get documents() {
+    return this.#followed.size + this.#gateway.presence.countOf(this);
+  }
+
+  // All bytes of its connection count, those of pings and of a message's pieces too. Those of a line that is whole are given back to what isn't lines.
+  #weigh(bytes) {
+    this.user.bytes.take(bytes);
+    this.user.overhead.take(bytes);
+    this.#address.bytes.take(bytes);
+    if (!this.#isOwing) setImmediate(this.#settleDebt); // once the lines among them are read
+  }
+
+  // Whose user owes isn't read until that is over, and is closed where it takes too long.
+  #settleDebt = this.#guarded(() => {
+    if (this.isGone) return;
+    const owed = { bytes: this.user.bytes.owed, overhead: this.user.overhead.owed, address: this.#address.bytes.owed };
+    const [limit, seconds] = Object.entries(owed).sort(([, one], [, other]) => other - one)[0];
+    const wasOwing = this.#isOwing;
+    this.#isOwing = seconds > 0;
+    if (seconds > MOST_OWED) {
+      this.#gateway.metrics.count("over_total", { limit });
+      this.#gateway.log("a user sends more than he may, and is closed", { user: this.user.id, limit });
+      return this.close(CODE.over, "more than you may send");
+    }
+    if (this.#isOwing) {
+      if (!wasOwing) {
+        this.#gateway.metrics.count("slowed_total", { limit });
+        this.#gateway.log("a user sends more than he may, and is read later", { user: this.user.id, limit });
+      }
+      this.#socket.pause();
+      setTimeout(this.#settleDebt, Math.max(LATER, 1_000 * seconds)).unref();
+    } else if (wasOwing) this.#pump();
+  });
+
   #read(bytes) {
     if (this.isGone) return;
     this.#unread = this.#unread.length === 0 ? bytes : Buffer.concat([this.#unread, bytes]);
@@ -271,7 +315,7 @@ export class Browser {
     this.count();
     if (this.isGone) return;
     if (this.#isEnding && !this.#slots.some(isOnItsWay)) return this.close(CODE.ends, "the gateway ends");
-    const waits = this.#slots.length >= MOST_WAITING || this.#unread.includes(10);
+    const waits = this.#isOwing || this.#slots.length >= MOST_WAITING || this.#unread.includes(10);
     if (waits) this.#socket.pause();
     else if (this.#socket.isPaused) this.#socket.resume();
   });
@@ -282,6 +326,7 @@ export class Browser {
       if (at === -1) break;
       if (!this.user.takesTurn()) return this.#pumpLater();
       const line = this.#unread.subarray(0, at);
+      this.user.overhead.take(-Math.min(line.length, MOST_LINE) - FRAME);
       this.#unread = this.#unread.subarray(at + 1);
       if (this.#skips) this.#skips = false;
       else if (line.length > MOST_LINE) this.#refuse(REFUSAL.LineTooLong);
@@ -346,6 +391,13 @@ export class Browser {
   // Sends a message to its store, or answers it. Gives whether the next one may follow.
   #send(slot) {
     const { kind, message: { do: what, doc } } = slot;
+    const isToldMore = (what === "subscribe" && !this.#followed.has(doc)) || (kind === "presence" && slot.message.at !== null && !this.#gateway.presence.has(this, doc));
+    if (isToldMore && this.user.documents >= this.#gateway.mostDocuments) {
+      this.#gateway.metrics.count("rooms_refused_total");
+      this.#gateway.log("a user follows more documents than he may", { user: this.user.id });
+      slot.reply = REFUSAL.NotAllowed;
+      return true;
+    }
     if (kind === "presence") return this.#reply(slot, `{"doc":"${doc}","ok":"presence"}\n`);
     if (what === "unsubscribe") return this.#reply(slot, `{"doc":"${doc}","ok":"unsubscribed"}\n`);
     const { places, stores } = this.#gateway;
@@ -392,7 +444,7 @@ export class Browser {
     if (lease instanceof Promise) return this.#find(slot, lease, (found) => found === undefined && this.#waitForName(slot, store));
     if (lease === undefined) return this.#waitForName(slot, store);
     const { places } = this.#gateway;
-    if (message.do === "create" && places.isOpen(message.doc)) return this.#find(slot, places.place(message.doc, store.name), () => {});
+    if (message.do === "create" && places.isOpen(message.doc)) return this.#find(slot, places.place(message.doc, store.name, this.user.id), () => {});
     if (kind === "lease") slot.reply = leaseLine(message.doc, Object.assign(lease, { isTold: true }));
     else if (message.do === "undo" && lease.epoch > 1 && !lease.isOwn) {
       if (this.#slots.some((it) => it !== slot && isWaiting(it) && it.message.doc === message.doc)) return false; // it may become one's own
@@ -424,11 +476,30 @@ export class Browser {
     const { do: what, doc } = slot.message;
     const isCreation = what === "create";
     const { places } = this.#gateway;
-    if (isCreation && standing !== "nowhere" && places.isOpen(doc)) await places.place(doc, places.cached(doc)); // the store had it before its place
+    if (isCreation && standing !== "nowhere" && places.isOpen(doc)) await places.place(doc, places.cached(doc), this.user.id); // the store had it before its place
     if (isCreation && standing === "there" && !(await leases.isHeld(doc, this.#holder))) slot.reply ??= REFUSAL.Exists;
     else if (!isCreation && standing === "nowhere") slot.reply ??= REFUSAL.NoDocument;
     else slot.needsLease = true;
-    slot.isNew = isCreation && standing === "nowhere";
+    if (isCreation && standing === "nowhere" && !slot.isNew) await this.#countCreation(slot);
+  }
+
+  // A store has places for so many documents in its life: a user may take some of them.
+  async #countCreation(slot) {
+    const limit = await this.user.creates(() => this.#gateway.places.countOf(this.user.id));
+    if (limit === undefined) {
+      slot.isNew = slot.isCounted = true;
+      if (slot.reply !== undefined || this.isGone) this.#uncount(slot, false);
+      return;
+    }
+    this.#gateway.metrics.count("creations_refused_total", { limit });
+    this.#gateway.log("a user creates more documents than he may", { user: this.user.id, limit });
+    slot.reply ??= REFUSAL.TooManyDocuments;
+  }
+
+  #uncount(slot, isMade) {
+    if (!slot.isCounted) return;
+    slot.isCounted = false;
+    this.user.created(isMade);
   }
 
   #command(slot, store, lease) {
@@ -443,8 +514,12 @@ export class Browser {
   #onCommand(slot, store, lease, line, began) {
     const { metrics } = this.#gateway;
     const { do: what, doc, n, base } = slot.message;
-    if (line === undefined) return lease.settle(n, "refused");
+    if (line === undefined) {
+      this.#uncount(slot, false);
+      return lease.settle(n, "refused");
+    }
     if (line === null) {
+      this.#uncount(slot, true);
       lease.settle(n, "cut");
       return this.close(CODE.ends, "the store's session was cut");
     }
@@ -454,6 +529,7 @@ export class Browser {
     const isCreation = what === "create";
     metrics.commands[result] += 1;
     lease.settle(n, UNKNOWN.includes(code) ? "cut" : result);
+    this.#uncount(slot, code === 0 || UNKNOWN.includes(code));
     const releases = (isCreation && NOT_MADE.includes(code)) || code === NO_DOCUMENT;
     if (releases) store.leases.release(doc, this.#holder, lease, code !== EXISTS && code !== FULL_STORE);
     const isOthers = result === "again" && isCreation && n === 1 && lease.epoch > 1 && !lease.isOwn;
@@ -461,7 +537,7 @@ export class Browser {
       store.leases.own(doc, this.#holder, lease);
       store.news.taken(doc, line);
     }
-    const listing = result !== "refused" && isCreation && !isOthers ? this.#gateway.places.created(doc, store.name) : undefined;
+    const listing = result !== "refused" && isCreation && !isOthers ? this.#gateway.places.created(doc, store.name, this.user.id) : undefined;
     listing?.catch(() => {});
     if (result !== "refused" && base !== PROBE) this.#gateway.taken(this.#given, slot.message, revOf(line), result === "again");
     if (this.isGone) return;
@@ -479,8 +555,8 @@ export class Browser {
     const wanted = () => ticket.isWanted && !this.isGone;
     const settle = this.#guarded((line) => (codeOf(line) === NO_DOCUMENT ? this.#lookAgain(slot, store, line) : this.#answer(slot, line)));
     const own = this.#own.get(doc) ?? 0;
-    if (message.do === "fetch") return store.fetch(message, rev === undefined ? own : 0, settle, wanted);
-    if (message.do === "since") return store.since(doc, rev, settle, wanted, own);
+    if (message.do === "fetch") return store.fetch(message, rev === undefined ? own : 0, settle, wanted, this.user.id);
+    if (message.do === "since") return store.since(doc, rev, settle, wanted, this.user.id, own);
     const subscription = new Subscription(doc, rev, this.#guarded((it) => this.#followed.get(doc)?.subscription === it && this.#tell(doc) && this.#flush()));
     store.news.join(subscription, this.#guarded((line) => {
       if (this.isGone || slot.reply !== undefined) return store.news.leave(subscription);
@@ -489,7 +565,7 @@ export class Browser {
         this.#backlogBytes += subscription.backlogBytes;
       }
       settle(line);
-    }), wanted);
+    }), wanted, this.user.id);
   }
 
   // A document may have another place by now than the one that was asked.
@@ -639,7 +715,10 @@ export class Browser {
     this.isGone = true;
     this.#gateway.waiting.note(this, 0);
     clearTimeout(this.#timer);
-    for (const { ticket } of this.#slots) if (ticket !== undefined) ticket.isWanted = false;
+    for (const slot of this.#slots) {
+      if (slot.ticket !== undefined) slot.ticket.isWanted = false;
+      else this.#uncount(slot, false);
+    }
     for (const doc of [...this.#followed.keys()]) this.#unfollow(doc);
     this.#unread = EMPTY;
     this.#gateway.depart(this, this.#holder, this.#written);

@@ -66,6 +66,12 @@ export class Etcd {
     return this.range({ key: this.#key(from), range_end: encoded(above(this.#prefix + text)), limit, keys_only: keysOnly });
   }
 
+  /** How many keys begin with a text. */
+  async countUnder(text) {
+    const { count = "0" } = await this.#post("range", (it) => isFound(it), { key: this.#key(text), range_end: encoded(above(this.#prefix + text)), count_only: true });
+    return Number(count);
+  }
+
   /**
    * One transaction. Gives its revision where all that is compared holds, so that all is done, and false else.
    * @param {{ key: string, mod?: number }[]} compare  a key's revision; without it, that there is no such key

@@ -40,8 +40,19 @@ export interface Limits {
   /** Open at once: of the gateway 20,000, of a user 200. */
   sessions: number;
   userSessions: number;
+  /** Open at once from one address: 20,000. */
+  addressSessions: number;
   /** Messages of a user a second: 2,000. */
   userMessages: number;
+  /** Bytes a second of a user's connections, 4 MiB; of them those that are no lines, 16 KiB; and of an address's, 64 MiB. */
+  userBytes: number;
+  userOverhead: number;
+  addressBytes: number;
+  /** Documents that a user's sessions are told of: 1,000. */
+  userDocuments: number;
+  /** Documents that a user may create: 1,000 in all, and 100 an hour. */
+  userCreations: number;
+  userCreationsHour: number;
   /** Names of a user in one document: 4. */
   userNames: number;
   /** Bytes of a document as it is fetched: 64 MiB. */
@@ -83,6 +94,8 @@ export interface Settings {
   origins?: string[];
   /** Names by which /healthz, /metrics and /docs are asked for, besides those of the origins, of this machine, and addresses. */
   hosts?: string[];
+  /** Which header says where a request comes from, as a proxy sets it. Without it the connection does. */
+  address?: { header: string };
   /** What users may take, and what is held of what a store sends; docs/GATEWAY.md has their table. */
   limits?: Partial<Limits>;
   /** Gives who asks, or null where he isn't signed in. Without it everybody is the user "anybody". */
@@ -131,4 +144,4 @@ export interface Gateway {
 export function createGateway(settings: Settings): Promise<Gateway>;
 
 /** The codes by which a WebSocket is closed. */
-export const CODE: { fault: 1011; ends: 1012; later: 1013; full: 4503; again: 4409; rights: 4403 };
+export const CODE: { fault: 1011; ends: 1012; later: 1013; full: 4503; again: 4409; rights: 4403; over: 4429 };

@@ -18,12 +18,14 @@ import { Presence } from "./presence.js";
 import { checkOrigins, checkStore, checked } from "./settings.js";
 import { Store } from "./store.js";
 import { Sweep } from "./sweep.js";
-import { User, idOf } from "./users.js";
+import { Address, User, idOf } from "./users.js";
 import { Waiting } from "./waiting.js";
 import { webSockets } from "./websockets.js";
 
 const MOST_FRAME = 1 << 17; // bytes of a WebSocket's message
 const SECOND = 1_000;
+const FORGOTTEN = 3_600_000; // milliseconds that what a user has taken is known after his last session
+const SIGN_IN = 10_000; // milliseconds that authorize may take
 const FAREWELL = 4_000; // milliseconds that commands which were sent have for their replies, at the end
 const MOST_SAID = 20; // lines of one event within a second
 const RETRY = 1_000; // milliseconds until etcd is asked again for the pool
@@ -36,6 +38,13 @@ export { CODE };
 
 /** Goes on with a value, at once where it is there. */
 const chain = (value, next) => (typeof value?.then === "function" ? value.then(next) : next(value));
+
+/** What a promise gives within the time that somebody has to sign in, and undefined later. @param {Promise<any>} promise */
+function inTime(promise) {
+  let timer;
+  const late = new Promise((resolve) => (timer = setTimeout(resolve, SIGN_IN)));
+  return Promise.race([promise, late]).finally(() => clearTimeout(timer));
+}
 
 /** @param {import("node:stream").Duplex} socket @param {number} status @param {string} reason */
 function refuse(socket, status, reason) {
@@ -58,6 +67,8 @@ export class Gateway {
   #browsers = new Set();
   /** @type {Map<string, User>} */
   #users = new Map();
+  /** @type {Map<string, Address>} */
+  #addresses = new Map();
   /** @type {Map<string, Browser>} */
   #holders = new Map();
   #count = 0;
@@ -160,11 +171,31 @@ export class Gateway {
       this.log("origin refused", { origin: request.headers.origin, host: request.headers.host });
       return refuse(socket, 403, "Forbidden");
     }
-    const given = await this.#signedIn(request);
+    const from = this.#addressOf(request);
+    const address = this.#addresses.get(from) ?? new Address(this.#settings.limits);
+    if (address.sessions >= this.#settings.limits.addressSessions) {
+      this.metrics.count("over_total", { limit: "addressSessions" });
+      this.log("an address has too many sessions", { address: from });
+      return refuse(socket, 503, "Service Unavailable");
+    }
+    this.#addresses.set(from, address);
+    address.sessions += 1;
+    socket.once("close", () => {
+      address.sessions -= 1;
+      if (address.sessions === 0) this.#addresses.delete(from);
+    });
+    const given = await inTime(this.#signedIn(request));
     if (given === undefined) return refuse(socket, 503, "Service Unavailable");
     if (given === null) return refuse(socket, 401, "Unauthorized");
     if (this.#isEnding) return refuse(socket, 503, "Service Unavailable");
-    this.#sockets.handleUpgrade(request, socket, head, (webSocket) => this.#open(webSocket, given));
+    this.#sockets.handleUpgrade(request, socket, head, (webSocket) => this.#open(webSocket, given, address));
+  }
+
+  // Where a request comes from, as the nearest proxy says.
+  #addressOf({ headers, socket }) {
+    const { address } = this.#settings;
+    const said = address && headers[address.header.toLowerCase()];
+    return said ? said.split(",").at(-1).trim() : (socket?.remoteAddress ?? "");
   }
 
   /**
@@ -282,6 +313,10 @@ export class Gateway {
 
   // What follows is for browsers.
 
+  get mostDocuments() {
+    return this.#settings.limits.userDocuments;
+  }
+
   /** Whether a user, as `authorize` gave him, may send a message: a promise where that isn't known at once. Where it can't be found out the promise fails. */
   judge(user, message) {
     if (this.#can === undefined && this.#onCommand === undefined) return true;
@@ -333,7 +368,7 @@ export class Gateway {
     this.presence.depart(browser);
     this.#browsers.delete(browser);
     browser.user.browsers.delete(browser);
-    if (browser.user.browsers.size === 0) this.#users.delete(browser.user.id);
+    if (browser.user.browsers.size === 0) browser.user.goneSince = performance.now();
     if (holder === undefined || this.#holders.get(holder) !== browser) return;
     this.#holders.delete(holder);
     for (const { leases } of this.stores.values()) leases.depart(holder, docs);
@@ -358,10 +393,10 @@ export class Gateway {
     }
   }
 
-  #open(webSocket, given) {
+  #open(webSocket, given, address) {
     const { limits } = this.#settings;
     const id = idOf(given);
-    const user = this.#users.get(id) ?? new User(id, limits.userMessages);
+    const user = this.#users.get(id) ?? new User(id, limits);
     if (this.#browsers.size >= limits.sessions || user.browsers.size >= limits.userSessions) {
       this.log("full", { user: id, sessions: this.#browsers.size, ofUser: user.browsers.size });
       webSocket.on("error", () => {});
@@ -370,8 +405,9 @@ export class Gateway {
       return;
     }
     this.#users.set(id, user);
+    user.goneSince = Infinity;
     this.#count += 1;
-    const browser = new Browser(this, webSocket, user, given, this.#count);
+    const browser = new Browser(this, webSocket, user, given, this.#count, address);
     this.#browsers.add(browser);
     user.browsers.add(browser);
   }
@@ -461,6 +497,8 @@ export class Gateway {
 
   #eachSecond() {
     this.#said.clear();
+    const forgotten = performance.now() - FORGOTTEN;
+    for (const [id, { goneSince }] of this.#users) if (goneSince < forgotten) this.#users.delete(id);
     for (const store of this.stores.values()) store.serveNames();
     const before = performance.now() - SECOND * this.#settings.recheck;
     for (const browser of [...this.#browsers]) {

@@ -2,7 +2,7 @@
 // pool of its own, and each step is one transaction that compares what it stands on. A lease says at which gateway it is used: that one alone
 // asks it back before its term, for it knows what is on its way.
 
-import { Lease, NAMING, choice } from "./leases.js";
+import { Lease, NAMING, choice, userOf } from "./leases.js";
 
 const MOST_TRIES = 10; // of a transaction that others were faster than
 const MOST_KEPT = 100_000; // leases in memory; then those that were asked for longest ago are asked for anew
@@ -93,7 +93,7 @@ export class EtcdLeases {
   async #takeBack(doc, holder, lease, place) {
     const own = { key: this.#key(doc, holder), mod: lease.mod };
     const all = [{ key: own.key }, { key: this.#nameKey(doc, lease.name) }];
-    if (place && (await this.#etcd.transact([own, place.compare], [...all, place.remove]))) return;
+    if (place && (await this.#etcd.transact([own, place.compare], [...all, ...place.remove]))) return;
     await this.#etcd.transact([own], all); // the place is another creation's by now
   }
 
@@ -160,8 +160,8 @@ export class EtcdLeases {
     const reserved = this.#known.get(`${doc}/${holder}`);
     if (reserved?.isReserved) return this.#lendFree(doc, holder, reserved, isNew);
     const under = `${doc}/`;
-    const user = holder.slice(0, holder.lastIndexOf("/") + 1);
-    const taken = all.filter((it) => names.includes(it.name) || it.holder.startsWith(user)).map((it) => {
+    const user = userOf(holder);
+    const taken = all.filter((it) => names.includes(it.name) || userOf(it.holder) === user).map((it) => {
       const { onWay = 0, seen = Math.max(it.used, this.#began) } = this.#known.get(under + it.holder) ?? {};
       const [isOver, isIdle] = [it.used < now - this.#term, it.at === this.#at && seen < now - recall];
       const mayGo = onWay === 0 && names.includes(it.name) && (isOver || it.at === this.#at);
@@ -193,16 +193,16 @@ export class EtcdLeases {
   async #lendFree(doc, holder, lease, isNew) {
     const key = this.#key(doc, holder);
     const nameKey = this.#nameKey(doc, lease.name); // a name is new in a document once
-    const place = isNew ? await this.#places?.claim(doc, this.#store) : undefined;
+    const place = isNew ? await this.#places?.claim(doc, this.#store, userOf(holder)) : undefined;
     const compare = [{ key }, { key: nameKey }, ...(place ? [place.compare] : [])];
-    const put = [{ key, value: this.#kept(lease) }, { key: nameKey, value: holder }, ...(place ? [place.put] : [])];
+    const put = [{ key, value: this.#kept(lease) }, { key: nameKey, value: holder }, ...(place ? place.put : [])];
     const mod = await this.#etcd.transact(compare, put);
     if (mod === false) {
       if (this.#known.get(`${doc}/${holder}`) === lease) this.#known.delete(`${doc}/${holder}`);
       if (lease.isTold) this.#naming.onRecall(doc, holder, holder); // he was told a name that he doesn't get
       return null;
     }
-    if (place) this.#places.claimed(doc, this.#store, mod);
+    if (place) this.#places.claimed(doc, this.#store, mod, userOf(holder));
     Object.assign(lease, { isReserved: false, mod });
     return this.#lent(doc, holder, lease);
   }

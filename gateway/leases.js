@@ -53,7 +53,7 @@ export function namesFor(doc, names, first) {
 }
 
 /** The user of a holder: a token has no stroke. @param {string} holder */
-function userOf(holder) {
+export function userOf(holder) {
   const at = holder.lastIndexOf("/");
   return at === -1 ? holder : holder.slice(0, at);
 }

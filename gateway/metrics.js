@@ -13,6 +13,10 @@ const COUNTED = [
   ["pages_refused_total", [{}]],
   ["rights_ended_total", [{}]],
   ["swept_total", [{}]],
+  ["slowed_total", ["bytes", "overhead", "address"].map((limit) => ({ limit }))],
+  ["over_total", ["bytes", "overhead", "address", "addressSessions"].map((limit) => ({ limit }))],
+  ["rooms_refused_total", [{}]],
+  ["creations_refused_total", ["all", "hour"].map((limit) => ({ limit }))],
 ];
 
 const labelled = (labels) => {

@@ -9,6 +9,7 @@ const SURE = 30_000; // milliseconds within which nobody sweeps a place away, se
 const MOST_OPEN = 10_000; // places that are chosen and not written
 const MOST_KNOWN = 200_000; // places in memory; then those that were learnt longest ago are asked for anew
 const MOST_TRIES = 10; // of a transaction that others were faster than
+const makerKey = (user, doc) => `maker/${encodeURIComponent(user ?? "")}/${doc}`;
 const ordered = (one, other) => (one < other ? -1 : one > other ? 1 : 0);
 
 /**
@@ -16,7 +17,8 @@ const ordered = (one, other) => (one < other ? -1 : one > other ? 1 : 0);
  */
 export class RuledPlaces {
   #rule;
-  #docs;
+  #docs = new Set();
+  #counts = new Map(); // user -> documents that he has created
   #journal;
   #sorted = null;
   /** @type {Map<string, Promise<void>>} documents that are being written */
@@ -26,8 +28,22 @@ export class RuledPlaces {
   constructor({ rule, folder, ...options }) {
     this.#rule = [...rule].sort((one, other) => other.prefix.length - one.prefix.length);
     const file = path.join(folder, "documents");
-    this.#docs = new Set(readLines(file, (doc) => typeof doc === "string").values);
-    this.#journal = new Journal(file, [...this.#docs], options);
+    const isText = (value) => typeof value === "string";
+    const { values } = readLines(file, (line) => isText(line) || (Array.isArray(line) && line.length === 2 && line.every(isText)));
+    for (const line of values) this.#add(...(isText(line) ? [line] : line));
+    this.#journal = new Journal(file, values, options);
+  }
+
+  /** How many documents a user has created, those that are deleted too. */
+  async countOf(user) {
+    return this.#counts.get(user) ?? 0;
+  }
+
+  #add(doc, user) {
+    if (this.#docs.has(doc)) return;
+    this.#docs.add(doc);
+    this.#sorted = null;
+    if (user !== undefined) this.#counts.set(user, (this.#counts.get(user) ?? 0) + 1);
   }
 
   /** The store's name; null where there is none, undefined where it has to be found first. */
@@ -57,16 +73,15 @@ export class RuledPlaces {
   }
 
   /** A document is there: it is listed from then on. Gives a promise where that has to be written first. */
-  created(doc) {
+  created(doc, store = undefined, user = undefined) {
     if (this.#docs.has(doc)) return undefined;
-    if (!this.#written.has(doc)) this.#written.set(doc, this.#write(doc).finally(() => this.#written.delete(doc)));
+    if (!this.#written.has(doc)) this.#written.set(doc, this.#write(doc, user).finally(() => this.#written.delete(doc)));
     return this.#written.get(doc);
   }
 
-  async #write(doc) {
-    await this.#journal.add(doc);
-    this.#docs.add(doc);
-    this.#sorted = null;
+  async #write(doc, user) {
+    await this.#journal.add(user === undefined ? doc : [doc, user]);
+    this.#add(doc, user);
   }
 
   /** Names behind one, in order, at most so many. */
@@ -104,7 +119,7 @@ export class EtcdPlaces {
   #full = new Map();
   /** @type {Map<string, string>} places that are chosen, and aren't in etcd yet */
   #open = new Map();
-  /** @type {Map<string, { mod: string, since: number }>} places that a creation from here has written, which has no reply */
+  /** @type {Map<string, { mod: string, since: number, user?: string }>} places that a creation from here has written, which has no reply */
   #made = new Map();
   #turn = 0;
 
@@ -125,8 +140,13 @@ export class EtcdPlaces {
     return this.#open.has(doc);
   }
 
-  /** What of a transaction writes a document's place, for a creation of it in a store; fails where it is placed elsewhere. */
-  async claim(doc, store) {
+  /** How many documents a user has created, those that are deleted too. */
+  async countOf(user) {
+    return this.#etcd.countUnder(makerKey(user, ""));
+  }
+
+  /** What of a transaction writes a document's place, for a user's creation of it in a store; fails where it is placed elsewhere. */
+  async claim(doc, store, user) {
     const key = `place/${doc}`;
     const found = await this.#etcd.get(key);
     if (found !== undefined && found.value !== store) {
@@ -134,20 +154,20 @@ export class EtcdPlaces {
       this.#know(doc, found.value);
       throw new Error(`${doc} was placed elsewhere meanwhile`);
     }
-    return { compare: found === undefined ? { key } : { key, mod: found.mod }, put: { key, value: store } };
+    return { compare: found === undefined ? { key } : { key, mod: found.mod }, put: [{ key, value: store }, { key: makerKey(user, doc), value: "" }] };
   }
 
   /** A transaction with what `claim` gave was done. */
-  claimed(doc, store, mod) {
+  claimed(doc, store, mod, user) {
     this.#open.delete(doc);
-    this.#made.set(doc, { mod, since: this.#now() });
+    this.#made.set(doc, { mod, since: this.#now(), user });
     this.#know(doc, store);
   }
 
   /** What of a transaction takes a place back that a creation from here has written; undefined where there is nothing to take back. */
   disclaim(doc) {
     const made = this.#made.get(doc);
-    return made && { compare: { key: `place/${doc}`, mod: made.mod }, remove: { key: `place/${doc}` } };
+    return made && { compare: { key: `place/${doc}`, mod: made.mod }, remove: [{ key: `place/${doc}` }, { key: makerKey(made.user, doc) }] };
   }
 
   /** A place was taken back, or is another creation's now. */
@@ -157,11 +177,11 @@ export class EtcdPlaces {
   }
 
   /** Writes a place that was chosen, where the name is there already. */
-  async place(doc, store) {
-    const { compare, put } = await this.claim(doc, store);
-    const mod = await this.#etcd.transact([compare], [put]);
+  async place(doc, store, user) {
+    const { compare, put } = await this.claim(doc, store, user);
+    const mod = await this.#etcd.transact([compare], put);
     if (mod === false) throw new Error(`${doc} is being placed elsewhere`);
-    this.claimed(doc, store, mod);
+    this.claimed(doc, store, mod, user);
   }
 
   /**
@@ -188,7 +208,7 @@ export class EtcdPlaces {
       }
       const mod = await this.#etcd.transact([{ key: found.key, mod: found.mod }], [{ key: found.key, value: next }]);
       if (mod === false) continue;
-      this.claimed(doc, next, mod);
+      this.claimed(doc, next, mod, this.#made.get(doc)?.user);
       return next;
     }
     throw new Error(`${doc} can't be placed: others were faster each time`);
@@ -207,7 +227,7 @@ export class EtcdPlaces {
     const back = this.disclaim(doc);
     if (back === undefined) return;
     this.disclaimed(doc);
-    await this.#etcd.transact([back.compare], [back.remove]);
+    await this.#etcd.transact([back.compare], back.remove);
   }
 
   /** A document is there. Its place was before it; where that may have been taken for another's rest meanwhile it is looked at again. */

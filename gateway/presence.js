@@ -103,6 +103,16 @@ export class Presence {
     return [...(this.#places.get(teller)?.keys() ?? [])];
   }
 
+  /** In how many. @param {Teller} teller */
+  countOf(teller) {
+    return this.#places.get(teller)?.size ?? 0;
+  }
+
+  /** Whether it is in one. @param {Teller} teller @param {string} doc */
+  has(teller, doc) {
+    return this.#places.get(teller)?.has(doc) ?? false;
+  }
+
   /** A browser is told nothing more of a document, and nobody of it. @param {Teller} teller @param {string} doc */
   end(teller, doc) {
     const rev = this.#places.get(teller)?.get(doc);

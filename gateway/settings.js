@@ -8,11 +8,14 @@ const DAY = 86_400_000; // milliseconds
 export const DEFAULTS = { name: "g", readers: 2, writers: 16, guests: 8, names: 120, term: 7, recall: 60, recheck: 5, pulse: 15_000 };
 const MIB = 1 << 20; // bytes
 export const LIMITS = {
-  sessions: 20_000, userSessions: 200, userMessages: 2_000, userNames: 4,
+  sessions: 20_000, userSessions: 200, addressSessions: 20_000,
+  userMessages: 2_000, userBytes: 4 * MIB, userOverhead: MIB / 64, addressBytes: 64 * MIB, userNames: 4, userDocuments: 1_000,
+  userCreations: 1_000, userCreationsHour: 100,
   lineBytes: 64 * MIB, newsBytes: 4 * MIB, waitingBytes: 256 * MIB, keptBytes: 64 * MIB,
 };
+const OF_EACH = ["userDocuments", "userCreations", "userCreationsHour"]; // which have no default where all are one user
 export const HOOKS = ["authorize", "can", "onCommand", "onTaken"];
-const FIELDS = [...Object.keys(DEFAULTS), "stores", "data", "etcd", "rule", "origins", "hosts", "limits", ...HOOKS, "log", "hidesMetrics"];
+const FIELDS = [...Object.keys(DEFAULTS), "stores", "data", "etcd", "rule", "origins", "hosts", "address", "limits", ...HOOKS, "log", "hidesMetrics"];
 
 /** Throws a reason where something doesn't hold. */
 function demand(holds, reason) {
@@ -79,6 +82,7 @@ export function checked(given) {
   for (const hook of HOOKS) demand(given[hook] === undefined || typeof given[hook] === "function", `${hook} is a function`);
   const settings = { ...DEFAULTS, ...given, limits: { ...LIMITS, ...given.limits } };
   if (given.authorize === undefined) settings.limits.userNames = given.limits?.userNames ?? settings.names; // all are one user
+  if (given.authorize === undefined) for (const limit of OF_EACH) settings.limits[limit] = given.limits?.[limit] ?? 2 ** 31;
   const { name, stores, readers, writers, guests, names, term, data, etcd, rule, origins, limits } = settings;
   demand(isText(name) && NAME.test(name), `name has 1 to 12 characters of A-Z a-z 0-9 . _ -, and not ${JSON.stringify(name)}`);
   checkStores(stores);
@@ -98,7 +102,8 @@ export function checked(given) {
   demand(etcd !== undefined || rule !== undefined || stores.length === 1, "several stores need etcd, or a rule");
   if (rule !== undefined) checkRule(rule, stores);
   checkOrigins(origins);
-  const { hosts } = settings;
+  const { hosts, address } = settings;
+  demand(address === undefined || isText(address?.header), "address: header is the name of a header");
   demand(hosts === undefined || (Array.isArray(hosts) && hosts.every((it) => isText(it) && /^[^/:]+$/.test(it))), "hosts is a list of names without a port");
   for (const [limit, value] of Object.entries(limits)) {
     demand(limit in LIMITS, `limits: ${limit} is none of ${Object.keys(LIMITS).join(", ")}`);

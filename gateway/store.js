@@ -10,6 +10,7 @@ const IDLE = 60_000; // milliseconds after which a guest's session is closed
 const NO_DOCUMENT = 6;
 const FUTURE = 12;
 const DELETED = 40;
+const MOST_READING = 2; // reads of older revisions that are asked for at once
 const MOST_STALE = 100; // times that a read is asked again which is older than an own command
 const STALE_PAUSE = 10; // milliseconds
 const TOO_LONG = Buffer.from(REFUSAL.NoMemory); // another object than that of a store without memory
@@ -23,7 +24,7 @@ const TOO_LONG = Buffer.from(REFUSAL.NoMemory); // another object than that of a
 
 /**
  * The sessions of one store:
- * - readers: one for fetches, and where there are two another for `since`, which may be slow;
+ * - readers: one for fetches, and where there are two another for `since` and for older revisions, which may be slow;
  * - news: one that follows;
  * - writers: one for each of the first names of the pool, always open;
  * - guests: at most so many, for the pool's other names and for those that other gateways have lent. One is opened as it is needed, and closed
@@ -46,6 +47,9 @@ export class Store {
   /** @type {Map<string, Turns<Waiter>>} document -> messages that wait for a name */
   #names = new Map();
   #isNaming = false;
+  /** @type {Turns<{ wanted: () => boolean, ask: (done: (settle: (line: Buffer) => void, line: Buffer) => void) => void }>} */
+  #older = new Turns(); // reads of older revisions
+  #reading = 0; // of them that are asked
   #timer;
 
   #onCut = () => (this.#metrics.cuts += 1);
@@ -85,7 +89,7 @@ export class Store {
     };
     const first = new Upstream(this.#address, `${prefix}-reader`, { ...this.#listener, onOpen, onCut });
     this.#readers = [first, ...Array.from({ length: readers - 1 }, () => new Upstream(this.#address, `${prefix}-reader2`, this.#listener))];
-    const since = (doc, rev, settle, wanted) => this.since(doc, rev, settle, wanted);
+    const since = (doc, rev, settle, wanted, user) => this.since(doc, rev, settle, wanted, user);
     const onLong = (doc) => log("news of a document are longer than newsBytes", { store: name, doc });
     this.news = new News(this.#address, `${prefix}-news`, since, { ...this.#listener, onLong, mostNews: limits.newsBytes, kept, onLag: (lag) => metrics.lag.add(lag) });
     this.#timer = setInterval(() => this.#closeIdle(), IDLE / 4);
@@ -119,13 +123,36 @@ export class Store {
    * @param {number} least  the revision that it has to have, 0 where it may have any
    * @param {(line: Buffer) => void} settle
    * @param {() => boolean} wanted
+   * @param {string} user
    */
-  fetch(message, least, settle, wanted) {
+  fetch(message, least, settle, wanted, user) {
     const answer = (line) => {
       if (line === TOO_LONG) this.#log("a document is longer than lineBytes", { store: this.name, doc: message.doc });
       settle(line);
     };
-    this.#askUpTo(this.#readers[0], message, least, answer, wanted, { most: this.#limits.lineBytes, instead: TOO_LONG });
+    const bound = { most: this.#limits.lineBytes, instead: TOO_LONG };
+    if (message.rev === undefined) return this.#askUpTo(this.#readers[0], message, least, answer, wanted, bound);
+    this.#readOlder(user, wanted, (done) => this.#readers.at(-1).ask(message, (line) => done(answer, line), wanted, bound));
+  }
+
+  // What a store has to make of its past may take long: users take turns at it, and few are asked for at once.
+  #readOlder(user, wanted, ask) {
+    this.#older.add(user, { wanted, ask });
+    this.#serveReads();
+  }
+
+  #serveReads() {
+    while (this.#reading < MOST_READING) {
+      const read = this.#older.next(() => true);
+      if (read === undefined) return;
+      if (!read.wanted()) continue;
+      this.#reading += 1;
+      read.ask((settle, line) => {
+        this.#reading -= 1;
+        setImmediate(() => this.#serveReads());
+        settle(line);
+      });
+    }
   }
 
   /**
@@ -134,21 +161,24 @@ export class Store {
    * @param {string} doc
    * @param {number} rev
    * @param {(line: Buffer) => void} settle
-   * @param {() => boolean} [wanted]
+   * @param {() => boolean} wanted
+   * @param {string} user
    * @param {number} [least]
    */
-  since(doc, rev, settle, wanted, least = 0) {
+  since(doc, rev, settle, wanted, user, least = 0) {
     const reader = this.#readers.at(-1);
     const beyond = rev + MOST_SINCE + 1;
     const message = { do: "since", doc, rev };
-    if (!Number.isSafeInteger(beyond)) return reader.ask(message, settle, wanted);
     const tooOld = { most: this.#limits.newsBytes, instead: REFUSAL.TooOld };
-    reader.ask({ do: "fetch", doc, rev: beyond }, (answer) => {
-      const code = codeOf(answer);
-      if (code === 0) settle(REFUSAL.TooOld);
-      else if (code !== FUTURE) settle(answer);
-      else this.#askUpTo(reader, message, least, settle, wanted, tooOld);
-    }, wanted, tooOld);
+    this.#readOlder(user, wanted, (done) => {
+      if (!Number.isSafeInteger(beyond)) return reader.ask(message, (line) => done(settle, line), wanted);
+      reader.ask({ do: "fetch", doc, rev: beyond }, (answer) => {
+        const code = codeOf(answer);
+        if (code === 0) done(settle, REFUSAL.TooOld);
+        else if (code !== FUTURE) done(settle, answer);
+        else this.#askUpTo(reader, message, least, (line) => done(settle, line), wanted, tooOld);
+      }, wanted, tooOld);
+    });
   }
 
   /**
@@ -159,7 +189,7 @@ export class Store {
    */
   async standing(doc, wanted) {
     const message = { do: "since", doc, rev: Number.MAX_SAFE_INTEGER };
-    const code = await new Promise((resolve) => this.#readers.at(-1).ask(message, (answer) => resolve(codeOf(answer)), wanted));
+    const code = await new Promise((resolve) => this.#readers[0].ask(message, (answer) => resolve(codeOf(answer)), wanted));
     if (code === FUTURE || code === 0) return "there";
     if (code === DELETED) return "deleted";
     if (code === NO_DOCUMENT) return "nowhere";

@@ -23,6 +23,7 @@ export class Sweep {
   #wait;
   #pause;
   #isEnded = false;
+  #makers = new Map(); // document -> keys that say who created it
 
   /**
    * @param {{ etcd: import("./etcd.js").Etcd, stores: Map<string, { standing: (doc: string, wanted: () => boolean) => Promise<string> }>, wait?: number,
@@ -53,6 +54,7 @@ export class Sweep {
       if ((place?.value === store ? place.mod : "") !== mod || !(await this.#isNowhere(store, doc))) continue;
       if (mod !== "" && !(await this.#etcd.transact([{ key: place.key, mod }], [{ key: place.key }]))) continue;
       for (const kind of ["lease", "name"]) await this.#etcd.removeUnder(`${kind}/${store}/${doc}/`);
+      if (mod !== "") await this.#etcd.transact([], (this.#makers.get(doc) ?? []).map((key) => ({ key })));
       removed += 1;
     }
     return removed;
@@ -69,6 +71,11 @@ export class Sweep {
       seen.add(key);
       if (await this.#isNowhere(place.value, doc)) rests.set(key, mod);
       if (this.#isEnded) return new Map();
+    }
+    const docs = new Set([...rests.keys()].map((key) => key.slice(key.indexOf("/") + 1)));
+    for await (const { rest } of keysUnder(this.#etcd, "maker/")) {
+      const doc = rest.slice(rest.indexOf("/") + 1);
+      if (docs.has(doc)) this.#makers.set(doc, [...(this.#makers.get(doc) ?? []), `maker/${rest}`]);
     }
     for (const kind of ["lease/", "name/"]) {
       for await (const { rest } of keysUnder(this.#etcd, kind)) {

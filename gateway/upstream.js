@@ -134,7 +134,7 @@ export class Upstream {
     const dropped = this.#waiting.filter(({ wanted }) => !wanted());
     this.#waiting = this.#waiting.filter(({ wanted }) => wanted());
     this.#sweepAt = 2 * this.#waiting.length + SWEEP;
-    for (const item of dropped) if (item instanceof Command) item.settle(undefined);
+    for (const item of dropped) item.settle(item instanceof Command ? undefined : REFUSAL.NoMemory); // whoever asked counts on it
   }
 
   #send(item) {

@@ -216,7 +216,7 @@ test("a creation is answered once it is listed on the disk, and else by 22", asy
   const { places } = gateway;
   const created = places.created.bind(places);
   let isFull = true;
-  places.created = (doc) => (isFull ? Promise.reject(new Error("ENOSPC")) : created(doc));
+  places.created = (...words) => (isFull ? Promise.reject(new Error("ENOSPC")) : created(...words));
   const create = { do: "create", doc: "d", n: 1, ops: [] };
   store.isNowhere = () => true;
   for (const ok of ["taken", "again"]) {
@@ -227,7 +227,7 @@ test("a creation is answered once it is listed on the disk, and else by 22", asy
     isFull = false;
   }
   assert.deepEqual(ann.replies.slice(1).map(({ code, ok }) => code ?? ok), [22, "again"]);
-  assert.equal(readFileSync(path.join(data, "documents"), "utf8"), '"d"\n');
+  assert.equal(readFileSync(path.join(data, "documents"), "utf8"), '["d","anybody"]\n');
 });
 
 test("the next number is known as long as each command's reply came", async (t) => {

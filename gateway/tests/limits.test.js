@@ -2,6 +2,7 @@
 
 import assert from "node:assert/strict";
 import test from "node:test";
+import { folderFor } from "./programs.js";
 import { FakeStore, Talk, gatewayFor, pause, until } from "./talk.js";
 
 const MIB = 1 << 20;
@@ -65,5 +66,159 @@ test("news that are kept of all documents have one bound, and who is behind them
   for (const doc of docs) {
     const revs = bob.news.filter((line) => line.doc === doc && line.news !== undefined).map(({ news }) => news);
     assert.deepEqual(revs, [2, 3].slice(0, revs.length));
+  }
+});
+
+/** A masked frame of a WebSocket, as a browser sends it. */
+const frame = (first, bytes = Buffer.alloc(0)) => Buffer.concat([Buffer.from([first, 0x80 | bytes.length, 0, 0, 0, 0]), bytes]);
+const PING = frame(0x89, Buffer.alloc(100));
+const PIECE = frame(0x02, Buffer.from("x")); // begins a message that has more
+const MORE = frame(0x00, Buffer.from("x"));
+const BYTE = frame(0x82, Buffer.from("x"));
+
+test("who sends what is no line isn't read for a while, and is closed where it is too much; nobody else is", async (t) => {
+  for (const [first, more] of [[PING, PING], [BYTE, BYTE], [PIECE, MORE]]) {
+    const it = await begun(t, { limits: { userOverhead: 100 } });
+    const [ann, eve] = [await Talk.begin(t, it.url, "a", as("ann")), await Talk.begin(t, it.url, "e", as("eve"))];
+    eve.socket._socket.write(Buffer.concat([first, ...Array(Math.ceil((60 * 100 + 400) / more.length)).fill(more)]));
+    await until(() => counted(it, 'slowed_total\\{limit="overhead"\\}') === 1);
+    assert.equal(eve.code, null);
+    await ann.ask({ do: "unsubscribe", doc: "d" });
+    const others = await Talk.begin(t, it.url, "e2", as("eve"));
+    others.socket._socket.write(Buffer.concat(Array(200).fill(PING)));
+    assert.equal(await others.closed(), 4429);
+    assert.ok(it.events.some(({ event, user, limit }) => event === "a user sends more than he may, and is closed" && user === "eve" && limit === "overhead"));
+    assert.equal(ann.code, null);
+    await ann.ask({ do: "unsubscribe", doc: "d" });
+    await it.close();
+  }
+});
+
+test("lines aren't counted as what is no line, however long and in how many pieces", async (t) => {
+  const it = await begun(t, { limits: { userOverhead: 2_000 } });
+  const ann = await Talk.begin(t, it.url, "a", as("ann"));
+  const line = JSON.stringify({ do: "edit", doc: "d", n: 1, base: 1, ops: [{ insert: "x".repeat(65_000) }] });
+  for (let k = 0; k < 10; k += 1) {
+    ann.send(line);
+    const { message, reply } = await it.store.next();
+    reply({ doc: "d", n: message.n, ok: "again", rev: 2 });
+    await until(() => ann.replies.length === k + 2);
+  }
+  assert.equal(counted(it, 'slowed_total\\{limit="overhead"\\}'), 0);
+});
+
+test("a user's bytes a second are read and no more, and so are an address's", async (t) => {
+  for (const [limits, limit] of [[{ userBytes: 50_000 }, "bytes"], [{ addressBytes: 50_000 }, "address"]]) {
+    const it = await begun(t, { address: { header: "X-Real-IP" }, limits });
+    const from = (user, address) => ({ headers: { "x-user": user, "x-real-ip": address } });
+    const [ann, eve] = [await Talk.begin(t, it.url, "a", from("ann", "10.0.0.1")), await Talk.begin(t, it.url, "e", from("eve", "10.0.0.1, 10.0.0.2"))];
+    const began = performance.now();
+    for (let k = 0; k < 150; k += 1) eve.send(`{"do":"unsubscribe","doc":"d"}${" ".repeat(1_000)}`);
+    await ann.ask({ do: "unsubscribe", doc: "d" });
+    await until(() => eve.replies.length === 151);
+    assert.ok(performance.now() - began > 1_500, "150 kB at 50 kB a second, after a first 50 kB");
+    assert.ok(counted(it, `slowed_total\\{limit="${limit}"\\}`) > 0);
+    assert.equal(eve.code, null);
+  }
+});
+
+test("where an address has too many sessions the next one is refused, before anybody asks who it is", async (t) => {
+  const asked = [];
+  const authorize = ({ headers }) => (asked.push(headers["x-user"]), headers["x-user"] === "slow" ? new Promise(() => {}) : headers["x-user"]);
+  const it = await begun(t, { authorize, address: { header: "x-real-ip" }, limits: { addressSessions: 2 } });
+  const from = (user, address) => ({ headers: { "x-user": user, "x-real-ip": address } });
+  const slow = new Talk(it.url, from("slow", "10.0.0.1"));
+  await until(() => asked.includes("slow"));
+  const ann = await Talk.begin(t, it.url, "a", from("ann", "10.0.0.1"));
+  const refused = new Talk(it.url, from("bob", "10.0.0.1"));
+  await until(() => refused.error !== undefined);
+  assert.match(refused.error.message, /503/);
+  assert.deepEqual(asked, ["slow", "ann"]);
+  await Talk.begin(t, it.url, "c", from("bob", "10.0.0.2"));
+  ann.socket.terminate();
+  await until(() => counted(it, "sessions") === 1);
+  await Talk.begin(t, it.url, "d", from("bob", "10.0.0.1"));
+  await until(() => slow.error !== undefined, "a sign-in that takes too long is refused");
+  assert.match(slow.error.message, /503/);
+});
+
+test("a user is told of so many documents, over all of his sessions", async (t) => {
+  const it = await begun(t, { limits: { userDocuments: 3 } });
+  const [one, other, bob] = [await Talk.begin(t, it.url, "a", as("ann")), await Talk.begin(t, it.url, "b", as("ann")), await Talk.begin(t, it.url, "c", as("bob"))];
+  const at = (doc, place = [0, 0]) => ({ at: place, do: "presence", doc, rev: 1 });
+  for (const doc of ["d1", "d2"]) assert.equal((await one.ask(at(doc))).ok, "presence");
+  assert.equal((await other.ask(at("d1"))).ok, "presence");
+  assert.equal((await other.ask(at("d2"))).code, 60);
+  assert.equal((await other.ask({ do: "subscribe", doc: "d2", rev: 1 })).code, 60);
+  assert.equal((await one.ask(at("d1", [1, 1]))).ok, "presence", "where he is already");
+  assert.equal((await bob.ask(at("d2"))).ok, "presence");
+  await one.ask(at("d2", null));
+  assert.equal((await other.ask(at("d2"))).ok, "presence");
+  assert.equal(counted(it, "rooms_refused_total"), 2);
+});
+
+test("reads of older revisions are asked for by turns of users, few at once, and nobody's other reads wait", async (t) => {
+  const it = await begun(t);
+  const [eve, bob, ann] = [await Talk.begin(t, it.url, "e", as("eve")), await Talk.begin(t, it.url, "b", as("bob")), await Talk.begin(t, it.url, "a", as("ann"))];
+  eve.send(...Array(6).fill({ do: "fetch", doc: "d", rev: 1 }));
+  const first = [await it.store.next(), await it.store.next()];
+  bob.send({ do: "fetch", doc: "b", rev: 1 });
+  ann.send({ do: "fetch", doc: "a" });
+  (await it.store.next(({ doc }) => doc === "a")).reply(document("a", 1));
+  await until(() => ann.replies.length === 2);
+  assert.equal(it.store.asked.length, 0);
+  const order = [];
+  for (let k = 0; k < 7; k += 1) {
+    const { message, reply } = first.shift() ?? (await it.store.next());
+    order.push(message.doc);
+    reply(document(message.doc, 1));
+  }
+  assert.ok(order.indexOf("b") <= 4, order.join(" "));
+  await until(() => eve.replies.length === 7 && bob.replies.length === 2);
+});
+
+test("a user creates so many documents, in all and within an hour; what is refused doesn't count", async (t) => {
+  const it = await begun(t, { limits: { userCreations: 3, userCreationsHour: 2 } });
+  it.store.isNowhere = (doc) => !it.store.made.has(doc);
+  const ann = await Talk.begin(t, it.url, "a", as("ann"));
+  const create = (doc) => ({ do: "create", doc, n: 1, ops: [] });
+  const answer = async (reply) => {
+    const { message, reply: give } = await it.store.next();
+    give(reply ?? { doc: message.doc, n: 1, ok: "taken", rev: 1 });
+  };
+  for (const [doc, reply] of [["d1", undefined], ["d2", { code: 3, error: "BadOps" }], ["d2", undefined]]) {
+    const due = ann.replies.length + 1;
+    ann.send(create(doc));
+    await answer(reply);
+    await until(() => ann.replies.length === due);
+  }
+  assert.equal((await ann.ask(create("d3"))).code, 20, "two within an hour");
+  assert.equal(counted(it, 'creations_refused_total\\{limit="hour"\\}'), 1);
+  const bob = await Talk.begin(t, it.url, "b", as("bob"));
+  bob.send(create("d3"));
+  await answer();
+  await until(() => bob.replies.length === 2);
+  assert.equal(it.store.asked.length, 0);
+});
+
+test("how many documents a user has created is known after a start", async (t) => {
+  const data = folderFor(t);
+  const settings = { data, limits: { userCreations: 2 } };
+  const create = (doc) => ({ do: "create", doc, n: 1, ops: [] });
+  for (const [docs, codes] of [[["d1"], [undefined]], [["d2", "d3"], [undefined, 20]]]) {
+    const it = await begun(t, settings);
+    it.store.isNowhere = () => true;
+    const ann = await Talk.begin(t, it.url, "a", as("ann"));
+    for (const [index, doc] of docs.entries()) {
+      ann.send(create(doc));
+      if (codes[index] === undefined) {
+        const { message, reply } = await it.store.next();
+        reply({ doc: message.doc, n: 1, ok: "taken", rev: 1 });
+      }
+      await until(() => ann.replies.length === index + 2);
+      assert.equal(ann.replies.at(-1).code, codes[index], doc);
+    }
+    if (docs.length > 1) assert.equal(counted(it, 'creations_refused_total\\{limit="all"\\}'), 1);
+    await it.close();
   }
 });

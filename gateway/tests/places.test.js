@@ -45,7 +45,7 @@ class FakeEtcd {
     const [from, to] = [decoded(key), range_end && decoded(range_end)];
     const keys = [...this.kept.keys()].filter((it) => (to === undefined ? it === from : it >= from && it < to)).sort();
     const kvs = (limit > 0 ? keys.slice(0, limit) : keys).map((it) => ({ key: encoded(it), value: encoded(this.kept.get(it).value), mod_revision: String(this.kept.get(it).mod) }));
-    return kvs.length === 0 ? {} : { kvs };
+    return kvs.length === 0 ? {} : { kvs, count: String(keys.length) };
   }
 
   deleterange({ key, range_end }) {
@@ -126,12 +126,12 @@ for (const [kind, needs, Program] of [["a stub of etcd", {}, FakeEtcd], ["etcd",
     const { places, etcd } = await begun(t, [STORES[0]]);
     const client = etcd();
     const book = (pool, its) => new EtcdLeases({ etcd: etcd(), store: "s1", pool: async () => [`${pool}-0`], first: 1, term: 1_000, now: () => 0, places: its });
-    const keys = async () => [...(await client.under("place/")), ...(await client.under("lease/")), ...(await client.under("name/"))].map(({ key }) => key);
+    const keys = async () => [...(await client.under("place/")), ...(await client.under("lease/")), ...(await client.under("name/")), ...(await client.under("maker/"))].map(({ key }) => key);
     const one = book("g1", places);
     await places.find("d", true);
     assert.deepEqual(await keys(), []);
     const ann = await one.lend("d", "ann", true);
-    assert.deepEqual(await keys(), ["place/d", "lease/s1/d/ann", "name/s1/d/g1-0"]);
+    assert.deepEqual(await keys(), ["place/d", "lease/s1/d/ann", "name/s1/d/g1-0", "maker/ann/d"]);
     one.release("d", "ann", ann, true);
     await until(async () => (await keys()).length === 0);
     // a second creation of the same document, from another gateway
@@ -139,13 +139,14 @@ for (const [kind, needs, Program] of [["a stub of etcd", {}, FakeEtcd], ["etcd",
     const again = await one.lend("d", "ann", true);
     const others = new EtcdPlaces({ etcd: etcd(), stores: () => STORES });
     assert.equal(await others.find("d", true), "s1");
+    assert.deepEqual([await places.countOf("ann"), await places.countOf("an")], [1, 0]);
     const other = book("g2", others);
     const bob = await other.lend("d", "bob", true);
     one.release("d", "ann", again, true);
-    await until(async () => (await keys()).length === 3);
-    assert.deepEqual(await keys(), ["place/d", "lease/s1/d/bob", "name/s1/d/g2-0"]);
+    await until(async () => (await keys()).length === 5); // who tried is counted until a start
+    assert.deepEqual(await keys(), ["place/d", "lease/s1/d/bob", "name/s1/d/g2-0", "maker/ann/d", "maker/bob/d"]);
     other.release("d", "bob", bob, true);
-    await until(async () => (await keys()).length === 0);
+    await until(async () => (await keys()).length === 1);
   });
 
   it("what creations left that were never made is swept away, and nothing else", async (t) => {
@@ -157,6 +158,7 @@ for (const [kind, needs, Program] of [["a stub of etcd", {}, FakeEtcd], ["etcd",
       await put(`place/${doc}`, doc === "away" ? "s9" : "s1");
       await put(`lease/s1/${doc}/ann`, "{}");
       await put(`name/s1/${doc}/g-0`, "ann");
+      await put(`maker/ann/${doc}`, "");
     }
     await put("lease/s2/d0/ann", "{}"); // of a move
     const asked = new Map();
@@ -169,6 +171,7 @@ for (const [kind, needs, Program] of [["a stub of etcd", {}, FakeEtcd], ["etcd",
     assert.equal(await new Sweep({ etcd: client, stores, wait: 50, pause: 0 }).run(), 6);
     const left = (await Promise.all(["place/", "lease/", "name/"].map((text) => client.under(text)))).flat().map(({ key }) => key);
     assert.deepEqual(left, ["away", "late", "there"].map((doc) => `place/${doc}`).concat(...["lease", "name"].map((kind) => ["away", "late", "there"].map((doc) => `${kind}/s1/${doc}/${kind === "lease" ? "ann" : "g-0"}`))));
+    assert.deepEqual((await client.under("maker/")).map(({ key }) => key), ["away", "late", "there"].map((doc) => `maker/ann/${doc}`));
     assert.equal(await new Sweep({ etcd: client, stores, wait: 50, pause: 0 }).run(), 0);
   });
 
@@ -351,7 +354,7 @@ test("a creation that is refused leaves nothing in etcd, and one of what is ther
   for (const code of [3, 4, 9, 14, 15, 16, 17, 20]) {
     ann.send(create("d"), { do: "edit", doc: "d", n: 2, base: 1, ops: [] });
     const [creation, edit] = [await stores[0].next(), await stores[0].next()];
-    assert.equal(kept().length, 3);
+    assert.equal(kept().length, 4);
     creation.reply({ code, error: "Refused" });
     edit.reply({ code: 6, error: "NoDocument" });
     replies += 2;
@@ -362,8 +365,8 @@ test("a creation that is refused leaves nothing in etcd, and one of what is ther
   assert.deepEqual(await (await fetch(`http://127.0.0.1:${port}/docs`)).json(), { docs: [], next: null });
   ann.send(create("d"));
   (await stores[0].next()).reply({ code: 7, error: "Exists" });
-  await until(() => kept().length === 1);
-  assert.deepEqual(kept(), ["richd/place/d"]);
+  await until(() => kept().length === 2);
+  assert.deepEqual(kept().sort(), ["richd/maker/anybody/d", "richd/place/d"]);
 });
 
 test("with etcd away known places are served, others are to be sent again, and all goes on when it is back", async (t) => {
