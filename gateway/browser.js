@@ -14,8 +14,10 @@ const MOST_OWN = 1_000; // documents of which the last own revision is known
 const LATER = 50; // milliseconds until a browser that took too little is looked at again
 const PATIENCE = 10_000; // milliseconds that a message waits for a store that isn't there, then it is to be sent again
 const FRAME = 64; // bytes beside a line that count as its own: its end, and a frame's head
-const MOST_OWED = 10; // seconds that a user isn't read; where it would be more his sessions are closed
+const PIECE = 1_024; // bytes for which a message counts that ends no line, and a ping
+export const MOST_OWED = 10; // seconds that a user isn't read; where it would be more his sessions are closed
 const FAREWELL = 5_000; // milliseconds that a browser has to answer the end
+const MOST_PIECES = 1_000; // of a line, that are held one by one
 const LARGE = 65_536; // bytes of a line that is sent by itself
 const HELLO = Buffer.from('{"gateway":1,"ok":"hello"}\n');
 const EMPTY = Buffer.alloc(0);
@@ -49,6 +51,9 @@ export class Browser {
   #socket;
   #given;
   #unread = EMPTY;
+  /** @type {Buffer[]} what has come since, of a line that isn't whole */
+  #pieces = [];
+  #pieceBytes = 0;
   #skips = false; // the rest of a line that is too long
   /** @type {Slot[]} */
   #slots = [];
@@ -97,7 +102,8 @@ export class Browser {
     this.#address = address;
     socket._socket?.prependListener("data", this.#guarded((bytes) => this.#weigh(bytes.length)));
     socket.on("message", this.#guarded((bytes) => this.#read(bytes)));
-    socket.on("pong", () => (this.#isAlive = true));
+    socket.on("ping", this.#guarded(() => this.#charge()));
+    socket.on("pong", this.#guarded(() => (this.#isAlive ? this.#charge() : (this.#isAlive = true))));
     socket.on("close", this.#guarded(() => this.#leave()));
     socket.on("error", () => {}); // its close follows
   }
@@ -153,7 +159,7 @@ export class Browser {
   /** Counts the bytes that wait for it. */
   count() {
     if (this.isGone) return;
-    const bytes = this.#socket.bufferedAmount + this.#outBytes + this.#slotBytes + this.#backlogBytes + this.#unread.length;
+    const bytes = this.#socket.bufferedAmount + this.#outBytes + this.#slotBytes + this.#backlogBytes + this.#unread.length + this.#pieceBytes;
     this.#gateway.waiting.note(this, bytes);
   }
 
@@ -265,15 +271,24 @@ export class Browser {
     this.user.bytes.take(bytes);
     this.user.overhead.take(bytes);
     this.#address.bytes.take(bytes);
-    if (!this.#isOwing) setImmediate(this.#settleDebt); // once the lines among them are read
+    if (this.#isOwing || (this.user.bytes.owed === 0 && this.user.overhead.owed === 0 && this.#address.bytes.owed === 0)) return;
+    this.#isOwing = true;
+    this.#socket.pause(); // at once: a connection is read many times before anything else is looked at
+    setImmediate(this.#settleDebt, true); // once the lines among them are read
+  }
+
+  // A message that ends no line, and a ping, cost more than their bytes.
+  #charge() {
+    if (this.isGone) return;
+    this.user.overhead.take(PIECE);
+    if (this.user.overhead.owed > MOST_OWED) this.#settleDebt();
   }
 
   // Whose user owes isn't read until that is over, and is closed where it takes too long.
-  #settleDebt = this.#guarded(() => {
+  #settleDebt = this.#guarded((isFirst = false) => {
     if (this.isGone) return;
     const owed = { bytes: this.user.bytes.owed, overhead: this.user.overhead.owed, address: this.#address.bytes.owed };
     const [limit, seconds] = Object.entries(owed).sort(([, one], [, other]) => other - one)[0];
-    const wasOwing = this.#isOwing;
     this.#isOwing = seconds > 0;
     if (seconds > MOST_OWED) {
       this.#gateway.metrics.count("over_total", { limit });
@@ -281,19 +296,27 @@ export class Browser {
       return this.close(CODE.over, "more than you may send");
     }
     if (this.#isOwing) {
-      if (!wasOwing) {
+      if (isFirst) {
         this.#gateway.metrics.count("slowed_total", { limit });
         this.#gateway.log("a user sends more than he may, and is read later", { user: this.user.id, limit });
       }
       this.#socket.pause();
       setTimeout(this.#settleDebt, Math.max(LATER, 1_000 * seconds)).unref();
-    } else if (wasOwing) this.#pump();
+    } else this.#pump();
   });
 
   #read(bytes) {
     if (this.isGone) return;
-    this.#unread = this.#unread.length === 0 ? bytes : Buffer.concat([this.#unread, bytes]);
-    this.#pump();
+    this.#pieces.push(bytes);
+    this.#pieceBytes += bytes.length;
+    if (!bytes.includes(10)) this.#charge();
+    if (this.isGone) return;
+    const isWhole = bytes.includes(10) || this.#unread.length + this.#pieceBytes > MOST_LINE;
+    if (!isWhole && this.#pieces.length < MOST_PIECES) return;
+    this.#unread = this.#unread.length === 0 && this.#pieces.length === 1 ? bytes : Buffer.concat([this.#unread, ...this.#pieces]);
+    this.#pieces = [];
+    this.#pieceBytes = 0;
+    if (isWhole) this.#pump();
   }
 
   // Reads lines, sends what may be sent, gives the replies whose turn it is, until none of it does anything.
@@ -721,6 +744,7 @@ export class Browser {
     }
     for (const doc of [...this.#followed.keys()]) this.#unfollow(doc);
     this.#unread = EMPTY;
+    this.#pieces = [];
     this.#gateway.depart(this, this.#holder, this.#written);
   }
 }

@@ -44,7 +44,7 @@ export interface Limits {
   addressSessions: number;
   /** Messages of a user a second: 2,000. */
   userMessages: number;
-  /** Bytes a second of a user's connections, 4 MiB; of them those that are no lines, 16 KiB; and of an address's, 64 MiB. */
+  /** Bytes a second of a user's connections, 1 MiB; of them those that are no lines, 16 KiB; and of an address's, 64 MiB. */
   userBytes: number;
   userOverhead: number;
   addressBytes: number;

@@ -3,7 +3,7 @@
 import { randomBytes } from "node:crypto";
 import { mkdirSync, readdirSync } from "node:fs";
 import path from "node:path";
-import { Browser } from "./browser.js";
+import { Browser, MOST_OWED } from "./browser.js";
 import { CODE } from "./codes.js";
 import { Etcd } from "./etcd.js";
 import { Journal, readLines } from "./journal.js";
@@ -402,6 +402,15 @@ export class Gateway {
       webSocket.on("error", () => {});
       webSocket.close(CODE.full, "full");
       setTimeout(() => webSocket.terminate(), FAREWELL).unref();
+      return;
+    }
+    if (user.overhead.owed > MOST_OWED) {
+      this.metrics.count("over_total", { limit: "overhead" });
+      this.log("a user sends more than he may, and is closed", { user: id, limit: "overhead" });
+      webSocket.on("error", () => {});
+      webSocket.pause();
+      webSocket.close(CODE.over, "more than you may send");
+      setTimeout(() => webSocket.terminate(), SECOND).unref();
       return;
     }
     this.#users.set(id, user);

@@ -9,11 +9,12 @@ export const DEFAULTS = { name: "g", readers: 2, writers: 16, guests: 8, names: 
 const MIB = 1 << 20; // bytes
 export const LIMITS = {
   sessions: 20_000, userSessions: 200, addressSessions: 20_000,
-  userMessages: 2_000, userBytes: 4 * MIB, userOverhead: MIB / 64, addressBytes: 64 * MIB, userNames: 4, userDocuments: 1_000,
+  userMessages: 2_000, userBytes: MIB, userOverhead: MIB / 64, addressBytes: 64 * MIB, userNames: 4, userDocuments: 1_000,
   userCreations: 1_000, userCreationsHour: 100,
   lineBytes: 64 * MIB, newsBytes: 4 * MIB, waitingBytes: 256 * MIB, keptBytes: 64 * MIB,
 };
-const OF_EACH = ["userDocuments", "userCreations", "userCreationsHour"]; // which have no default where all are one user
+// The defaults where all are one user, but for names, of which he has all.
+const OF_ALL = { userBytes: 64 * MIB, userOverhead: MIB, userDocuments: 2 ** 31, userCreations: 2 ** 31, userCreationsHour: 2 ** 31 };
 export const HOOKS = ["authorize", "can", "onCommand", "onTaken"];
 const FIELDS = [...Object.keys(DEFAULTS), "stores", "data", "etcd", "rule", "origins", "hosts", "address", "limits", ...HOOKS, "log", "hidesMetrics"];
 
@@ -80,9 +81,8 @@ export function checkOrigins(origins) {
 export function checked(given) {
   for (const field of Object.keys(given)) demand(FIELDS.includes(field), `there is no setting ${field}`);
   for (const hook of HOOKS) demand(given[hook] === undefined || typeof given[hook] === "function", `${hook} is a function`);
-  const settings = { ...DEFAULTS, ...given, limits: { ...LIMITS, ...given.limits } };
-  if (given.authorize === undefined) settings.limits.userNames = given.limits?.userNames ?? settings.names; // all are one user
-  if (given.authorize === undefined) for (const limit of OF_EACH) settings.limits[limit] = given.limits?.[limit] ?? 2 ** 31;
+  const ofAll = given.authorize === undefined ? { ...OF_ALL, userNames: given.names ?? DEFAULTS.names } : {};
+  const settings = { ...DEFAULTS, ...given, limits: { ...LIMITS, ...ofAll, ...given.limits } };
   const { name, stores, readers, writers, guests, names, term, data, etcd, rule, origins, limits } = settings;
   demand(isText(name) && NAME.test(name), `name has 1 to 12 characters of A-Z a-z 0-9 . _ -, and not ${JSON.stringify(name)}`);
   checkStores(stores);

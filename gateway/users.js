@@ -1,20 +1,23 @@
 // Who is signed in, and how much he may do at once.
 
 const HOUR = 3_600; // seconds
-const MINUTE = 60; // seconds: a line may come in many pieces, which count until it is whole
+const PIECES = 1 << 17; // bytes: a line may come in pieces, which count until it is whole
 const MOST_NAME = 64; // characters of a name that others see
 
-/** So much a second, of which some seconds may come at once. Who takes more owes it. */
+/** So much a second, and so much at once. Who takes more owes it. */
 export class Allowance {
   #perSecond;
   #most;
   #left;
-  #countedAt = performance.now();
+  #now;
+  #countedAt;
 
-  /** @param {number} perSecond @param {number} [seconds]  that may come at once */
-  constructor(perSecond, seconds = 1) {
+  /** @param {number} perSecond @param {number} [atOnce] @param {() => number} [now] */
+  constructor(perSecond, atOnce = perSecond, now = () => performance.now()) {
+    this.#now = now;
+    this.#countedAt = now();
     this.#perSecond = perSecond;
-    this.#most = this.#left = perSecond * seconds;
+    this.#most = this.#left = atOnce;
   }
 
   /** @param {number} amount  that is taken, or given back */
@@ -43,7 +46,7 @@ export class Allowance {
   }
 
   #count() {
-    const now = performance.now();
+    const now = this.#now();
     this.#left = Math.min(this.#most, this.#left + ((now - this.#countedAt) / 1_000) * this.#perSecond);
     this.#countedAt = now;
   }
@@ -76,10 +79,10 @@ export class User {
   constructor(id, { userMessages, userBytes, userOverhead, userCreations, userCreationsHour }) {
     this.id = id;
     this.#most = userCreations;
-    this.#hourly = new Allowance(userCreationsHour / HOUR, HOUR);
+    this.#hourly = new Allowance(userCreationsHour / HOUR, userCreationsHour);
     this.#messages = new Allowance(userMessages);
     this.bytes = new Allowance(userBytes);
-    this.overhead = new Allowance(userOverhead, MINUTE);
+    this.overhead = new Allowance(userOverhead, userOverhead + PIECES);
   }
 
   /** Whether one more message of his is read now. */

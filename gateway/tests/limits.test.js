@@ -2,6 +2,7 @@
 
 import assert from "node:assert/strict";
 import test from "node:test";
+import { Allowance } from "../users.js";
 import { folderFor } from "./programs.js";
 import { FakeStore, Talk, gatewayFor, pause, until } from "./talk.js";
 
@@ -76,17 +77,34 @@ const PIECE = frame(0x02, Buffer.from("x")); // begins a message that has more
 const MORE = frame(0x00, Buffer.from("x"));
 const BYTE = frame(0x82, Buffer.from("x"));
 
-test("who sends what is no line isn't read for a while, and is closed where it is too much; nobody else is", async (t) => {
-  for (const [first, more] of [[PING, PING], [BYTE, BYTE], [PIECE, MORE]]) {
-    const it = await begun(t, { limits: { userOverhead: 100 } });
+test("so much a second, and so much at once; more is owed for a while", () => {
+  let now = 0;
+  const allowance = new Allowance(10, 30, () => now);
+  allowance.take(30);
+  assert.equal(allowance.owed, 0);
+  allowance.take(20);
+  assert.equal(allowance.owed, 2);
+  now += 1_000;
+  assert.equal(allowance.owed, 1);
+  allowance.take(-10);
+  assert.equal(allowance.owed, 0);
+  assert.equal(allowance.takesOne(), false);
+  now += 100;
+  assert.equal(allowance.takesOne(), true);
+  now += 1_000_000;
+  allowance.take(31);
+  assert.equal(allowance.owed, 0.1);
+});
+
+test("who sends much that is no line is closed, and nobody else is", async (t) => {
+  const AT_ONCE = 1 << 18;
+  // a ping, or a message that ends no line, counts for a kilobyte besides
+  for (const [begin, more, cost] of [[PING, PING, PING.length + 1_024], [BYTE, BYTE, BYTE.length + 1_024], [PIECE, MORE, MORE.length]]) {
+    const it = await begun(t, { limits: { userOverhead: 16 } });
     const [ann, eve] = [await Talk.begin(t, it.url, "a", as("ann")), await Talk.begin(t, it.url, "e", as("eve"))];
-    eve.socket._socket.write(Buffer.concat([first, ...Array(Math.ceil((60 * 100 + 400) / more.length)).fill(more)]));
-    await until(() => counted(it, 'slowed_total\\{limit="overhead"\\}') === 1);
-    assert.equal(eve.code, null);
-    await ann.ask({ do: "unsubscribe", doc: "d" });
-    const others = await Talk.begin(t, it.url, "e2", as("eve"));
-    others.socket._socket.write(Buffer.concat(Array(200).fill(PING)));
-    assert.equal(await others.closed(), 4429);
+    eve.socket._socket.write(Buffer.concat([begin, ...Array(Math.ceil(AT_ONCE / cost)).fill(more)]));
+    assert.equal(await eve.closed(), 4429);
+    assert.equal(await new Talk(it.url, as("eve")).closed(), 4429, "and not let in again until then");
     assert.ok(it.events.some(({ event, user, limit }) => event === "a user sends more than he may, and is closed" && user === "eve" && limit === "overhead"));
     assert.equal(ann.code, null);
     await ann.ask({ do: "unsubscribe", doc: "d" });
@@ -116,7 +134,7 @@ test("a user's bytes a second are read and no more, and so are an address's", as
     for (let k = 0; k < 150; k += 1) eve.send(`{"do":"unsubscribe","doc":"d"}${" ".repeat(1_000)}`);
     await ann.ask({ do: "unsubscribe", doc: "d" });
     await until(() => eve.replies.length === 151);
-    assert.ok(performance.now() - began > 1_500, "150 kB at 50 kB a second, after a first 50 kB");
+    assert.ok(performance.now() - began > 1_000, "150 kB at 50 kB a second, after a first 50 kB, and what was read before it was known");
     assert.ok(counted(it, `slowed_total\\{limit="${limit}"\\}`) > 0);
     assert.equal(eve.code, null);
   }
