@@ -16,6 +16,7 @@ const PATIENCE = 10_000; // milliseconds that a message waits for a store that i
 const FRAME = 64; // bytes beside a line that count as its own: its end, and a frame's head
 const PIECE = 1_024; // bytes for which a message counts that ends no line, and a ping
 export const MOST_OWED = 10; // seconds that a user isn't read; where it would be more his sessions are closed
+const SHORT_FAREWELL = 1_000; // where nothing more of it is read
 const FAREWELL = 5_000; // milliseconds that a browser has to answer the end
 const MOST_PIECES = 1_000; // of a line, that are held one by one
 const LARGE = 65_536; // bytes of a line that is sent by itself
@@ -151,9 +152,11 @@ export class Browser {
     this.#flush();
     this.#leave();
     if (this.isSlow) return this.#socket.terminate(); // its farewell would stand behind what it doesn't take, and hold that
-    if (this.#socket.isPaused) this.#socket.resume(); // else its farewell isn't read
+    const isFlood = code === CODE.over; // nothing more of it is read, its farewell neither
+    if (isFlood) this.#socket.pause();
+    else if (this.#socket.isPaused) this.#socket.resume(); // else its farewell isn't read
     this.#socket.close(code, why);
-    setTimeout(() => this.#socket.terminate(), FAREWELL).unref();
+    setTimeout(() => this.#socket.terminate(), isFlood ? SHORT_FAREWELL : FAREWELL).unref();
   }
 
   /** Counts the bytes that wait for it. */
@@ -268,6 +271,7 @@ export class Browser {
 
   // All bytes of its connection count, those of pings and of a message's pieces too. Those of a line that is whole are given back to what isn't lines.
   #weigh(bytes) {
+    if (this.isGone) return;
     this.user.bytes.take(bytes);
     this.user.overhead.take(bytes);
     this.#address.bytes.take(bytes);
