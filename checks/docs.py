@@ -32,7 +32,7 @@ TOP = pathlib.Path(__file__).resolve().parent.parent
 CRATES = TOP / "crates"
 
 # quoted words that no file of the crates has: of the kit, of systems, of other programs, and the parts of a name or of bytes
-ELSEWHERE = {"may_wait", "StateDirectory", "TCP_NODELAY", "perf", "chop", "_of_fault", "a5"}
+ELSEWHERE = {"may_wait", "RT_JOBS", "StateDirectory", "TCP_NODELAY", "perf", "chop", "_of_fault", "a5"}
 
 # phrases that a reader has to read twice, and what says the same at once
 PHRASES = {

@@ -4,7 +4,7 @@ use Rattle.disk.specs.Device.{State, overwritten}
 
 -- a call of the system with its answer
 pub data Event : Type 0 where
-  -- the file was opened, and held these bytes
+  -- the file was opened and settled, and its disk had these bytes
   Opened : (bytes : List ℕ) → Event
   -- a read gave these bytes, or failed
   Read : (at : ℕ) → (bytes : List ℕ) → Event
@@ -16,7 +16,7 @@ pub data Event : Type 0 where
   Sync : Event
   FailedSync : Event
 
--- the bytes that the file held when it was opened, with what was written since
+-- the bytes that the disk had when the file was opened, with what was written since
 abbrev pub content : List Event → List ℕ
 content [] = []
 content (Opened bytes ∷ events) = bytes

@@ -17,8 +17,8 @@ use std::rt::Files;
 
 /// A device over a file, of the length that the file had when it was opened.
 ///
-/// After a write or a sync that failed it fails every call until it is opened again, since a system may
-/// forget what a failed sync lost.
+/// After a write or a sync that failed it fails every call until it is opened again: a system may forget what a failed sync lost, and only
+/// opening makes what reads give and what the disk has one again.
 #[derive(Drop)]
 pub struct FileDisk<F: RawFile = HostFile> {
     file: F,
@@ -29,21 +29,24 @@ pub struct FileDisk<F: RawFile = HostFile> {
 }
 
 impl<F: RawFile> FileDisk<F> {
-    // A device over a file of this length that was just opened. Nothing of the file is read.
-    fn over(mut file: F, size: u64) -> FileDisk<F>
+    // A device over a file of this length that was just opened, once the file is settled; nothing of it is read. Where that fails it gives the
+    // file back.
+    fn over(mut file: F, size: u64) -> Result<FileDisk<F>, F>
         requires { F.events file ≡ [] }
-        ensures size { length (content (F.events result.file)) ≡ size }
-        ensures past { states (F.events result.file) ≡ [] }
-        ensures honest { IsHonest (F.events result.file) }
-        ensures faults { result.failures ≡ 0 }
+        ensures size { IfOk result (λ disk. length (content (F.events disk.file)) ≡ size) }
+        ensures past { IfOk result (λ disk. states (F.events disk.file) ≡ []) }
+        ensures honest { IfOk result (λ disk. IsHonest (F.events disk.file)) }
+        ensures faults { IfOk result (λ disk. disk.failures ≡ 0) }
     {
-        file.note_opened(size);
-        FileDisk {
+        if file.settle(size).is_err() {
+            return Err(file);
+        }
+        Ok(FileDisk {
             file,
             size,
             failures: 0,
             has_failed: false,
-        }
+        })
     }
 
     // No further call is made.
@@ -78,7 +81,8 @@ impl FileDisk {
     }
 
     /// Opens a file as a device of the file's length, and locks it: while another device of this file is there, in this program
-    /// or another one, that is refused. Nothing of it is read. Until a sync succeeds, nothing of it is known to be synced.
+    /// or another one, that is refused. Then the file is synced, and what the system holds of it in memory is dropped, so that reads give what
+    /// the disk has, whatever failed before. Nothing of it is read. Until a sync succeeds, nothing of it is known to be synced.
     pub fn open<R: Files<File = File>>(rt: &R, path: &str) -> Result<FileDisk, FileError>
         ensures past { IfOk result (λ disk. ⟦<FileDisk as Disk>⟧.past disk ≡ []) }
         ensures honest { IfOk result ⟦<FileDisk as Disk>⟧.honest }
@@ -91,7 +95,20 @@ impl FileDisk {
             Ok(metadata) => metadata.len(),
             Err(reason) => return Err(failed(Tried::Opening, reason)),
         };
-        Ok(FileDisk::over(HostFile::new(file), size))
+        FileDisk::settled(file, size)
+    }
+
+    // A device over a file of this length that was just opened: it is settled, and nothing of it is read.
+    fn settled(file: File, size: u64) -> Result<FileDisk, FileError>
+        ensures length { IfOk result (λ disk. length (⟦<FileDisk as Disk>⟧.seen disk) ≡ size) }
+        ensures past { IfOk result (λ disk. ⟦<FileDisk as Disk>⟧.past disk ≡ []) }
+        ensures honest { IfOk result ⟦<FileDisk as Disk>⟧.honest }
+        ensures faults { IfOk result (λ disk. ⟦<FileDisk as Disk>⟧.faults disk ≡ 0) }
+    {
+        match FileDisk::over(HostFile::new(file), size) {
+            Ok(disk) => Ok(disk),
+            Err(file) => Err(file.fault().unwrap_or(failed_sync())),
+        }
     }
 
     /// The first call on the file that failed since it was opened, and why; `None` where none has.
@@ -114,10 +131,9 @@ impl FileDisk {
         if let Err(reason) = file.set_len(len) {
             return Err(failed(Tried::Making, reason));
         }
-        let mut disk = FileDisk::over(HostFile::new(file), len);
+        let mut disk = FileDisk::settled(file, len)?;
         if disk.sync().is_err() {
-            let unknown = failed(Tried::Syncing, io::Error::from(ErrorKind::Other));
-            return Err(disk.fault().unwrap_or(unknown));
+            return Err(disk.fault().unwrap_or(failed_sync()));
         }
         match sync_folder(rt, path) {
             Ok(()) => Ok(disk),
@@ -128,6 +144,11 @@ impl FileDisk {
 
 fn failed(tried: Tried, reason: io::Error) -> FileError {
     FileError { tried, reason }
+}
+
+// A sync that failed for no reason that is known.
+fn failed_sync() -> FileError {
+    failed(Tried::Syncing, io::Error::from(ErrorKind::Other))
 }
 
 // Opens a file so, and locks it.

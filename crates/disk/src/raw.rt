@@ -1,10 +1,8 @@
-//! The calls of a file, one of the system each, noted with the answer.
+//! The calls of a file, noted with the answer.
 //!
 //! **What is not proved**, for a device over a file: that each method of `HostFile` makes the call that it
-//! notes, that what it notes at the opening is what the file holds, and that the system and its disk keep the model:
-//! nobody else writes the file, a read gives what was written (each promise on bytes that were read has this as its
-//! premise, `honest`), between two syncs that succeed only the ranges written in between can be lost, and a sync that
-//! succeeds has made them last. So the few lines of `HostFile` are to be read.
+//! notes, that what `settle` notes is what the file's disk holds, and that the system and this disk keep the model.
+//! docs/PROMISES.md, "What is trusted", says what that asks of them. So the few lines of `HostFile` are to be read.
 ghost use Rattle.std.specs.Prelude.{◌≡◌, ◌∷◌, [], ℕ, List, length, OnOk, OnErr};
 ghost use Rattle.disk.specs.Event.{Event, Opened, Read, FailedRead, Write, FailedWrite, Sync, FailedSync};
 
@@ -13,6 +11,7 @@ use crate::record::Record;
 use crate::tried::{FileError, Tried};
 use std::fs::{File, OpenFile};
 use std::io;
+use std::os::fd::AsRawFd;
 use std::os::unix::fs::FileExt;
 
 /// A file whose calls are kept, with their answers.
@@ -20,9 +19,12 @@ pub trait RawFile: Drop {
     /// The calls and their answers, newest first.
     ghost events: { Self → List Event };
 
-    /// Notes what a file of this length holds as it is opened. No clause says which bytes these are, and none is read.
-    fn note_opened(&mut self, len: u64)
-        ensures { (bytes : List ℕ) × ((length bytes ≡ len) × (events self.new ≡ Opened bytes ∷ events self.old)) };
+    /// Syncs a file of this length that was just opened, has the system drop its copies of what it holds, and notes that: what the disk has.
+    /// After a sync that failed, in any program, the system may call pages written that the disk lacks, and reads would give these. No clause
+    /// says which bytes the file holds, and none is read.
+    fn settle(&mut self, len: u64) -> Result<(), Fault>
+        ensures good { OnOk result
+            ((bytes : List ℕ) × ((length bytes ≡ len) × (events self.new ≡ Opened bytes ∷ events self.old))) };
 
     fn read_at(&mut self, at: u64, out: &mut [u8]) -> Result<(), Fault>
         ensures good { OnOk result (events self.new ≡ Read at out.new ∷ events self.old) }
@@ -75,13 +77,28 @@ impl HostFile {
     }
 }
 
+// Syncs a file, and has the system drop its copies of all pages, which it does with those that are written.
+fn synced_and_dropped(file: &File) -> io::Result<()> {
+    file.sync_data()?;
+    match libc::posix_fadvise(file.as_raw_fd(), 0, 0, libc::POSIX_FADV_DONTNEED) {
+        0 => Ok(()),
+        reason => Err(io::Error::from_raw_os_error(reason)),
+    }
+}
+
 impl RawFile for HostFile {
     ghost use Rattle.disk.specs.Raw.{events_of};
 
     ghost events = { events_of };
 
-    fn note_opened(&mut self, len: u64) {
-        self.record.note_opened(len);
+    fn settle(&mut self, len: u64) -> Result<(), Fault> {
+        match synced_and_dropped(&self.file) {
+            Ok(()) => {
+                self.record.note_opened(len);
+                Ok(())
+            }
+            Err(reason) => Err(self.keep(Tried::Syncing, reason)),
+        }
     }
 
     fn read_at(&mut self, at: u64, out: &mut [u8]) -> Result<(), Fault> {
