@@ -7,6 +7,7 @@ import { folderFor } from "./programs.js";
 import { FakeStore, Talk, gatewayFor, pause, until } from "./talk.js";
 
 const MIB = 1 << 20;
+const NEVER = 1_000_000_000; // milliseconds: who reads nothing isn't cut off for that
 
 async function begun(t, settings) {
   const store = await FakeStore.begin(t);
@@ -18,7 +19,7 @@ const counted = ({ gateway }, what) => Number(new RegExp(`^richd_gateway_${what}
 const document = (doc, bytes) => ({ doc, ok: "doc", ops: [{ insert: "x".repeat(bytes) }], rev: 1 });
 
 test("where too much waits for all browsers, the one for whom most waits is closed, and nobody else", async (t) => {
-  const it = await begun(t, { limits: { lineBytes: 24 * MIB, waitingBytes: 32 * MIB } });
+  const it = await begun(t, { pulse: NEVER, limits: { lineBytes: 12 * MIB, waitingBytes: 16 * MIB } });
   const [ann, bob, eve] = [await Talk.begin(t, it.url, "a", as("ann")), await Talk.begin(t, it.url, "b", as("bob")), await Talk.begin(t, it.url, "c", as("eve"))];
   for (const talk of [bob, eve]) talk.socket.pause();
   const fetched = async (talk, bytes, times = 1) => {
@@ -27,11 +28,11 @@ test("where too much waits for all browsers, the one for whom most waits is clos
     for (let k = 0; k < times; k += 1) asked.push(await it.store.next());
     for (const { reply } of asked) reply(document("d", bytes));
   };
-  await fetched(bob, 12 * MIB);
-  await fetched(eve, 20 * MIB, 3); // whatever the system takes of it, more than 32 MiB wait now
-  await until(() => counted(it, "overfull_total") === 1);
+  await fetched(bob, 6 * MIB);
+  await fetched(eve, 10 * MIB, 3); // whatever the system takes of it, more than 16 MiB wait now
+  await until(() => counted(it, "overfull_total") === 1, "the end of eve's session", 120_000);
   await until(() => counted(it, "sessions") === 2);
-  assert.ok(counted(it, "waiting_bytes") <= 32 * MIB);
+  assert.ok(counted(it, "waiting_bytes") <= 16 * MIB);
   assert.deepEqual(it.events.filter(({ event }) => event.startsWith("too much waits")).map(({ user }) => user), ["eve"]);
   await fetched(ann, MIB);
   await until(() => ann.replies.length === 2);
@@ -41,7 +42,7 @@ test("where too much waits for all browsers, the one for whom most waits is clos
 });
 
 test("news that are kept of all documents have one bound, and who is behind them is told to fetch", async (t) => {
-  const it = await begun(t, { limits: { newsBytes: MIB, keptBytes: 2 * MIB } });
+  const it = await begun(t, { pulse: NEVER, limits: { newsBytes: MIB, keptBytes: 2 * MIB } });
   const [ann, bob] = [await Talk.begin(t, it.url, "a", as("ann")), await Talk.begin(t, it.url, "b", as("bob"))];
   const docs = Array.from({ length: 60 }, (_, index) => `d${index}`);
   const replies = new Map();
@@ -126,16 +127,17 @@ test("lines aren't counted as what is no line, however long and in how many piec
 });
 
 test("a user's bytes a second are read and no more, and so are an address's", async (t) => {
-  for (const [limits, limit] of [[{ userBytes: 50_000 }, "bytes"], [{ addressBytes: 50_000 }, "address"]]) {
+  for (const [limits, limit] of [[{ userBytes: 2_000 }, "bytes"], [{ addressBytes: 2_000 }, "address"]]) {
     const it = await begun(t, { address: { header: "X-Real-IP" }, limits });
     const from = (user, address) => ({ headers: { "x-user": user, "x-real-ip": address } });
     const [ann, eve] = [await Talk.begin(t, it.url, "a", from("ann", "10.0.0.1")), await Talk.begin(t, it.url, "e", from("eve", "10.0.0.1, 10.0.0.2"))];
     const began = performance.now();
-    for (let k = 0; k < 150; k += 1) eve.send(`{"do":"unsubscribe","doc":"d"}${" ".repeat(1_000)}`);
-    await ann.ask({ do: "unsubscribe", doc: "d" });
-    await until(() => eve.replies.length === 151);
-    assert.ok(performance.now() - began > 1_000, "150 kB at 50 kB a second, after a first 50 kB, and what was read before it was known");
-    assert.ok(counted(it, `slowed_total\\{limit="${limit}"\\}`) > 0);
+    const small = { do: "unsubscribe", doc: "d" };
+    await eve.ask(JSON.stringify(small) + " ".repeat(10_000)); // five seconds' bytes
+    await until(() => counted(it, `slowed_total\\{limit="${limit}"\\}`) === 1);
+    await ann.ask(small);
+    await eve.ask(small);
+    assert.ok(performance.now() - began > 3_000);
     assert.equal(eve.code, null);
   }
 });
