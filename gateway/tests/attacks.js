@@ -53,7 +53,7 @@ export const onCommand = ({ doc }) => (doc === "locked" ? undefined : true);
 `);
     const file = path.join(folderFor(this), "settings.json");
     const stores = [{ name: "s1", host: "127.0.0.1", port: this.store.port }];
-    writeFileSync(file, JSON.stringify({ listen: "127.0.0.1:0", data: this.data, stores, module: this.rights, names: 400, ...settings(stores) }));
+    writeFileSync(file, JSON.stringify({ listen: "127.0.0.1:0", data: this.data, stores, module: this.rights, ...settings(stores) }));
     const [program, ...words] = [...command, process.execPath, PROGRAM, "--settings", file];
     this.gateway = started(this, program, words);
     this.port = found(/:(\d+)\/$/, await lineOf(this.gateway));
