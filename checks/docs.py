@@ -11,6 +11,7 @@ usage: checks/docs.py     in any folder; it prints a line for each finding, and 
 - Where docs/PROMISES.md names clauses behind a function, as `Store::commit` (`committed`, `done`), one function or type of that name has them all.
 - The files that docs/PROMISES.md says to read in an hour and in an afternoon have so many lines, and so many together.
 - docs/TESTS.md has as many tests, crates of tests, rows, wrong bodies and calls of scripts as there are, and names each script of checks/.
+- What stands behind the rows of test_server's `stdout` is set in, and the rest is its `stdin`.
 - A link of these pages leads to a file, and to a heading of it.
 - Each public function, type and trait of the crates has a comment.
 - No comment of the crates' .rt and .antt files, and no page, has a phrase of PHRASES, which says what to write in its place. The lines of one
@@ -237,15 +238,24 @@ def check_counts():
     document = TOP / "docs/TESTS.md"
     tests = [sum(it.read_text().count("#[test]") for it in files(crate, ".rt")) for crate in CRATES.glob("test_*")]
     rows = [line for line in (CRATES / "test_rows/stdin").read_text().splitlines() if line and not line.startswith("#")]
+    runs = re.findall(r"^(?:richd|store|sessions|address)\b", (CRATES / "test_server/stdin").read_text(), re.M)
     calls = [int(it) for it in re.findall(r"^    calls: (\d+),", (CRATES / "test_hostile/src/scripts.rt").read_text(), re.M)]
     crates, edits = sum(it > 0 for it in tests), len([*CRATES.glob("*/must-fail/*.edit")])
-    count = f"{sum(tests)} tests in {crates} crates, {len(rows)} rows of deltas, {edits} wrong bodies"
+    count = f"{sum(tests)} tests in {crates} crates, {len(rows)} rows of deltas, {len(runs)} runs by rows, {edits} wrong bodies"
     for wanted in (count, f"scripts of {sum(calls)} calls"):
         if wanted not in document.read_text():
             find(document, f"this should stand there: {wanted}")
     for script in sorted((TOP / "checks").glob("*.py")):
         if f"usage: checks/{script.name}" in script.read_text() and script.name not in document.read_text():
             find(script, "docs/TESTS.md doesn't name it")
+
+
+# A row of runs stands in both files.
+def check_rows():
+    folder = CRATES / "test_server"
+    rows = [line for line in (folder / "stdout").read_text().splitlines() if not line.startswith("  ")]
+    if rows != (folder / "stdin").read_text().splitlines():
+        find(folder / "stdin", "it hasn't the rows of stdout")
 
 
 def check_comments():
@@ -318,6 +328,7 @@ check_callers()
 check_quoted()
 check_lengths()
 check_counts()
+check_rows()
 check_comments()
 check_phrases()
 check_names()

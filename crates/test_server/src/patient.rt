@@ -1,0 +1,49 @@
+//! A stream that is written where it has room.
+use server::Patient;
+use std::io::{self, Read, Write};
+use std::net::Net;
+use std::os::fd::AsRawFd;
+use std::rt::Files;
+
+// Writes to a stream until it takes no more, which comes within so many pieces.
+fn is_filled<W: Write>(stream: &mut W, pieces: usize) -> bool {
+    for _ in 0..pieces {
+        if stream.write_all(&[b'x'; 4096]).is_err() {
+            return true;
+        }
+    }
+    false
+}
+
+// Whether the stream takes a byte.
+fn takes<W: Write>(stream: &mut W) -> &'static str {
+    if stream.write_all(b"y").is_ok() {
+        "taken"
+    } else {
+        "refused"
+    }
+}
+
+/// What is written over a pipe while it has no room, once it has some, and once nobody reads it.
+pub fn tried<R: Files + Net + AllocGlobal>(rt: &R) -> io::Result<String> {
+    let (reader, writer) = io::pipe(rt)?;
+    over(rt, reader, writer)
+}
+
+fn over<R: Net + AllocGlobal, I: Drop + Read, W: Drop + Write + AsRawFd>(
+    rt: &R,
+    mut reader: I,
+    writer: W,
+) -> io::Result<String> {
+    let mut stream = Patient::new(rt, writer);
+    let is_filled = is_filled(&mut stream, 1_000);
+    let full = takes(&mut stream);
+    let mut taken = [0; 8192];
+    let has_some = reader.read(&mut taken)? > 0;
+    let emptied = takes(&mut stream);
+    drop(reader);
+    let closed = takes(&mut stream);
+    Ok(format!(in rt.alloc();
+        "filled: {is_filled}\nfull: {full}\nread: {has_some}\nthen: {emptied}\nclosed: {closed}\n"
+    )?)
+}
