@@ -1,6 +1,7 @@
 // A browser's virtual session: its lines, answered as a session of its own at the store would answer them. Messages stand in a row, each with
 // its reply once that is there, and replies leave from the row's head alone.
 
+import { CODE } from "./codes.js";
 import { MOST_LINE, KIND, PROBE, REFUSAL, codeOf, isAgain, readMessage, revOf } from "./messages.js";
 import { Subscription, endedLine } from "./news.js";
 import { nameOf } from "./users.js";
@@ -12,22 +13,33 @@ const MOST_BUFFERED = 1 << 20; // bytes that the browser hasn't taken; then it g
 const MOST_OWN = 1_000; // documents of which the last own revision is known
 const LATER = 50; // milliseconds until a browser that took too little is looked at again
 const PATIENCE = 10_000; // milliseconds that a message waits for a store that isn't there, then it is to be sent again
+const FRAME = 64; // bytes beside a line that count as its own: its end, and a frame's head
+const PIECE = 1_024; // bytes for which a message counts that ends no line, and a ping
+export const MOST_OWED = 10; // seconds that a user isn't read; where it would be more his sessions are closed
+const SHORT_FAREWELL = 1_000; // where nothing more of it is read
 const FAREWELL = 5_000; // milliseconds that a browser has to answer the end
+const MOST_PIECES = 1_000; // of a line, that are held one by one
 const LARGE = 65_536; // bytes of a line that is sent by itself
 const HELLO = Buffer.from('{"gateway":1,"ok":"hello"}\n');
 const EMPTY = Buffer.alloc(0);
 const FULL_STORE = 20;
+const NOT_ALLOWED = 60;
 const NO_DOCUMENT = 6;
-const NOT_MADE = [3, 4, 7, 15, 16, 17, FULL_STORE]; // a creation that is refused so used no number
+const EXISTS = 7;
+const NOT_MADE = [3, 4, EXISTS, 9, 14, 15, 16, 17, FULL_STORE]; // a creation that is refused so used no number
 const UNKNOWN = [21, 22]; // a command that is refused so may have been taken
 
 /**
  * @typedef {object} Slot  a message in the row
  * @property {string} kind
  * @property {any} [message]
+ * @property {number} [bytes]  of the message, and of its reply
  * @property {Buffer} [reply]
  * @property {boolean} [isAllowed]
  * @property {boolean} [needsLease]  its holder may have a new lease in its document
+ * @property {boolean} [isNew]  it creates a document that is nowhere
+ * @property {boolean} [isCounted]  among its user's creations
+ * @property {boolean} [waitsForName]
  * @property {boolean} [isAsking]  something is found out before it can be sent
  * @property {boolean} [isSent]  to the sessions of a store, where it may still wait
  * @property {{ isSent: boolean, isWanted: boolean }} [ticket]
@@ -40,6 +52,9 @@ export class Browser {
   #socket;
   #given;
   #unread = EMPTY;
+  /** @type {Buffer[]} what has come since, of a line that isn't whole */
+  #pieces = [];
+  #pieceBytes = 0;
   #skips = false; // the rest of a line that is too long
   /** @type {Slot[]} */
   #slots = [];
@@ -47,6 +62,7 @@ export class Browser {
   #own = new Map(); // doc -> the revision of the last own command that was answered
   /** @type {Map<string, { subscription: Subscription, news: import("./news.js").News }>} */
   #followed = new Map();
+  #judgedAt = new Map(); // doc -> when the right to read it was asked for last
   #written = new Set(); // documents with a lease
   /** @type {Buffer[]} */
   #out = [];
@@ -56,13 +72,19 @@ export class Browser {
   #taken = 0; // of them, at the last look
   #isAlive = true;
   #wasSlow = false; // at the last look
+  #address;
+  #isOwing = false;
   #holder;
   #isPumping = false;
   #isPumpDue = false;
   #isEnding = false;
   #timer;
 
+  #slotBytes = 0; // of the messages in the row, and of their replies
+  #backlogBytes = 0; // of news that wait behind a subscription
+
   isGone = false;
+  waiting = 0; // bytes, at the last count
 
   /**
    * @param {any} gateway  what the gateway has for its browsers, see gateway.js
@@ -70,17 +92,41 @@ export class Browser {
    * @param {import("./users.js").User} user
    * @param {any} given  the user as `authorize` gave him for this session
    * @param {number} id
+   * @param {import("./users.js").Address} address
    */
-  constructor(gateway, socket, user, given, id) {
+  constructor(gateway, socket, user, given, id, address) {
     this.#gateway = gateway;
     this.#socket = socket;
     this.user = user;
     this.#given = given;
     this.id = id;
-    socket.on("message", (bytes) => this.#read(bytes));
-    socket.on("pong", () => (this.#isAlive = true));
-    socket.on("close", () => this.#leave());
+    this.#address = address;
+    socket._socket?.prependListener("data", this.#guarded((bytes) => this.#weigh(bytes.length)));
+    socket.on("message", this.#guarded((bytes) => this.#read(bytes)));
+    socket.on("ping", this.#guarded(() => this.#charge()));
+    socket.on("pong", this.#guarded(() => (this.#isAlive ? this.#charge() : (this.#isAlive = true))));
+    socket.on("close", this.#guarded(() => this.#leave()));
     socket.on("error", () => {}); // its close follows
+  }
+
+  // A call whose fault ends this session, and nothing else.
+  #guarded(act) {
+    return (...words) => {
+      try {
+        return act(...words);
+      } catch (error) {
+        this.#gateway.fault(error, { user: this.user.id });
+        this.#fail();
+      }
+    };
+  }
+
+  #fail() {
+    try {
+      this.close(CODE.fault, "a fault of the gateway");
+    } catch {
+      this.#socket.terminate();
+    }
   }
 
   /** Its user's name, as others see it. */
@@ -94,21 +140,41 @@ export class Browser {
   }
 
   /** Gives it lines besides its replies. @param {Buffer} lines */
-  say(lines) {
+  say = this.#guarded((lines) => {
     if (this.isGone) return;
     this.#give(lines);
     this.#flush();
-  }
+  });
 
   /** Ends it now. @param {number} code @param {string} why */
   close(code, why) {
     if (this.isGone) return;
     this.#flush();
     this.#leave();
-    if (this.#socket.isPaused) this.#socket.resume(); // else its farewell isn't read
+    if (this.isSlow) return this.#socket.terminate(); // its farewell would stand behind what it doesn't take, and hold that
+    const isFlood = code === CODE.over; // nothing more of it is read, its farewell neither
+    if (isFlood) this.#socket.pause();
+    else if (this.#socket.isPaused) this.#socket.resume(); // else its farewell isn't read
     this.#socket.close(code, why);
-    setTimeout(() => this.#socket.terminate(), FAREWELL).unref();
+    setTimeout(() => this.#socket.terminate(), isFlood ? SHORT_FAREWELL : FAREWELL).unref();
   }
+
+  /** Counts the bytes that wait for it. */
+  count() {
+    if (this.isGone) return;
+    const bytes = this.#socket.bufferedAmount + this.#outBytes + this.#slotBytes + this.#backlogBytes + this.#unread.length + this.#pieceBytes;
+    this.#gateway.waiting.note(this, bytes);
+  }
+
+  /** Ends it, as more waits for it than there is room for. */
+  closeAsSlow = this.#guarded(() => {
+    if (this.isGone) return;
+    this.#gateway.metrics.count("overfull_total");
+    this.#gateway.log("too much waits for browsers, so the slowest is closed", { user: this.user.id, bytes: this.waiting });
+    this.#out = []; // what it doesn't get anyway
+    this.#outBytes = 0;
+    this.close(CODE.later, "too much waits for you");
+  });
 
   /** Ends it once its commands that were sent are answered. No others are sent. */
   finish() {
@@ -118,7 +184,7 @@ export class Browser {
   }
 
   /** Looks whether it is there: it has answered the last ping, or taken bytes since the last look. */
-  look() {
+  look = this.#guarded(() => {
     const taken = this.#givenBytes - this.#socket.bufferedAmount;
     const isSilent = !this.#isAlive && !this.#socket.isPaused; // its pong isn't read while no more messages are
     const isStuck = this.isSlow && this.#wasSlow;
@@ -130,10 +196,10 @@ export class Browser {
     this.#wasSlow = this.isSlow;
     this.#isAlive = false;
     this.#socket.ping();
-  }
+  });
 
   /** Has it send again what waits too long for a store. */
-  giveUpWaiting() {
+  giveUpWaiting = this.#guarded(() => {
     const now = performance.now();
     let hasGivenUp = false;
     for (const slot of this.#slots) {
@@ -141,19 +207,124 @@ export class Browser {
       if (reply !== undefined || !(now - slot.since > PATIENCE) || (kind === "command" && ticket?.isSent)) continue;
       if (ticket !== undefined) ticket.isWanted = false;
       slot.reply = REFUSAL.NoMemory;
+      if (ticket === undefined) this.#uncount(slot, false);
       hasGivenUp = true;
     }
     if (hasGivenUp) this.#pump();
+  });
+
+  /**
+   * Asks for its rights again, where it is told of a document: what its user may no longer read ends by 60.
+   * @param {number} before  those that were asked for last before this time
+   * @param {string} [only]  one document alone
+   */
+  judgeAgain = this.#guarded((before, only) => {
+    const told = new Set([...this.#followed.keys(), ...this.#gateway.presence.docsOf(this)]);
+    for (const doc of this.#judgedAt.keys()) if (!told.has(doc)) this.#judgedAt.delete(doc);
+    for (const doc of told) {
+      if ((only ?? doc) !== doc) continue;
+      if (!this.#judgedAt.has(doc)) this.#judgedAt.set(doc, performance.now());
+      if (this.#judgedAt.get(doc) > before) continue;
+      this.#judgedAt.set(doc, Infinity); // until it is known
+      this.#gateway.mayRead(this.#given, doc).then(this.#guarded((may) => {
+        this.#judgedAt.set(doc, performance.now());
+        if (!may && !this.isGone) this.#endDocument(doc);
+      }), (error) => {
+        this.#judgedAt.set(doc, performance.now());
+        this.#gateway.log("rights can't be asked for again now", { user: this.user.id, doc, error: error?.message });
+      });
+    }
+  });
+
+  /** What it waits for and isn't sent is judged anew, and what it was given nothing of yet. @param {string} [only] */
+  judgeWaiting = this.#guarded((only) => {
+    for (const slot of this.#slots) {
+      const { message, kind, ticket } = slot;
+      const isRead = kind === "fetch" || kind === "since";
+      if (message === undefined || (only ?? message.doc) !== message.doc || (!isRead && (ticket?.isSent || slot.reply !== undefined))) continue;
+      if (isRead && slot.reply !== undefined && codeOf(slot.reply) !== 0) continue;
+      this.#gateway.mayDo(this.#given, message.doc, message.do).then(this.#guarded((may) => {
+        if (may || (!isRead && (slot.reply !== undefined || slot.ticket?.isSent))) return;
+        if (slot.ticket !== undefined) slot.ticket.isWanted = false;
+        slot.followed?.news.leave(slot.followed.subscription);
+        slot.followed = undefined;
+        slot.reply = REFUSAL.NotAllowed;
+        this.#pump();
+      }), () => {});
+    }
+  });
+
+  #endDocument(doc) {
+    this.#gateway.metrics.count("rights_ended_total");
+    this.#gateway.log("a user may no longer read what he is told of", { user: this.user.id, doc });
+    this.#gateway.presence.end(this, doc);
+    if (!this.#followed.has(doc)) return;
+    this.#give(endedLine(doc, NOT_ALLOWED));
+    this.#unfollow(doc);
+    this.#flush();
   }
+
+  /** How many documents it is told of. */
+  get documents() {
+    return this.#followed.size + this.#gateway.presence.countOf(this);
+  }
+
+  // All bytes of its connection count, those of pings and of a message's pieces too. Those of a line that is whole are given back to what isn't lines.
+  #weigh(bytes) {
+    if (this.isGone) return;
+    this.user.bytes.take(bytes);
+    this.user.overhead.take(bytes);
+    this.#address.bytes.take(bytes);
+    if (this.#isOwing || (this.user.bytes.owed === 0 && this.user.overhead.owed === 0 && this.#address.bytes.owed === 0)) return;
+    this.#isOwing = true;
+    this.#socket.pause(); // at once: a connection is read many times before anything else is looked at
+    setImmediate(this.#settleDebt, true); // once the lines among them are read
+  }
+
+  // A message that ends no line, and a ping, cost more than their bytes.
+  #charge() {
+    if (this.isGone) return;
+    this.user.overhead.take(PIECE);
+    if (this.user.overhead.owed > MOST_OWED) this.#settleDebt();
+  }
+
+  // Whose user owes isn't read until that is over, and is closed where it takes too long.
+  #settleDebt = this.#guarded((isFirst = false) => {
+    if (this.isGone) return;
+    const owed = { bytes: this.user.bytes.owed, overhead: this.user.overhead.owed, address: this.#address.bytes.owed };
+    const [limit, seconds] = Object.entries(owed).sort(([, one], [, other]) => other - one)[0];
+    this.#isOwing = seconds > 0;
+    if (seconds > MOST_OWED) {
+      this.#gateway.metrics.count("over_total", { limit });
+      this.#gateway.log("a user sends more than he may, and is closed", { user: this.user.id, limit });
+      return this.close(CODE.over, "more than you may send");
+    }
+    if (this.#isOwing) {
+      if (isFirst) {
+        this.#gateway.metrics.count("slowed_total", { limit });
+        this.#gateway.log("a user sends more than he may, and is read later", { user: this.user.id, limit });
+      }
+      this.#socket.pause();
+      setTimeout(this.#settleDebt, Math.max(LATER, 1_000 * seconds)).unref();
+    } else this.#pump();
+  });
 
   #read(bytes) {
     if (this.isGone) return;
-    this.#unread = this.#unread.length === 0 ? bytes : Buffer.concat([this.#unread, bytes]);
-    this.#pump();
+    this.#pieces.push(bytes);
+    this.#pieceBytes += bytes.length;
+    if (!bytes.includes(10)) this.#charge();
+    if (this.isGone) return;
+    const isWhole = bytes.includes(10) || this.#unread.length + this.#pieceBytes > MOST_LINE;
+    if (!isWhole && this.#pieces.length < MOST_PIECES) return;
+    this.#unread = this.#unread.length === 0 && this.#pieces.length === 1 ? bytes : Buffer.concat([this.#unread, ...this.#pieces]);
+    this.#pieces = [];
+    this.#pieceBytes = 0;
+    if (isWhole) this.#pump();
   }
 
   // Reads lines, sends what may be sent, gives the replies whose turn it is, until none of it does anything.
-  #pump() {
+  #pump = this.#guarded(() => {
     if (this.#isPumping) {
       this.#isPumpDue = true;
       return;
@@ -168,12 +339,13 @@ export class Browser {
     } while (this.#isPumpDue && !this.isGone);
     this.#isPumping = false;
     this.#flush();
+    this.count();
     if (this.isGone) return;
-    if (this.#isEnding && !this.#slots.some(isOnItsWay)) return this.close(1012, "the gateway ends");
-    const waits = this.#slots.length >= MOST_WAITING || this.#unread.includes(10);
+    if (this.#isEnding && !this.#slots.some(isOnItsWay)) return this.close(CODE.ends, "the gateway ends");
+    const waits = this.#isOwing || this.#slots.length >= MOST_WAITING || this.#unread.includes(10);
     if (waits) this.#socket.pause();
     else if (this.#socket.isPaused) this.#socket.resume();
-  }
+  });
 
   #readLines() {
     while (!this.isGone && !this.#isEnding && this.#slots.length < MOST_WAITING) {
@@ -181,6 +353,7 @@ export class Browser {
       if (at === -1) break;
       if (!this.user.takesTurn()) return this.#pumpLater();
       const line = this.#unread.subarray(0, at);
+      this.user.overhead.take(-Math.min(line.length, MOST_LINE) - FRAME);
       this.#unread = this.#unread.subarray(at + 1);
       if (this.#skips) this.#skips = false;
       else if (line.length > MOST_LINE) this.#refuse(REFUSAL.LineTooLong);
@@ -202,8 +375,9 @@ export class Browser {
     if (refusal !== undefined) return this.#refuse(refusal);
     if (message.do === "hello") return this.#greet(message.source);
     /** @type {Slot} */
-    const slot = { kind: KIND[message.do], message, since: performance.now() };
+    const slot = { kind: KIND[message.do], message, since: performance.now(), bytes: line.length };
     this.#slots.push(slot);
+    this.#slotBytes += line.length;
     this.#open.set(message.doc, (this.#open.get(message.doc) ?? 0) + 1);
     const verdict = this.#gateway.judge(this.#given, message);
     if (typeof verdict === "boolean") this.#judged(slot, verdict);
@@ -233,7 +407,7 @@ export class Browser {
       if (!slot.isSent) {
         const isRead = slot.kind === "fetch" || slot.kind === "since";
         if (isRead && this.isSlow) return this.#pumpLater();
-        if ((isRead && asked >= this.#readsAtOnce) || !slot.isAllowed || slot.isAsking || !this.#send(slot)) return;
+        if ((isRead && asked >= this.#readsAtOnce) || !slot.isAllowed || slot.isAsking || slot.waitsForName || !this.#send(slot)) return;
       }
       if (slot.reply !== undefined) continue;
       kind = slot.kind;
@@ -244,6 +418,13 @@ export class Browser {
   // Sends a message to its store, or answers it. Gives whether the next one may follow.
   #send(slot) {
     const { kind, message: { do: what, doc } } = slot;
+    const isToldMore = (what === "subscribe" && !this.#followed.has(doc)) || (kind === "presence" && slot.message.at !== null && !this.#gateway.presence.has(this, doc));
+    if (isToldMore && this.user.documents >= this.#gateway.mostDocuments) {
+      this.#gateway.metrics.count("rooms_refused_total");
+      this.#gateway.log("a user follows more documents than he may", { user: this.user.id });
+      slot.reply = REFUSAL.NotAllowed;
+      return true;
+    }
     if (kind === "presence") return this.#reply(slot, `{"doc":"${doc}","ok":"presence"}\n`);
     if (what === "unsubscribe") return this.#reply(slot, `{"doc":"${doc}","ok":"unsubscribed"}\n`);
     const { places, stores } = this.#gateway;
@@ -285,43 +466,89 @@ export class Browser {
     if (!slot.needsLease && !store.leases.has(message.doc, this.#holder)) {
       return this.#find(slot, store.standing(message.doc, () => !this.isGone), (standing) => this.#needLease(slot, standing, store.leases));
     }
-    const lease = store.leases.lend(message.doc, this.#holder);
-    if (lease instanceof Promise) return this.#find(slot, lease, (found) => found === undefined && (slot.reply ??= REFUSAL.TooManySources));
-    if (lease === undefined) slot.reply = REFUSAL.TooManySources;
-    else if (kind === "lease") slot.reply = leaseLine(message.doc, Object.assign(lease, { isTold: true }));
+    this.#written.add(message.doc);
+    const lease = kind === "lease" ? store.leases.reserve(message.doc, this.#holder) : store.leases.lend(message.doc, this.#holder, slot.isNew);
+    if (lease instanceof Promise) return this.#find(slot, lease, (found) => found === undefined && this.#waitForName(slot, store));
+    if (lease === undefined) return this.#waitForName(slot, store);
+    const { places } = this.#gateway;
+    if (message.do === "create" && places.isOpen(message.doc)) return this.#find(slot, places.place(message.doc, store.name, this.user.id), () => {});
+    if (kind === "lease") slot.reply = leaseLine(message.doc, Object.assign(lease, { isTold: true }));
     else if (message.do === "undo" && lease.epoch > 1 && !lease.isOwn) {
       if (this.#slots.some((it) => it !== slot && isWaiting(it) && it.message.doc === message.doc)) return false; // it may become one's own
       slot.reply = REFUSAL.NothingToUndo; // what there is was another's
     } else this.#command(slot, store, lease);
-    this.#written.add(message.doc);
     return true;
+  }
+
+  // All names are lent in a document: it is asked again as they come back. Gives that the next message may not follow.
+  #waitForName(slot, store) {
+    const { kind, message: { doc } } = slot;
+    const ask = async () => (kind === "lease" ? store.leases.reserve(doc, this.#holder) : store.leases.lend(doc, this.#holder, slot.isNew));
+    slot.waitsForName = true;
+    store.waitForName(this.user.id, doc, {
+      user: this.user.id,
+      isWanted: () => !this.isGone && slot.reply === undefined,
+      isServed: async () => {
+        if ((await ask()) === undefined) return false;
+        slot.waitsForName = false;
+        this.#pump();
+        return true;
+      },
+    });
+    return false;
   }
 
   // A name isn't lent for a document that is nowhere, and none is needed to be told that one is there already.
   async #needLease(slot, standing, leases) {
     const { do: what, doc } = slot.message;
     const isCreation = what === "create";
+    const { places } = this.#gateway;
+    if (isCreation && standing !== "nowhere" && places.isOpen(doc)) await places.place(doc, places.cached(doc), this.user.id); // the store had it before its place
     if (isCreation && standing === "there" && !(await leases.isHeld(doc, this.#holder))) slot.reply ??= REFUSAL.Exists;
     else if (!isCreation && standing === "nowhere") slot.reply ??= REFUSAL.NoDocument;
     else slot.needsLease = true;
+    if (isCreation && standing === "nowhere" && !slot.isNew) await this.#countCreation(slot);
+  }
+
+  // A store has places for so many documents in its life: a user may take some of them.
+  async #countCreation(slot) {
+    const limit = await this.user.creates(() => this.#gateway.places.countOf(this.user.id));
+    if (limit === undefined) {
+      slot.isNew = slot.isCounted = true;
+      if (slot.reply !== undefined || this.isGone) this.#uncount(slot, false);
+      return;
+    }
+    this.#gateway.metrics.count("creations_refused_total", { limit });
+    this.#gateway.log("a user creates more documents than he may", { user: this.user.id, limit });
+    slot.reply ??= REFUSAL.TooManyDocuments;
+  }
+
+  #uncount(slot, isMade) {
+    if (!slot.isCounted) return;
+    slot.isCounted = false;
+    this.user.created(isMade);
   }
 
   #command(slot, store, lease) {
     slot.isSent = true;
     lease.begin();
     const began = performance.now();
-    const settle = (line) => this.#onCommand(slot, store, lease, line, began);
-    slot.ticket = store.command(lease.name, JSON.stringify(slot.message) + "\n", settle);
+    const settle = this.#guarded((line) => this.#onCommand(slot, store, lease, line, began));
+    slot.ticket = store.command(this.user.id, lease.name, slot.message, settle);
   }
 
   // What became of a command. Undefined: it wasn't sent, as it wasn't wanted any more; null: its session was cut.
   #onCommand(slot, store, lease, line, began) {
     const { metrics } = this.#gateway;
     const { do: what, doc, n, base } = slot.message;
-    if (line === undefined) return lease.settle(n, "refused");
+    if (line === undefined) {
+      this.#uncount(slot, false);
+      return lease.settle(n, "refused");
+    }
     if (line === null) {
+      this.#uncount(slot, true);
       lease.settle(n, "cut");
-      return this.close(1012, "the store's session was cut");
+      return this.close(CODE.ends, "the store's session was cut");
     }
     metrics.replies.add(performance.now() - began);
     const code = codeOf(line);
@@ -329,17 +556,21 @@ export class Browser {
     const isCreation = what === "create";
     metrics.commands[result] += 1;
     lease.settle(n, UNKNOWN.includes(code) ? "cut" : result);
-    if (isCreation && NOT_MADE.includes(code)) store.leases.release(doc, this.#holder, lease);
+    this.#uncount(slot, code === 0 || UNKNOWN.includes(code));
+    const releases = (isCreation && NOT_MADE.includes(code)) || code === NO_DOCUMENT;
+    if (releases) store.leases.release(doc, this.#holder, lease, code !== EXISTS && code !== FULL_STORE);
     const isOthers = result === "again" && isCreation && n === 1 && lease.epoch > 1 && !lease.isOwn;
     if (result === "taken") {
       store.leases.own(doc, this.#holder, lease);
       store.news.taken(doc, line);
     }
-    if (result !== "refused" && isCreation && !isOthers) this.#gateway.places.created(doc);
+    const listing = result !== "refused" && isCreation && !isOthers ? this.#gateway.places.created(doc, store.name, this.user.id) : undefined;
+    listing?.catch(() => {});
     if (result !== "refused" && base !== PROBE) this.#gateway.taken(this.#given, slot.message, revOf(line), result === "again");
     if (this.isGone) return;
     if (code === FULL_STORE && isCreation) return this.#sendElsewhere(slot, store, line, this.#gateway.places.move(doc, store.name));
     if (code === NO_DOCUMENT) return this.#lookAgain(slot, store, line);
+    if (listing !== undefined) return this.#find(slot, listing, () => (slot.reply ??= line)); // where it can't be listed it is sent again
     this.#answer(slot, isOthers ? REFUSAL.OldNumber : line);
   }
 
@@ -349,16 +580,19 @@ export class Browser {
     const ticket = { isSent: false, isWanted: true };
     Object.assign(slot, { isSent: true, ticket });
     const wanted = () => ticket.isWanted && !this.isGone;
-    const settle = (line) => (codeOf(line) === NO_DOCUMENT ? this.#lookAgain(slot, store, line) : this.#answer(slot, line));
+    const settle = this.#guarded((line) => (codeOf(line) === NO_DOCUMENT ? this.#lookAgain(slot, store, line) : this.#answer(slot, line)));
     const own = this.#own.get(doc) ?? 0;
-    if (message.do === "fetch") return store.fetch(JSON.stringify(message) + "\n", rev === undefined ? own : 0, settle, wanted);
-    if (message.do === "since") return store.since(doc, rev, settle, wanted, own);
-    const subscription = new Subscription(doc, rev, (it) => this.#followed.get(doc)?.subscription === it && this.#tell(doc) && this.#flush());
-    store.news.join(subscription, (line) => {
+    if (message.do === "fetch") return store.fetch(message, rev === undefined ? own : 0, settle, wanted, this.user.id);
+    if (message.do === "since") return store.since(doc, rev, settle, wanted, this.user.id, own);
+    const subscription = new Subscription(doc, rev, this.#guarded((it) => this.#followed.get(doc)?.subscription === it && this.#tell(doc) && this.#flush()));
+    store.news.join(subscription, this.#guarded((line) => {
       if (this.isGone || slot.reply !== undefined) return store.news.leave(subscription);
-      if (codeOf(line) === 0) slot.followed = { subscription, news: store.news };
+      if (codeOf(line) === 0) {
+        slot.followed = { subscription, news: store.news };
+        this.#backlogBytes += subscription.backlogBytes;
+      }
       settle(line);
-    }, wanted);
+    }), wanted, this.user.id);
   }
 
   // A document may have another place by now than the one that was asked.
@@ -380,6 +614,8 @@ export class Browser {
   #answer(slot, line) {
     if (this.isGone || slot.reply !== undefined) return;
     slot.reply = line;
+    slot.bytes += line.length;
+    this.#slotBytes += line.length;
     this.#pump();
   }
 
@@ -387,7 +623,8 @@ export class Browser {
   #deliver() {
     const before = this.#slots.length;
     while (!this.isGone && this.#slots[0]?.reply !== undefined) {
-      const { kind, message, reply, followed } = this.#slots.shift();
+      const { kind, message, reply, followed, bytes = 0 } = this.#slots.shift();
+      this.#slotBytes -= bytes;
       const code = codeOf(reply);
       if (reply.length > LARGE_REPLY) this.#readsAtOnce = 1;
       if (message?.do === "unsubscribe" && code === 0) this.#unfollow(message.doc);
@@ -425,7 +662,10 @@ export class Browser {
     const { backlog } = subscription;
     while (backlog.length > 0 && subscription.told < last) {
       if (this.#isBehind()) return this.#pumpLater();
-      this.#giveNews(subscription, backlog.shift());
+      const line = backlog.shift();
+      subscription.backlogBytes -= line.length;
+      this.#backlogBytes -= line.length;
+      this.#giveNews(subscription, line);
     }
     if (backlog.length > 0 || subscription.told >= last) return true;
     const lines = news.linesFor(subscription, last);
@@ -451,11 +691,11 @@ export class Browser {
   }
 
   #pumpLater() {
-    this.#timer ??= setTimeout(() => {
+    this.#timer ??= setTimeout(this.#guarded(() => {
       this.#timer = undefined;
       for (const doc of [...this.#followed.keys()]) this.#tell(doc);
       this.#pump();
-    }, LATER);
+    }), LATER);
     return true;
   }
 
@@ -471,6 +711,7 @@ export class Browser {
     this.#out = [];
     this.#outBytes = 0;
     if (this.isGone) return;
+    if (!this.#isPumping) queueMicrotask(() => this.count()); // once it is sent
     let small = [];
     const send = (bytes) => this.#socket.send(bytes, { binary: true });
     const sendSmall = () => {
@@ -492,16 +733,22 @@ export class Browser {
     const followed = this.#followed.get(doc);
     if (followed === undefined) return;
     this.#followed.delete(doc);
+    this.#backlogBytes -= followed.subscription.backlogBytes;
     followed.news.leave(followed.subscription);
   }
 
   #leave() {
     if (this.isGone) return;
     this.isGone = true;
+    this.#gateway.waiting.note(this, 0);
     clearTimeout(this.#timer);
-    for (const { ticket } of this.#slots) if (ticket !== undefined) ticket.isWanted = false;
+    for (const slot of this.#slots) {
+      if (slot.ticket !== undefined) slot.ticket.isWanted = false;
+      else this.#uncount(slot, false);
+    }
     for (const doc of [...this.#followed.keys()]) this.#unfollow(doc);
     this.#unread = EMPTY;
+    this.#pieces = [];
     this.#gateway.depart(this, this.#holder, this.#written);
   }
 }

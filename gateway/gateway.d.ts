@@ -36,6 +36,35 @@ export interface LogEvent {
   [about: string]: unknown;
 }
 
+export interface Limits {
+  /** Open at once: of the gateway 20,000, of a user 200. */
+  sessions: number;
+  userSessions: number;
+  /** Open at once from one address: 20,000. */
+  addressSessions: number;
+  /** Messages of a user a second: 2,000. */
+  userMessages: number;
+  /** Bytes a second of a user's connections, 1 MiB; of them those that are no lines, 16 KiB; and of an address's, 64 MiB. */
+  userBytes: number;
+  userOverhead: number;
+  addressBytes: number;
+  /** Documents that a user's sessions are told of: 1,000. */
+  userDocuments: number;
+  /** Documents that a user may create: 1,000 in all, and 100 an hour. */
+  userCreations: number;
+  userCreationsHour: number;
+  /** Names of a user in one document: 4. */
+  userNames: number;
+  /** Bytes of a document as it is fetched: 64 MiB. */
+  lineBytes: number;
+  /** Bytes of a line of news, and of all that came after a revision: 4 MiB. */
+  newsBytes: number;
+  /** Bytes that wait for all browsers of the gateway: 256 MiB. */
+  waitingBytes: number;
+  /** Bytes of news that are kept of all documents that somebody follows: 64 MiB. */
+  keptBytes: number;
+}
+
 export interface Settings {
   /** Of this gateway: 1 to 12 characters, "g" if it isn't given. */
   name?: string;
@@ -50,6 +79,10 @@ export interface Settings {
   names?: number;
   /** Days after which a name may be lent anew where all are lent: 7. */
   term?: number;
+  /** Seconds after which a name that isn't used may be asked back where all are lent: 60. */
+  recall?: number;
+  /** Seconds after which `can` is asked again for what a browser is told of a document: 5. */
+  recheck?: number;
   /** Milliseconds between two pings: 15,000. A browser that has answered none, and has taken nothing, by the next but one is cut off. */
   pulse?: number;
   /** A folder of this gateway's own, needed without etcd. */
@@ -59,13 +92,18 @@ export interface Settings {
   rule?: { prefix: string; store: string }[];
   /** Of pages that may connect; without a list those of this machine's names. */
   origins?: string[];
-  limits?: { sessions?: number; userSessions?: number; userMessages?: number };
+  /** Names by which /healthz, /metrics and /docs are asked for, besides those of the origins, of this machine, and addresses. */
+  hosts?: string[];
+  /** Which header says where a request comes from, as a proxy sets it. Without it the connection does. */
+  address?: { header: string };
+  /** What users may take, and what is held of what a store sends; docs/GATEWAY.md has their table. */
+  limits?: Partial<Limits>;
   /** Gives who asks, or null where he isn't signed in. Without it everybody is the user "anybody". */
   authorize?: (request: Request) => User | null | undefined | Promise<User | null | undefined>;
   /** Whether a user may do something. It is asked at each message. Without it everybody may do all. */
   can?: (user: any, doc: string, action: Action) => boolean | Promise<boolean>;
-  /** Is asked before a command leaves: false refuses it. */
-  onCommand?: (about: { user: any; doc: string; message: Command }) => boolean | void | Promise<boolean | void>;
+  /** Is asked before a command leaves: true lets it pass, and anything else refuses it. */
+  onCommand?: (about: { user: any; doc: string; message: Command }) => boolean | Promise<boolean>;
   /** Is told of each command that was taken. */
   onTaken?: (about: { user: any; doc: string; message: Command; rev: number; isAgain: boolean }) => void | Promise<void>;
   log?: (event: LogEvent) => void;
@@ -85,8 +123,12 @@ export interface Gateway {
   handleUpgrade(request: Request, socket: any, head: any): Promise<void>;
   /** Answers /healthz, /metrics and /docs; gives false where it was none of them. */
   handleRequest(request: Request, response: any): boolean;
+  /** Answers /healthz and /metrics, for an address of their own; gives false where it was none of them. */
+  handleWatch(request: Request, response: any): boolean;
   /** Closes a user's sessions, as his rights have changed. */
   closeUser(id: string): void;
+  /** A user's rights have changed, of one document or of all: what he may no longer do ends at once. His sessions stay. */
+  revoke(id: string, doc?: string): void;
   /** Adds a store, or says anew whether one takes new documents. */
   addStore(store: StoreAddress): void;
   /** Says anew which pages may connect. */
@@ -102,4 +144,4 @@ export interface Gateway {
 export function createGateway(settings: Settings): Promise<Gateway>;
 
 /** The codes by which a WebSocket is closed. */
-export const CODE: { full: 4503; again: 4409; rights: 4403; ends: 1012 };
+export const CODE: { fault: 1011; ends: 1012; later: 1013; full: 4503; again: 4409; rights: 4403; over: 4429 };

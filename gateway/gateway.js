@@ -1,35 +1,50 @@
 // A gateway: many browsers on a few sessions of some stores.
 
 import { randomBytes } from "node:crypto";
-import { mkdirSync } from "node:fs";
+import { mkdirSync, readdirSync } from "node:fs";
 import path from "node:path";
-import { Browser } from "./browser.js";
+import { Browser, MOST_OWED } from "./browser.js";
+import { CODE } from "./codes.js";
 import { Etcd } from "./etcd.js";
 import { Journal, readLines } from "./journal.js";
 import { EtcdLeases } from "./leases-etcd.js";
-import { Leases } from "./leases.js";
+import { Leases, hasDamage } from "./leases.js";
 import { lock } from "./lock.js";
 import { KIND, RIGHT } from "./messages.js";
 import { Metrics } from "./metrics.js";
-import { isAllowedOrigin } from "./origins.js";
+import { isAllowedOrigin, isKnownHost } from "./origins.js";
 import { EtcdPlaces, RuledPlaces } from "./places.js";
 import { Presence } from "./presence.js";
 import { checkOrigins, checkStore, checked } from "./settings.js";
 import { Store } from "./store.js";
-import { User, idOf } from "./users.js";
+import { Sweep } from "./sweep.js";
+import { Address, User, idOf } from "./users.js";
+import { Waiting } from "./waiting.js";
 import { webSockets } from "./websockets.js";
 
 const MOST_FRAME = 1 << 17; // bytes of a WebSocket's message
 const SECOND = 1_000;
+const FORGOTTEN = 3_600_000; // milliseconds that what a user has taken is known after his last session
+const SIGN_IN = 10_000; // milliseconds that authorize may take
 const FAREWELL = 4_000; // milliseconds that commands which were sent have for their replies, at the end
 const MOST_SAID = 20; // lines of one event within a second
 const RETRY = 1_000; // milliseconds until etcd is asked again for the pool
 const MOST_LISTED = 1_000; // documents of a page
 const MOST_LOOKED = 10_000; // places that are looked at for a page
-export const CODE = { full: 4503, again: 4409, rights: 4403, ends: 1012 };
+
+const PAGES = ["/healthz", "/metrics", "/docs"];
+
+export { CODE };
 
 /** Goes on with a value, at once where it is there. */
 const chain = (value, next) => (typeof value?.then === "function" ? value.then(next) : next(value));
+
+/** What a promise gives within the time that somebody has to sign in, and undefined later. @param {Promise<any>} promise */
+function inTime(promise) {
+  let timer;
+  const late = new Promise((resolve) => (timer = setTimeout(resolve, SIGN_IN)));
+  return Promise.race([promise, late]).finally(() => clearTimeout(timer));
+}
 
 /** @param {import("node:stream").Duplex} socket @param {number} status @param {string} reason */
 function refuse(socket, status, reason) {
@@ -44,6 +59,7 @@ export class Gateway {
   #onCommand;
   #onTaken;
   #sockets;
+  #kept; // of the news of all stores
   #etcd;
   #pool;
   #unlock = () => {};
@@ -51,12 +67,15 @@ export class Gateway {
   #browsers = new Set();
   /** @type {Map<string, User>} */
   #users = new Map();
+  /** @type {Map<string, Address>} */
+  #addresses = new Map();
   /** @type {Map<string, Browser>} */
   #holders = new Map();
   #count = 0;
   /** @type {Map<string, number>} event -> how often in this second */
   #said = new Map();
   #isEnding = false;
+  #sweep;
   #timers = [];
 
   metrics = new Metrics();
@@ -74,6 +93,8 @@ export class Gateway {
     this.#can = can;
     this.#onCommand = onCommand;
     this.#onTaken = onTaken;
+    this.waiting = new Waiting({ most: settings.limits.waitingBytes, all: () => this.#browsers });
+    this.#kept = { bytes: 0, most: settings.limits.keptBytes };
     const { WebSocketServer } = webSockets();
     this.#sockets = new WebSocketServer({ noServer: true, maxPayload: MOST_FRAME, clientTracking: false });
   }
@@ -83,47 +104,98 @@ export class Gateway {
     if (etcd === undefined) {
       mkdirSync(data, { recursive: true, mode: 0o700 });
       this.#unlock = await lock(data);
-      this.places = new RuledPlaces({ rule, folder: data });
-      const file = path.join(data, "pool");
-      const [pool = randomBytes(4).toString("hex")] = readLines(file);
-      await new Journal(file, [pool]).close();
-      this.#pool = this.#namesOf(pool);
+      this.places = new RuledPlaces({ rule, folder: data, onFailure: this.#onUnwritten });
+      this.#pool = this.#namesOf(await this.#keptPool(data));
     } else {
-      this.#etcd = new Etcd({ ...etcd, log: this.log });
+      this.#etcd = new Etcd({ ...etcd, log: this.log, onGarbage: () => this.metrics.count("garbage_total", { from: "etcd" }) });
       this.places = new EtcdPlaces({ etcd: this.#etcd, stores: () => [...this.stores.values()] });
     }
     this.places.moves = etcd !== undefined;
     for (const store of stores) this.#add(store);
-    if (etcd !== undefined) this.#findPool();
+    if (etcd !== undefined) {
+      this.#findPool();
+      this.#sweepUp();
+    }
     this.#timers.push(setInterval(() => this.#look(), pulse), setInterval(() => this.#eachSecond(), SECOND));
     for (const timer of this.#timers) timer.unref();
   }
+
+  // The pool of names is of this folder. Where lines of it are damaged names may be lent of which nothing is known, so all are new from then on.
+  async #keptPool(data) {
+    const file = path.join(data, "pool");
+    const damaged = readdirSync(data).filter((name) => name.startsWith("leases-") && !name.endsWith(".new") && hasDamage(path.join(data, name)));
+    for (const name of damaged) this.log("a file of leases is damaged, so all names are new", { file: path.join(data, name) });
+    const [kept] = readLines(file, (value) => typeof value === "string").values;
+    const pool = kept === undefined || damaged.length > 0 ? randomBytes(4).toString("hex") : kept;
+    await new Journal(file, [pool]).close();
+    return pool;
+  }
+
+  #onUnwritten = (error) => {
+    this.metrics.count("unwritten_total");
+    this.log("a file can't be written", { error: error.message });
+  };
 
   // Of one event so many lines a second are said; what befalls thousands of browsers at the same time isn't said of each.
   log = (event, about = {}) => {
     const said = this.#said.get(event) ?? 0;
     this.#said.set(event, said + 1);
-    if (said < MOST_SAID) this.#log({ time: new Date().toISOString(), event, ...about });
+    if (said >= MOST_SAID) return;
+    try {
+      this.#log({ time: new Date().toISOString(), event, ...about });
+    } catch {
+      // whoever is to be told has failed
+    }
   };
+
+  /** Something threw that shouldn't: one session ends by it. */
+  fault(error, about = {}) {
+    this.metrics.count("faults_total");
+    this.log("a fault of the gateway", { ...about, error: error?.stack ?? String(error) });
+  }
 
   /** Takes over a WebSocket that an HTTP server was asked for. */
   async handleUpgrade(request, socket, head) {
     socket.on("error", () => {});
+    try {
+      await this.#upgrade(request, socket, head);
+    } catch (error) {
+      this.fault(error);
+      socket.destroy();
+    }
+  }
+
+  async #upgrade(request, socket, head) {
     if (this.#isEnding) return refuse(socket, 503, "Service Unavailable");
     if (!isAllowedOrigin(request, this.#settings.origins)) {
       this.log("origin refused", { origin: request.headers.origin, host: request.headers.host });
       return refuse(socket, 403, "Forbidden");
     }
-    const given = await this.#signedIn(request);
+    const from = this.#addressOf(request);
+    const address = this.#addresses.get(from) ?? new Address(this.#settings.limits);
+    if (address.sessions >= this.#settings.limits.addressSessions) {
+      this.metrics.count("over_total", { limit: "addressSessions" });
+      this.log("an address has too many sessions", { address: from });
+      return refuse(socket, 503, "Service Unavailable");
+    }
+    this.#addresses.set(from, address);
+    address.sessions += 1;
+    socket.once("close", () => {
+      address.sessions -= 1;
+      if (address.sessions === 0) this.#addresses.delete(from);
+    });
+    const given = await inTime(this.#signedIn(request));
     if (given === undefined) return refuse(socket, 503, "Service Unavailable");
     if (given === null) return refuse(socket, 401, "Unauthorized");
     if (this.#isEnding) return refuse(socket, 503, "Service Unavailable");
-    try {
-      this.#sockets.handleUpgrade(request, socket, head, (webSocket) => this.#open(webSocket, given));
-    } catch (error) {
-      this.log("a WebSocket can't be opened", { error: error.message });
-      socket.destroy();
-    }
+    this.#sockets.handleUpgrade(request, socket, head, (webSocket) => this.#open(webSocket, given, address));
+  }
+
+  // Where a request comes from, as the nearest proxy says.
+  #addressOf({ headers, socket }) {
+    const { address } = this.#settings;
+    const said = address && headers[address.header.toLowerCase()];
+    return said ? said.split(",").at(-1).trim() : (socket?.remoteAddress ?? "");
   }
 
   /**
@@ -132,7 +204,36 @@ export class Gateway {
    * @param {import("node:http").ServerResponse} response
    */
   handleRequest(request, response) {
-    const [name, query = ""] = request.url.split("?", 2);
+    return this.#handle(request, response, PAGES.filter((page) => page !== "/metrics" || !this.#settings.hidesMetrics));
+  }
+
+  /** Answers /healthz and /metrics, for an address of their own. Gives whether it was one of them. */
+  handleWatch(request, response) {
+    return this.#handle(request, response, ["/healthz", "/metrics"]);
+  }
+
+  #handle(request, response, pages) {
+    try {
+      const [name, query = ""] = request.url.split("?", 2);
+      if (!pages.includes(name)) return false;
+      if (isKnownHost(request, this.#settings) && isAllowedOrigin(request, this.#settings.origins)) {
+        this.#answer(name, query, request, response);
+      } else {
+        const { host, origin } = request.headers;
+        this.metrics.count("pages_refused_total");
+        this.log("a page is refused", { page: name, host, origin });
+        response.writeHead(403).end();
+      }
+      return true;
+    } catch (error) {
+      this.fault(error);
+      if (!response.headersSent) response.writeHead(500);
+      response.end();
+      return true;
+    }
+  }
+
+  #answer(name, query, request, response) {
     const json = (status, value) => {
       response.writeHead(status, { "content-type": "application/json", "cache-control": "no-store" });
       response.end(JSON.stringify(value) + "\n");
@@ -140,16 +241,15 @@ export class Gateway {
     if (name === "/healthz") {
       const health = this.health();
       json(health.ok ? 200 : 503, health);
-    } else if (name === "/metrics" && !this.#settings.hidesMetrics) {
+    } else if (name === "/metrics") {
       response.writeHead(200, { "content-type": "text/plain; version=0.0.4" });
       response.end(this.metricsText());
-    } else if (name === "/docs") {
+    } else {
       this.#list(request, new URLSearchParams(query)).then(([status, value]) => json(status, value), (error) => {
         this.log("the list can't be given now", { error: error.message });
         json(503, { error: "later" });
       });
-    } else return false;
-    return true;
+    }
   }
 
   health() {
@@ -158,7 +258,7 @@ export class Gateway {
   }
 
   metricsText() {
-    return this.metrics.text({ sessions: this.#browsers.size, stores: this.stores.values() });
+    return this.metrics.text({ sessions: this.#browsers.size, stores: this.stores.values(), waiting: this.waiting.total, kept: this.#kept.bytes });
   }
 
   /** Adds a store, or says anew whether one takes new documents. */
@@ -180,6 +280,14 @@ export class Gateway {
     for (const browser of this.#users.get(id)?.browsers ?? []) browser.close(CODE.rights, "the rights have changed");
   }
 
+  /** A user's rights have changed, of one document or of all: what he may no longer do ends at once, and his sessions stay. */
+  revoke(id, doc) {
+    for (const browser of [...(this.#users.get(id)?.browsers ?? [])]) {
+      browser.judgeWaiting(doc);
+      browser.judgeAgain(Infinity, doc);
+    }
+  }
+
   /** Takes in documents that a store had before. Gives those that have another place. */
   take(docs, store) {
     return this.places.take(docs, store);
@@ -197,12 +305,17 @@ export class Gateway {
       store.end();
       await store.leases.close();
     }
+    this.#sweep?.end();
     await this.places?.close();
     this.#etcd?.close();
     this.#unlock();
   }
 
   // What follows is for browsers.
+
+  get mostDocuments() {
+    return this.#settings.limits.userDocuments;
+  }
 
   /** Whether a user, as `authorize` gave him, may send a message: a promise where that isn't known at once. Where it can't be found out the promise fails. */
   judge(user, message) {
@@ -211,12 +324,27 @@ export class Gateway {
     try {
       const verdict = chain(this.#mayDo(user, doc, what), (may) => {
         if (!may || KIND[what] !== "command" || this.#onCommand === undefined) return may;
-        return chain(this.#onCommand({ user, doc, message }), (it) => it !== false);
+        return chain(this.#onCommand({ user, doc, message }), (it) => this.#lets(it));
       });
       return chain(verdict, Boolean);
     } catch (error) {
       return Promise.reject(error);
     }
+  }
+
+  /** Whether a user may do something, apart from what `onCommand` says. */
+  async mayDo(user, doc, what) {
+    return Boolean(await this.#mayDo(user, doc, what));
+  }
+
+  async mayRead(user, doc) {
+    return this.mayDo(user, doc, "fetch");
+  }
+
+  // What onCommand gave: true alone lets a command pass.
+  #lets(verdict) {
+    if (typeof verdict !== "boolean") this.log("onCommand gave neither true nor false, which refuses the command", { gave: typeof verdict });
+    return verdict === true;
   }
 
   /** A command was taken. */
@@ -240,7 +368,7 @@ export class Gateway {
     this.presence.depart(browser);
     this.#browsers.delete(browser);
     browser.user.browsers.delete(browser);
-    if (browser.user.browsers.size === 0) this.#users.delete(browser.user.id);
+    if (browser.user.browsers.size === 0) browser.user.goneSince = performance.now();
     if (holder === undefined || this.#holders.get(holder) !== browser) return;
     this.#holders.delete(holder);
     for (const { leases } of this.stores.values()) leases.depart(holder, docs);
@@ -265,10 +393,10 @@ export class Gateway {
     }
   }
 
-  #open(webSocket, given) {
+  #open(webSocket, given, address) {
     const { limits } = this.#settings;
     const id = idOf(given);
-    const user = this.#users.get(id) ?? new User(id, limits.userMessages);
+    const user = this.#users.get(id) ?? new User(id, limits);
     if (this.#browsers.size >= limits.sessions || user.browsers.size >= limits.userSessions) {
       this.log("full", { user: id, sessions: this.#browsers.size, ofUser: user.browsers.size });
       webSocket.on("error", () => {});
@@ -276,9 +404,19 @@ export class Gateway {
       setTimeout(() => webSocket.terminate(), FAREWELL).unref();
       return;
     }
+    if (user.overhead.owed > MOST_OWED) {
+      this.metrics.count("over_total", { limit: "overhead" });
+      this.log("a user sends more than he may, and is closed", { user: id, limit: "overhead" });
+      webSocket.on("error", () => {});
+      webSocket.pause();
+      webSocket.close(CODE.over, "more than you may send");
+      setTimeout(() => webSocket.terminate(), SECOND).unref();
+      return;
+    }
     this.#users.set(id, user);
+    user.goneSince = Infinity;
     this.#count += 1;
-    const browser = new Browser(this, webSocket, user, given, this.#count);
+    const browser = new Browser(this, webSocket, user, given, this.#count, address);
     this.#browsers.add(browser);
     user.browsers.add(browser);
   }
@@ -288,15 +426,25 @@ export class Gateway {
   }
 
   #add(address) {
-    const { name: prefix, readers, writers: first, guests, term, data } = this.#settings;
+    const { name: prefix, readers, writers: first, guests, term, recall, data, limits } = this.#settings;
     const onLent = (doc, { name, epoch }) => {
       this.metrics.lent[epoch === 1 ? 1 : "more"] += 1;
       if (epoch > 1) this.log("a name is lent anew", { store: address.name, doc, name, epoch });
     };
+    const naming = {
+      most: limits.userNames,
+      recall: recall * SECOND,
+      isHere: (holder) => this.#holders.has(holder),
+      onRecall: (doc, from, to) => {
+        this.metrics.count("recalled_total");
+        this.log("a name is asked back", { store: address.name, doc, from, to });
+        this.#holders.get(from)?.close(CODE.ends, "its name was asked back"); // it asks anew under which name it writes
+      },
+    };
     const leases = this.#etcd === undefined
-      ? new Leases({ file: path.join(data, `leases-${address.name}`), names: this.#pool, first, term, onLent })
-      : new EtcdLeases({ etcd: this.#etcd, store: address.name, pool: async () => this.#poolOrNone(), first, term, onLent });
-    const store = new Store(address, { prefix, readers, guests, leases, metrics: this.metrics, log: this.log });
+      ? new Leases({ file: path.join(data, `leases-${address.name}`), names: this.#pool, first, term, onLent, naming, onFailure: this.#onUnwritten })
+      : new EtcdLeases({ etcd: this.#etcd, store: address.name, pool: async () => this.#poolOrNone(), first, term, onLent, naming, at: prefix, places: this.places });
+    const store = new Store(address, { prefix, readers, guests, leases, metrics: this.metrics, log: this.log, limits, kept: this.#kept });
     this.stores.set(address.name, store);
     if (this.#pool !== undefined) store.openWriters(this.#pool.slice(0, first));
   }
@@ -318,6 +466,17 @@ export class Gateway {
     }
     if (this.#isEnding) return;
     for (const store of this.stores.values()) store.openWriters(this.#pool.slice(0, this.#settings.writers));
+  }
+
+  async #sweepUp() {
+    this.#sweep = new Sweep({ etcd: this.#etcd, stores: this.stores });
+    try {
+      const removed = await this.#sweep.run();
+      this.metrics.count("swept_total", {}, removed);
+      if (removed > 0) this.log("rests of creations that were refused are removed from etcd", { documents: removed });
+    } catch (error) {
+      this.log("etcd can't be swept", { error: error.message });
+    }
   }
 
   async #list(request, query) {
@@ -347,7 +506,15 @@ export class Gateway {
 
   #eachSecond() {
     this.#said.clear();
-    for (const browser of [...this.#browsers]) browser.giveUpWaiting();
+    const forgotten = performance.now() - FORGOTTEN;
+    for (const [id, { goneSince }] of this.#users) if (goneSince < forgotten) this.#users.delete(id);
+    for (const store of this.stores.values()) store.serveNames();
+    const before = performance.now() - SECOND * this.#settings.recheck;
+    for (const browser of [...this.#browsers]) {
+      browser.giveUpWaiting();
+      if (this.#can !== undefined) browser.judgeAgain(before);
+      browser.count();
+    }
   }
 }
 

@@ -9,15 +9,20 @@ export class Lease {
   next;
   onWay = 0; // commands that were sent and have no reply
   isTold = false; // its holder asked for it, and counts on it
+  isKept = true; // it is on the disk
+  /** @type {string | undefined} the revision of etcd that wrote it, where nothing was sent under it before */
+  mod;
+  isReserved = false; // it was asked for, and is lent with the first command
+  isAway = false; // its holder has gone since it was asked for; where leases are in etcd
 
   /**
    * @param {string} name
    * @param {number} epoch  for the how manieth time the name is lent in this document
-   * @param {number} used  when, in milliseconds, as it is kept
+   * @param {number} used  when it was used, in milliseconds, as it is kept; `seen` is when it was
    * @param {boolean} [isOwn]  whether a command of this holder was taken
    */
   constructor(name, epoch, used, isOwn = false) {
-    Object.assign(this, { name, epoch, used, isOwn });
+    Object.assign(this, { name, epoch, used, isOwn, seen: used });
   }
 
   /** Whether its numbers are all unused still, and its holder knows nothing of it. */
@@ -47,11 +52,63 @@ export function namesFor(doc, names, first) {
   return [...names.slice(begin, first), ...names.slice(0, begin), ...names.slice(first)];
 }
 
-/** Which of the leases in a document was used longest ago, before the term, and has nothing on its way. */
-export function oldest(leases, before) {
-  const [first] = leases.filter(([, { used, onWay = 0 }]) => used < before && onWay === 0).sort(([, one], [, other]) => one.used - other.used);
-  return first;
+/** The user of a holder: a token has no stroke. @param {string} holder */
+export function userOf(holder) {
+  const at = holder.lastIndexOf("/");
+  return at === -1 ? holder : holder.slice(0, at);
 }
+
+/**
+ * Which name a holder gets in a document where he has none: one that nobody had there, else one that is asked back, of his own where he has as
+ * many as a user may. Undefined: he waits.
+ *
+ * A name that was only asked for goes to whoever sends a command; one that was written under, once it wasn't used for a while, or at once from
+ * the same user where its holder is gone. One with something on its way stays.
+ * @typedef {object} Taken
+ * @property {string} name
+ * @property {number} seen  when it was used last
+ * @property {boolean} mayGo  nothing is on its way, and nobody else decides
+ * @property {boolean} isOver  its term is over, or it wasn't used for a while
+ * @property {boolean} [isReserved]
+ *
+ * @template {Taken} T
+ * @param {[string, T][]} taken  holders with their leases
+ * @param {{ doc: string, holder: string, isCommand: boolean, names: string[], first: number, naming: Naming }} about
+ * @returns {{ free?: string, old?: [string, T] }}
+ */
+export function choice(taken, { doc, holder, isCommand, names, first, naming: { most, isHere } }) {
+  const user = userOf(holder);
+  const own = taken.filter(([other]) => userOf(other) === user);
+  const hasRoom = own.length < most;
+  const lent = new Set(taken.map(([, { name }]) => name));
+  const free = hasRoom ? namesFor(doc, names, first).find((name) => !lent.has(name)) : undefined;
+  if (free !== undefined) return { free };
+  const goes = ([other, { mayGo, isOver, isReserved }]) => mayGo && (isOver || (isReserved && isCommand) || (userOf(other) === user && !isHere(other)));
+  const order = ([, { isReserved, seen }]) => (isReserved ? 0 : seen);
+  const [old] = (hasRoom ? taken : own).filter(goes).sort((one, other) => order(one) - order(other));
+  return { old };
+}
+
+/**
+ * @typedef {object} Naming  how many names a user has, and who gives his up
+ * @property {number} most  names of a user in a document
+ * @property {number} recall  milliseconds after which a name that isn't used may be asked back
+ * @property {(holder: string) => boolean} isHere  whether he has a session
+ * @property {(doc: string, from: string, to: string) => void} onRecall  a name goes from one holder to another
+ */
+
+/** @type {Naming} */
+export const NAMING = { most: Infinity, recall: Infinity, isHere: () => false, onRecall: () => {} };
+
+const isCount = (value) => Number.isSafeInteger(value) && value >= 0;
+
+/** Whether a value is a line of leases: a document, a holder, and his name there, or null. */
+const isLine = (line) =>
+  Array.isArray(line) && typeof line[0] === "string" && typeof line[1] === "string"
+  && (line[2] === null || (typeof line[2] === "string" && isCount(line[3]) && line[3] > 0 && Number.isFinite(line[4]) && typeof line[5] === "boolean"));
+
+/** Whether a file has lines that are none, so that names may be lent there of which nothing is known. @param {string} file */
+export const hasDamage = (file) => readLines(file, isLine).damaged > 0;
 
 /** Leases of one store, kept in a file. */
 export class Leases {
@@ -60,45 +117,60 @@ export class Leases {
   #term;
   #now;
   #onLent;
+  #naming;
   /** @type {Map<string, Map<string, Lease>>} doc -> holder -> lease */
   #docs = new Map();
   #written = new WeakMap(); // lease -> the promise that it is on the disk, until it is
   #journal;
 
   /**
-   * @param {{ file: string, names: string[], first: number, term: number, now?: () => number, onLent?: (doc: string, lease: Lease) => void }} options
-   *     `first` of the names have sessions that are always open; `term` in milliseconds
+   * @param {{ file: string, names: string[], first: number, term: number, now?: () => number, onLent?: (doc: string, lease: Lease) => void,
+   *   naming?: Naming, onFailure?: (error: Error) => void, open?: (file: string, flags: string) => Promise<any> }} options
+   *     `first` of the names have sessions that are always open; `term` in milliseconds; the others are those of a Journal
    */
-  constructor({ file, names, first, term, now = Date.now, onLent = () => {} }) {
+  constructor({ file, names, first, term, now = Date.now, onLent = () => {}, naming = NAMING, ...options }) {
+    this.#naming = naming;
     this.#names = names;
     this.#first = first;
     this.#term = term;
     this.#now = now;
     this.#onLent = onLent;
-    for (const [doc, holder, name, epoch, used, isOwn] of readLines(file)) {
+    for (const [doc, holder, name, epoch, used, isOwn] of readLines(file, isLine).values) {
       if (name === null) this.#docs.get(doc)?.delete(holder);
-      else this.#put(doc, holder, new Lease(name, epoch, used, isOwn));
+      else this.#put(doc, holder, Object.assign(new Lease(name, epoch, used, isOwn), { seen: now() }));
     }
     const kept = [...this.#docs].flatMap(([doc, holders]) => [...holders].map(([holder, lease]) => this.#line(doc, holder, lease)));
-    this.#journal = new Journal(file, kept);
+    this.#journal = new Journal(file, kept, options);
   }
 
   /**
-   * The holder's lease, or a new one, which is on the disk by then: a name that nobody had there, else one whose holder was away for the
-   * term. Undefined where there is none.
+   * The holder's lease for a command, or a new one, which is on the disk by then. Undefined where there is none now.
    * @param {string} doc
    * @param {string} holder
    * @returns {Lease | undefined | Promise<Lease>}
    */
   lend(doc, holder) {
     const found = this.#docs.get(doc)?.get(holder);
-    if (found === undefined) return this.#lendNew(doc, holder);
-    const now = this.#now();
-    if (now - found.used > this.#term / 8) {
-      found.used = now;
-      this.#journal.add(this.#line(doc, holder, found)).catch(() => {}); // it is written again when it is used next
-    }
-    return this.#written.get(found) ?? found;
+    if (found === undefined) return this.#lendNew(doc, holder, true);
+    found.seen = this.#now();
+    if (found.isReserved) return this.#keep(doc, holder, found);
+    const age = this.#now() - found.used;
+    const writing = this.#written.get(found) ?? (age > this.#term / 8 ? this.#renew(doc, holder, found) : undefined);
+    // that it is used may be written later, as long as the file keeps it from being lent anew
+    return writing !== undefined && (age > this.#term || !found.isKept) ? writing : found;
+  }
+
+  /**
+   * The holder's lease, as he asks for it: a name that nobody has is his as long as his session lasts, or until somebody writes who needs it,
+   * and is lent with his first command.
+   * @param {string} doc
+   * @param {string} holder
+   * @returns {Lease | undefined | Promise<Lease>}
+   */
+  reserve(doc, holder) {
+    const found = this.#docs.get(doc)?.get(holder);
+    if (found === undefined) return this.#lendNew(doc, holder, false);
+    return found.isReserved ? found : this.lend(doc, holder);
   }
 
   /** Whether `lend` is known to make no new lease. */
@@ -114,8 +186,8 @@ export class Leases {
   /** Takes back a lease that was new, and under which nothing was taken. */
   release(doc, holder, lease) {
     if (!lease.isUnused || this.#docs.get(doc)?.get(holder) !== lease) return;
-    this.#docs.get(doc).delete(holder);
-    if (this.#docs.get(doc).size === 0) this.#docs.delete(doc);
+    this.#remove(doc, holder);
+    if (lease.isReserved) return;
     this.#journal.add([doc, holder, null]).catch(() => {});
   }
 
@@ -127,36 +199,80 @@ export class Leases {
   }
 
   /** The holder's session has ended. */
-  depart() {}
+  depart(holder, docs) {
+    for (const doc of docs) if (this.#docs.get(doc)?.get(holder)?.isReserved) this.#remove(doc, holder);
+  }
 
   close() {
     return this.#journal.close();
   }
 
-  #lendNew(doc, holder) {
+  #renew(doc, holder, lease) {
+    const used = this.#now();
+    const written = this.#journal.add(this.#line(doc, holder, { ...lease, used })).then(
+      () => {
+        this.#written.delete(lease);
+        lease.used = used;
+        return lease;
+      },
+      (error) => {
+        this.#written.delete(lease); // it is written again when it is used next
+        throw error;
+      },
+    );
+    written.catch(() => {});
+    this.#written.set(lease, written);
+    return written;
+  }
+
+  #lendNew(doc, holder, isCommand) {
     const now = this.#now();
-    const taken = [...(this.#docs.get(doc) ?? [])];
-    const names = new Set(taken.map(([, { name }]) => name));
-    const free = namesFor(doc, this.#names, this.#first).find((name) => !names.has(name));
-    const old = free === undefined ? oldest(taken, now - this.#term) : undefined;
+    const { recall, onRecall } = this.#naming;
+    const taken = [...(this.#docs.get(doc) ?? [])].map(([other, lease]) => {
+      const { name, seen, used, onWay, isReserved } = lease;
+      const isOver = used < now - this.#term || seen < now - recall;
+      return /** @type {const} */ ([other, { name, seen, isReserved, isOver, mayGo: onWay === 0 && !this.#written.has(lease), lease }]);
+    });
+    const { free, old } = choice(taken, { doc, holder, isCommand, names: this.#names, first: this.#first, naming: this.#naming });
     if (free === undefined && old === undefined) return undefined;
-    const lease = old === undefined ? new Lease(free, 1, now) : new Lease(old[1].name, old[1].epoch + 1, now);
-    if (old === undefined) lease.next = 1;
+    const isNew = free !== undefined || old[1].isReserved;
+    const lease = isNew ? new Lease(free ?? old[1].name, 1, now) : new Lease(old[1].name, old[1].lease.epoch + 1, now);
+    if (isNew) lease.next = 1;
+    if (old !== undefined) {
+      this.#remove(doc, old[0]);
+      onRecall(doc, old[0], holder);
+    }
     this.#put(doc, holder, lease);
+    if (!isCommand && isNew) return Object.assign(lease, { isReserved: true });
+    return this.#keep(doc, holder, lease, isNew ? undefined : [old[0], old[1].lease]);
+  }
+
+  // Writes a lease. Where that fails nobody has it, but for who had it before.
+  #keep(doc, holder, lease, old) {
+    const wasReserved = lease.isReserved;
+    Object.assign(lease, { isReserved: false, isKept: false });
     const written = this.#journal.add(this.#line(doc, holder, lease)).then(
       () => {
         this.#written.delete(lease);
+        lease.isKept = true;
         this.#onLent(doc, lease);
         return lease;
       },
       (error) => {
-        this.#docs.get(doc).delete(holder);
+        this.#written.delete(lease);
+        lease.isReserved = wasReserved;
+        if (!wasReserved && this.#docs.get(doc)?.get(holder) === lease) this.#remove(doc, holder);
         if (old !== undefined) this.#put(doc, old[0], old[1]);
         throw error;
       },
     );
     this.#written.set(lease, written);
     return written;
+  }
+
+  #remove(doc, holder) {
+    this.#docs.get(doc).delete(holder);
+    if (this.#docs.get(doc).size === 0) this.#docs.delete(doc);
   }
 
   #put(doc, holder, lease) {

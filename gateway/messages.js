@@ -56,6 +56,7 @@ export const REFUSAL = {
   TooManySources: refusal(11, "TooManySources"),
   TooOld: refusal(13, "TooOld"),
   NothingToUndo: refusal(19, "NothingToUndo"),
+  TooManyDocuments: refusal(20, "TooManyDocuments"),
   NoMemory: refusal(22, "NoMemory"),
   LineTooLong: refusal(23, "LineTooLong"),
   NotAllowed: refusal(60, "NotAllowed"),

@@ -5,16 +5,22 @@ import { Upstream } from "./upstream.js";
 
 const MOST_LINES = 512; // of news that are kept of a document; then the older half goes
 const MOST_BYTES = 4 << 20; // of these lines
+const SHED = 7 / 8; // of what may be kept of all documents: so much is left once it was more
 const MOST_TRIES = 5; // to begin a subscription whose document goes on meanwhile
 const MOST_TAKEN = 100; // revisions of a document whose news is waited for, to measure that
-const POKE = '{"do":"unsubscribe","doc":"-"}\n'; // a session tells its news after each message, and else each 100 milliseconds
+const POKE = { do: "unsubscribe", doc: "-" }; // a session tells its news after each message, and else each 100 milliseconds
 
-export const endedLine = (doc) => Buffer.from(`{"doc":"${doc}","ended":13}\n`);
+export const endedLine = (doc, code = 13) => Buffer.from(`{"doc":"${doc}","ended":${code}}\n`);
+
+/**
+ * @typedef {{ bytes: number, most: number }} Kept  bytes of the news that are kept of all documents of a gateway, and how many they may be
+ */
 
 /** What a browser follows: a number, the last revision that it was told. */
 export class Subscription {
   /** @type {Buffer[]} */
   backlog = []; // lines that it gets before those of the ring
+  backlogBytes = 0;
   hasEnded = false;
 
   /**
@@ -37,15 +43,18 @@ export class News {
   #isPoked = false;
   #wantsPoke = false;
   #onLag;
+  #kept;
 
   /**
    * @param {{ host: string, port: number }} address
    * @param {string} source
-   * @param {(doc: string, rev: number, settle: (line: Buffer) => void, wanted?: () => boolean) => void} since  asks what came after a revision
-   * @param {{ onCut?: () => void, onLag?: (milliseconds: number) => void }} listener
+   * @param {(doc: string, rev: number, settle: (line: Buffer) => void, wanted: () => boolean, user: string) => void} since  asks what came after a revision
+   * @param {{ onCut?: () => void, onLag?: (milliseconds: number) => void, onGarbage?: (what: string) => void, onFault?: (error: Error) => void,
+   *   onLong?: (doc: string) => void, mostNews?: number, kept?: Kept }} listener  `mostNews` bytes of a line; whoever follows the document fetches where it has more
    */
-  constructor(address, source, since, { onCut, onLag = () => {} }) {
+  constructor(address, source, since, { onLag = () => {}, onLong = () => {}, kept = { bytes: 0, most: Infinity }, ...listener }) {
     this.#since = since;
+    this.#kept = kept;
     this.#onLag = onLag;
     this.#follower = new Upstream(address, source, {
       onNews: (doc, rev, line) => this.#take(doc, rev, line),
@@ -53,7 +62,11 @@ export class News {
         for (const [doc, entry] of this.#docs) this.#subscribe(doc, entry);
         this.#isPoked = false;
       },
-      onCut,
+      onLong: (doc) => {
+        onLong(doc);
+        if (this.#docs.has(doc)) this.#end(doc, this.#docs.get(doc));
+      },
+      ...listener,
     });
   }
 
@@ -70,8 +83,9 @@ export class News {
    * @param {Subscription} subscription
    * @param {(line: Buffer) => void} answer
    * @param {() => boolean} wanted
+   * @param {string} user
    */
-  join(subscription, answer, wanted, tries = 0) {
+  join(subscription, answer, wanted, user, tries = 0) {
     const { doc, told } = subscription;
     const reply = Buffer.from(`{"doc":"${doc}","ok":"subscribed","rev":${told}}\n`);
     const entry = this.#docs.get(doc);
@@ -86,7 +100,7 @@ export class News {
       let found = this.#docs.get(doc);
       if (found !== undefined && found.first > rev + 1) {
         // the ring has gone on meanwhile
-        return tries < MOST_TRIES ? this.join(subscription, answer, wanted, tries + 1) : answer(REFUSAL.TooOld);
+        return tries < MOST_TRIES ? this.join(subscription, answer, wanted, user, tries + 1) : answer(REFUSAL.TooOld);
       }
       if (found === undefined) {
         found = { rev, first: rev + 1, ring: [], bytes: 0, subscriptions: new Set(), taken: new Map() };
@@ -95,8 +109,9 @@ export class News {
       }
       found.subscriptions.add(subscription);
       subscription.backlog = deltas.map((ops, index) => Buffer.from(JSON.stringify({ doc, news: told + 1 + index, ops }) + "\n"));
+      for (const { length } of subscription.backlog) subscription.backlogBytes += length;
       answer(reply);
-    }, wanted);
+    }, wanted, user);
   }
 
   /** @param {Subscription} subscription */
@@ -104,7 +119,8 @@ export class News {
     const entry = this.#docs.get(subscription.doc);
     if (!entry?.subscriptions.delete(subscription) || entry.subscriptions.size > 0) return;
     this.#docs.delete(subscription.doc);
-    if (this.#follower.isOpen) this.#follower.ask(`{"do":"unsubscribe","doc":"${subscription.doc}"}\n`, () => {}, () => false);
+    this.#kept.bytes -= entry.bytes;
+    if (this.#follower.isOpen) this.#follower.ask({ do: "unsubscribe", doc: subscription.doc }, () => {}, () => false);
   }
 
   /**
@@ -146,7 +162,7 @@ export class News {
 
   #subscribe(doc, entry) {
     const isRefused = (line) => codeOf(line) !== 0 && this.#docs.get(doc) === entry && this.#end(doc, entry);
-    this.#follower.ask(`{"do":"subscribe","doc":"${doc}","rev":${entry.rev}}\n`, isRefused, () => false);
+    this.#follower.ask({ do: "subscribe", doc, rev: entry.rev }, isRefused, () => false);
   }
 
   #take(doc, rev, line) {
@@ -157,6 +173,7 @@ export class News {
     entry.rev = rev;
     entry.ring.push(Buffer.from(line)); // not a part of what was read, which would be held with it
     entry.bytes += line.length;
+    this.#kept.bytes += line.length;
     if (entry.ring.length > MOST_LINES || (entry.bytes > MOST_BYTES && entry.ring.length > 1)) this.#shorten(entry);
     const began = entry.taken.get(rev);
     if (began !== undefined) this.#onLag(performance.now() - began);
@@ -165,10 +182,23 @@ export class News {
     this.#fresh.add(entry);
   }
 
+  // Too much is kept of all documents together: the older half of those of which most is kept goes.
+  #shed() {
+    while (this.#kept.bytes > SHED * this.#kept.most) {
+      let largest;
+      for (const entry of this.#docs.values()) if (entry.bytes > (largest?.bytes ?? 0)) largest = entry;
+      if (largest === undefined) return; // it is another store's
+      this.#shorten(largest);
+    }
+  }
+
   #shorten(entry) {
-    const gone = entry.ring.splice(0, entry.ring.length >> 1);
+    const gone = entry.ring.splice(0, (entry.ring.length + 1) >> 1);
     entry.first += gone.length;
-    for (const { length } of gone) entry.bytes -= length;
+    for (const { length } of gone) {
+      entry.bytes -= length;
+      this.#kept.bytes -= length;
+    }
     for (const rev of entry.taken.keys()) if (rev < entry.first) entry.taken.delete(rev);
   }
 
@@ -176,10 +206,12 @@ export class News {
     const entries = [...this.#fresh];
     this.#fresh.clear();
     for (const { subscriptions } of entries) for (const subscription of subscriptions) subscription.onNews(subscription);
+    if (this.#kept.bytes > this.#kept.most) this.#shed();
   }
 
   #end(doc, entry) {
     this.#docs.delete(doc);
+    this.#kept.bytes -= entry.bytes;
     for (const subscription of entry.subscriptions) {
       subscription.hasEnded = true;
       subscription.onNews(subscription);

@@ -98,6 +98,27 @@ export class Presence {
     this.#rooms.get(message.doc).put(teller, /** @type {any} */ (message));
   }
 
+  /** Documents in which a browser is. @param {Teller} teller @returns {string[]} */
+  docsOf(teller) {
+    return [...(this.#places.get(teller)?.keys() ?? [])];
+  }
+
+  /** In how many. @param {Teller} teller */
+  countOf(teller) {
+    return this.#places.get(teller)?.size ?? 0;
+  }
+
+  /** Whether it is in one. @param {Teller} teller @param {string} doc */
+  has(teller, doc) {
+    return this.#places.get(teller)?.has(doc) ?? false;
+  }
+
+  /** A browser is told nothing more of a document, and nobody of it. @param {Teller} teller @param {string} doc */
+  end(teller, doc) {
+    const rev = this.#places.get(teller)?.get(doc);
+    if (rev !== undefined) this.#leave(teller, { doc, rev });
+  }
+
   /** A browser is gone. @param {Teller} teller */
   depart(teller) {
     for (const [doc, rev] of this.#places.get(teller) ?? []) this.#leave(teller, { doc, rev });

@@ -15,8 +15,9 @@ import { createGateway } from "./gateway.js";
 import { HOOKS } from "./settings.js";
 
 const USAGE = "usage: richd-gateway --settings FILE, or richd-gateway import STORE --settings FILE [LIST]";
+const PATIENCE = 10_000; // milliseconds that a request may take to come
 const OWN = ["127.0.0.1", "localhost", "[::1]", "::1"];
-const FIELDS = ["listen", "watch", "name", "stores", "readers", "writers", "guests", "names", "data", "etcd", "rule", "term", "origins", "user", "module", "anybody", "limits"];
+const FIELDS = ["listen", "watch", "name", "stores", "readers", "writers", "guests", "names", "data", "etcd", "rule", "term", "recall", "recheck", "origins", "hosts", "address", "user", "module", "anybody", "limits"];
 
 /** @param {any} text @param {string} field */
 function addressIn(text, field) {
@@ -76,11 +77,11 @@ async function serve(file) {
   const server = http.createServer((request, response) => {
     if (!gateway.handleRequest(request, response)) response.writeHead(404).end("no such page\n");
   });
+  server.headersTimeout = server.requestTimeout = PATIENCE;
   server.on("upgrade", (request, socket, head) => gateway.handleUpgrade(request, socket, head));
   console.log(`listening ${await listening(server, address)}`);
   const watching = http.createServer((request, response) => {
-    if (request.url === "/metrics") response.writeHead(200, { "content-type": "text/plain; version=0.0.4" }).end(gateway.metricsText());
-    else if (request.url !== "/healthz" || !gateway.handleRequest(request, response)) response.writeHead(404).end("no such page\n");
+    if (!gateway.handleWatch(request, response)) response.writeHead(404).end("no such page\n");
   });
   if (watched !== undefined) console.log(`watching ${await listening(watching, watched)}`);
   process.on("uncaughtException", (error) => {

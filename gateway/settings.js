@@ -5,10 +5,18 @@ const STORE = /^[A-Za-z0-9._-]{1,32}$/;
 const SESSIONS = 64; // that a store serves
 const MOST_NAMES = 4_096; // that a document has places for
 const DAY = 86_400_000; // milliseconds
-export const DEFAULTS = { name: "g", readers: 2, writers: 16, guests: 8, names: 120, term: 7, pulse: 15_000 };
-export const LIMITS = { sessions: 20_000, userSessions: 200, userMessages: 2_000 };
+export const DEFAULTS = { name: "g", readers: 2, writers: 16, guests: 8, names: 120, term: 7, recall: 60, recheck: 5, pulse: 15_000 };
+const MIB = 1 << 20; // bytes
+export const LIMITS = {
+  sessions: 20_000, userSessions: 200, addressSessions: 20_000,
+  userMessages: 2_000, userBytes: MIB, userOverhead: MIB / 64, addressBytes: 64 * MIB, userNames: 4, userDocuments: 1_000,
+  userCreations: 1_000, userCreationsHour: 100,
+  lineBytes: 64 * MIB, newsBytes: 4 * MIB, waitingBytes: 256 * MIB, keptBytes: 64 * MIB,
+};
+// The defaults where all are one user, but for names, of which he has all.
+const OF_ALL = { userBytes: 64 * MIB, userOverhead: MIB, userDocuments: 2 ** 31, userCreations: 2 ** 31, userCreationsHour: 2 ** 31 };
 export const HOOKS = ["authorize", "can", "onCommand", "onTaken"];
-const FIELDS = [...Object.keys(DEFAULTS), "stores", "data", "etcd", "rule", "origins", "limits", ...HOOKS, "log", "hidesMetrics"];
+const FIELDS = [...Object.keys(DEFAULTS), "stores", "data", "etcd", "rule", "origins", "hosts", "address", "limits", ...HOOKS, "log", "hidesMetrics"];
 
 /** Throws a reason where something doesn't hold. */
 function demand(holds, reason) {
@@ -52,9 +60,17 @@ function checkEtcd(etcd) {
   demand(etcd.prefix === undefined || isText(etcd.prefix), "etcd: prefix is a text that isn't empty");
 }
 
+function isUrl(text) {
+  try {
+    return Boolean(new URL(text));
+  } catch {
+    return false;
+  }
+}
+
 /** @param {any} origins */
 export function checkOrigins(origins) {
-  const isOrigin = (it) => isText(it) && /^https?:\/\/[^/]+$/.test(it);
+  const isOrigin = (it) => isText(it) && /^https?:\/\/[^/]+$/.test(it) && isUrl(it);
   demand(origins === undefined || (Array.isArray(origins) && origins.every(isOrigin)), "origins is a list of scheme://host[:port]");
 }
 
@@ -65,7 +81,8 @@ export function checkOrigins(origins) {
 export function checked(given) {
   for (const field of Object.keys(given)) demand(FIELDS.includes(field), `there is no setting ${field}`);
   for (const hook of HOOKS) demand(given[hook] === undefined || typeof given[hook] === "function", `${hook} is a function`);
-  const settings = { ...DEFAULTS, ...given, limits: { ...LIMITS, ...given.limits } };
+  const ofAll = given.authorize === undefined ? { ...OF_ALL, userNames: given.names ?? DEFAULTS.names } : {};
+  const settings = { ...DEFAULTS, ...given, limits: { ...LIMITS, ...ofAll, ...given.limits } };
   const { name, stores, readers, writers, guests, names, term, data, etcd, rule, origins, limits } = settings;
   demand(isText(name) && NAME.test(name), `name has 1 to 12 characters of A-Z a-z 0-9 . _ -, and not ${JSON.stringify(name)}`);
   checkStores(stores);
@@ -76,6 +93,8 @@ export function checked(given) {
   demand(share <= SESSIONS, `readers, writers, guests and one for the news are ${share} sessions, and a store has ${SESSIONS}`);
   demand(isBetween(names, writers, MOST_NAMES), `names is at least writers, which is ${writers}, and at most ${MOST_NAMES}`);
   demand(Number.isFinite(term) && term > 0, "term is a number of days above 0");
+  demand(isBetween(settings.recall, 1, 2 ** 31 - 1), "recall is a whole number of seconds above 0");
+  demand(isBetween(settings.recheck, 1, 2 ** 31 - 1), "recheck is a whole number of seconds above 0");
   demand(isBetween(settings.pulse, 1, 2 ** 31 - 1), "pulse is a whole number of milliseconds above 0");
   demand(etcd !== undefined || isText(data), "data: a folder of this gateway's own is needed without etcd");
   if (etcd !== undefined) checkEtcd(etcd);
@@ -83,9 +102,14 @@ export function checked(given) {
   demand(etcd !== undefined || rule !== undefined || stores.length === 1, "several stores need etcd, or a rule");
   if (rule !== undefined) checkRule(rule, stores);
   checkOrigins(origins);
+  const { hosts, address } = settings;
+  demand(address === undefined || isText(address?.header), "address: header is the name of a header");
+  demand(hosts === undefined || (Array.isArray(hosts) && hosts.every((it) => isText(it) && /^[^/:]+$/.test(it))), "hosts is a list of names without a port");
   for (const [limit, value] of Object.entries(limits)) {
     demand(limit in LIMITS, `limits: ${limit} is none of ${Object.keys(LIMITS).join(", ")}`);
     demand(isBetween(value, 1, 2 ** 31), `limits: ${limit} is a whole number above 0`);
   }
+  const { lineBytes, newsBytes, waitingBytes, keptBytes } = limits;
+  demand(waitingBytes >= lineBytes && lineBytes >= newsBytes && keptBytes >= newsBytes, "limits: waitingBytes is at least lineBytes, and lineBytes and keptBytes at least newsBytes");
   return { ...settings, term: term * DAY, rule: rule ?? [{ prefix: "", store: stores[0].name }] };
 }

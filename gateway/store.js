@@ -2,6 +2,7 @@
 
 import { codeOf, revOf, REFUSAL } from "./messages.js";
 import { News } from "./news.js";
+import { Turns } from "./turns.js";
 import { Command, Upstream } from "./upstream.js";
 
 const MOST_SINCE = 1_000; // revisions that are asked for at once: a reply is held whole
@@ -9,12 +10,21 @@ const IDLE = 60_000; // milliseconds after which a guest's session is closed
 const NO_DOCUMENT = 6;
 const FUTURE = 12;
 const DELETED = 40;
+const MOST_READING = 2; // reads of older revisions that are asked for at once
 const MOST_STALE = 100; // times that a read is asked again which is older than an own command
 const STALE_PAUSE = 10; // milliseconds
+const TOO_LONG = Buffer.from(REFUSAL.NoMemory); // another object than that of a store without memory
+
+/**
+ * @typedef {object} Waiter  a message that waits for a name
+ * @property {string} user
+ * @property {() => boolean} isWanted
+ * @property {() => Promise<boolean>} isServed  asks again
+ */
 
 /**
  * The sessions of one store:
- * - readers: one for fetches, and where there are two another for `since`, which may be slow;
+ * - readers: one for fetches, and where there are two another for `since` and for older revisions, which may be slow;
  * - news: one that follows;
  * - writers: one for each of the first names of the pool, always open;
  * - guests: at most so many, for the pool's other names and for those that other gateways have lent. One is opened as it is needed, and closed
@@ -25,21 +35,44 @@ export class Store {
   #prefix;
   #most;
   #metrics;
+  #log;
+  #limits;
   #readers;
   /** @type {Map<string, Upstream>} */
   #writers = new Map();
   /** @type {Map<string, { session: Upstream, used: number }>} in the order in which they were used last */
   #guests = new Map();
-  /** @type {{ name: string, command: Command }[]} */
-  #queue = []; // commands that wait for a guest's place
+  /** @type {Turns<{ name: string, command: Command }>} commands that wait for a guest's place */
+  #queue = new Turns();
+  /** @type {Map<string, Turns<Waiter>>} document -> messages that wait for a name */
+  #names = new Map();
+  #isNaming = false;
+  /** @type {Turns<{ wanted: () => boolean, ask: (done: (settle: (line: Buffer) => void, line: Buffer) => void) => void }>} */
+  #older = new Turns(); // reads of older revisions
+  #reading = 0; // of them that are asked
   #timer;
+
+  #onCut = () => (this.#metrics.cuts += 1);
+  // what each of its sessions tells
+  #listener = {
+    onCut: this.#onCut,
+    onGarbage: (what) => {
+      this.#metrics.count("garbage_total", { from: "store" });
+      this.#log("a store sends garbage", { store: this.name, what });
+    },
+    onFault: (error) => {
+      this.#metrics.count("faults_total");
+      this.#log("a fault of the gateway", { store: this.name, error: error.stack });
+    },
+  };
 
   /**
    * @param {{ name: string, host: string, port: number, new?: boolean }} address
    * @param {{ prefix: string, readers: number, guests: number, leases: any, metrics: import("./metrics.js").Metrics,
-   *   log: (event: string, about?: object) => void }} options  `prefix` is that of this gateway's own sessions
+   *   log: (event: string, about?: object) => void, limits: { lineBytes: number, newsBytes: number }, kept: import("./news.js").Kept }} options
+   *   `prefix` is that of this gateway's own sessions
    */
-  constructor({ name, host, port, new: takesNew = true }, { prefix, readers, guests, leases, metrics, log }) {
+  constructor({ name, host, port, new: takesNew = true }, { prefix, readers, guests, leases, metrics, log, limits, kept }) {
     this.name = name;
     this.takesNew = takesNew;
     this.leases = leases;
@@ -47,15 +80,18 @@ export class Store {
     this.#prefix = prefix;
     this.#most = guests;
     this.#metrics = metrics;
+    this.#log = log;
+    this.#limits = limits;
     const onOpen = () => log("a store is there", { store: name });
     const onCut = () => {
       this.#onCut();
       log("a store is away", { store: name });
     };
-    const first = new Upstream(this.#address, `${prefix}-reader`, { onOpen, onCut });
-    this.#readers = [first, ...Array.from({ length: readers - 1 }, () => new Upstream(this.#address, `${prefix}-reader2`, { onCut: this.#onCut }))];
-    const since = (doc, rev, settle, wanted) => this.since(doc, rev, settle, wanted);
-    this.news = new News(this.#address, `${prefix}-news`, since, { onCut: this.#onCut, onLag: (lag) => metrics.lag.add(lag) });
+    const first = new Upstream(this.#address, `${prefix}-reader`, { ...this.#listener, onOpen, onCut });
+    this.#readers = [first, ...Array.from({ length: readers - 1 }, () => new Upstream(this.#address, `${prefix}-reader2`, this.#listener))];
+    const since = (doc, rev, settle, wanted, user) => this.since(doc, rev, settle, wanted, user);
+    const onLong = (doc) => log("news of a document are longer than newsBytes", { store: name, doc });
+    this.news = new News(this.#address, `${prefix}-news`, since, { ...this.#listener, onLong, mostNews: limits.newsBytes, kept, onLag: (lag) => metrics.lag.add(lag) });
     this.#timer = setInterval(() => this.#closeIdle(), IDLE / 4);
     this.#timer.unref();
   }
@@ -66,7 +102,12 @@ export class Store {
 
   /** Opens the sessions that write, once their names are known. @param {string[]} names */
   openWriters(names) {
-    for (const name of names) this.#writers.set(name, new Upstream(this.#address, name, { onCut: this.#onCut }));
+    for (const name of names) this.#writers.set(name, new Upstream(this.#address, name, this.#listener));
+  }
+
+  /** How many users wait for a guest's place. */
+  get waiting() {
+    return this.#queue.users;
   }
 
   /** How many sessions of each kind are open. */
@@ -78,35 +119,66 @@ export class Store {
 
   /**
    * Fetches; again where what comes is older than what this browser has changed.
-   * @param {string} line
+   * @param {any} message
    * @param {number} least  the revision that it has to have, 0 where it may have any
    * @param {(line: Buffer) => void} settle
    * @param {() => boolean} wanted
+   * @param {string} user
    */
-  fetch(line, least, settle, wanted) {
-    this.#askUpTo(this.#readers[0], line, least, settle, wanted);
+  fetch(message, least, settle, wanted, user) {
+    const answer = (line) => {
+      if (line === TOO_LONG) this.#log("a document is longer than lineBytes", { store: this.name, doc: message.doc });
+      settle(line);
+    };
+    const bound = { most: this.#limits.lineBytes, instead: TOO_LONG };
+    if (message.rev === undefined) return this.#askUpTo(this.#readers[0], message, least, answer, wanted, bound);
+    this.#readOlder(user, wanted, (done) => this.#readers.at(-1).ask(message, (line) => done(answer, line), wanted, bound));
+  }
+
+  // What a store has to make of its past may take long: users take turns at it, and few are asked for at once.
+  #readOlder(user, wanted, ask) {
+    this.#older.add(user, { wanted, ask });
+    this.#serveReads();
+  }
+
+  #serveReads() {
+    while (this.#reading < MOST_READING) {
+      const read = this.#older.next(() => true);
+      if (read === undefined) return;
+      if (!read.wanted()) continue;
+      this.#reading += 1;
+      read.ask((settle, line) => {
+        this.#reading -= 1;
+        setImmediate(() => this.#serveReads());
+        settle(line);
+      });
+    }
   }
 
   /**
-   * What came after a revision, where that are a thousand revisions at most. Whether it is more is asked first, by a fetch of one that isn't
+   * What came after a revision, where that are a thousand revisions at most, and `newsBytes`. Whether it is more is asked first, by a fetch of one that isn't
    * there yet: it is refused by Future.
    * @param {string} doc
    * @param {number} rev
    * @param {(line: Buffer) => void} settle
-   * @param {() => boolean} [wanted]
+   * @param {() => boolean} wanted
+   * @param {string} user
    * @param {number} [least]
    */
-  since(doc, rev, settle, wanted, least = 0) {
+  since(doc, rev, settle, wanted, user, least = 0) {
     const reader = this.#readers.at(-1);
     const beyond = rev + MOST_SINCE + 1;
-    const line = JSON.stringify({ do: "since", doc, rev }) + "\n";
-    if (!Number.isSafeInteger(beyond)) return reader.ask(line, settle, wanted);
-    reader.ask(JSON.stringify({ do: "fetch", doc, rev: beyond }) + "\n", (answer) => {
-      const code = codeOf(answer);
-      if (code === 0) settle(REFUSAL.TooOld);
-      else if (code !== FUTURE) settle(answer);
-      else this.#askUpTo(reader, line, least, settle, wanted);
-    }, wanted);
+    const message = { do: "since", doc, rev };
+    const tooOld = { most: this.#limits.newsBytes, instead: REFUSAL.TooOld };
+    this.#readOlder(user, wanted, (done) => {
+      if (!Number.isSafeInteger(beyond)) return reader.ask(message, (line) => done(settle, line), wanted);
+      reader.ask({ do: "fetch", doc, rev: beyond }, (answer) => {
+        const code = codeOf(answer);
+        if (code === 0) done(settle, REFUSAL.TooOld);
+        else if (code !== FUTURE) done(settle, answer);
+        else this.#askUpTo(reader, message, least, (line) => done(settle, line), wanted, tooOld);
+      }, wanted, tooOld);
+    });
   }
 
   /**
@@ -116,79 +188,111 @@ export class Store {
    * @returns {Promise<"there" | "deleted" | "nowhere">}
    */
   async standing(doc, wanted) {
-    const line = JSON.stringify({ do: "since", doc, rev: Number.MAX_SAFE_INTEGER }) + "\n";
-    const code = await new Promise((resolve) => this.#readers.at(-1).ask(line, (answer) => resolve(codeOf(answer)), wanted));
+    const message = { do: "since", doc, rev: Number.MAX_SAFE_INTEGER };
+    const code = await new Promise((resolve) => this.#readers[0].ask(message, (answer) => resolve(codeOf(answer)), wanted));
     if (code === FUTURE || code === 0) return "there";
     if (code === DELETED) return "deleted";
     if (code === NO_DOCUMENT) return "nowhere";
     throw new Error(`the store answers ${code}`);
   }
 
-  #askUpTo(reader, line, least, settle, wanted, tries = 0) {
-    reader.ask(line, (answer) => {
+  #askUpTo(reader, message, least, settle, wanted, bound, tries = 0) {
+    reader.ask(message, (answer) => {
       if (!(revOf(answer) < least) || codeOf(answer) !== 0 || tries === MOST_STALE) return settle(answer);
       this.#metrics.stale += 1;
-      setTimeout(() => this.#askUpTo(reader, line, least, settle, wanted, tries + 1), STALE_PAUSE);
-    }, wanted);
+      setTimeout(() => this.#askUpTo(reader, message, least, settle, wanted, bound, tries + 1), STALE_PAUSE);
+    }, wanted, bound);
   }
 
   /**
-   * Sends a command under a name. It may still wait then; `settle` is told as by a `Command`.
+   * Sends a command under a name. It may still wait then, by turns of users; `settle` is told as by a `Command`.
+   * @param {string} user
    * @param {string} name
-   * @param {string} line
+   * @param {any} message
    * @param {(line: Buffer | null | undefined) => void} settle
    */
-  command(name, line, settle) {
-    const command = new Command(line, settle);
+  command(user, name, message, settle) {
+    const command = new Command(message, settle);
     const writer = this.#writers.get(name);
     if (writer !== undefined) {
       writer.command(command);
       return command;
     }
-    this.#queue.push({ name, command });
+    this.#queue.add(user, { name, command });
     this.#serveGuests();
     return command;
   }
 
+  /**
+   * Has a message wait for a name in a document, by turns of users.
+   * @param {string} user
+   * @param {string} doc
+   * @param {Waiter} waiter
+   */
+  waitForName(user, doc, waiter) {
+    this.#metrics.count("name_waits_total");
+    this.#log("a message waits for a name", { store: this.name, doc, user });
+    if (!this.#names.has(doc)) this.#names.set(doc, new Turns());
+    this.#names.get(doc).add(user, waiter);
+  }
+
+  /** Looks whether there are names for those who wait. */
+  async serveNames() {
+    if (this.#isNaming) return;
+    this.#isNaming = true;
+    for (const [doc, turns] of this.#names) {
+      // one of each user is looked at, and again those who got one
+      for (let tries = turns.users; tries > 0 && !turns.isEmpty; tries -= 1) {
+        const waiter = turns.next(() => true);
+        if (!waiter.isWanted() || (await waiter.isServed().catch(() => false))) continue;
+        turns.add(waiter.user, waiter);
+      }
+      if (turns.isEmpty) this.#names.delete(doc);
+    }
+    this.#isNaming = false;
+  }
+
   end() {
     clearInterval(this.#timer);
-    this.#queue = [];
+    this.#queue = new Turns();
     this.news.end();
     for (const session of [...this.#readers, ...this.#writers.values()]) session.end();
     for (const { session } of this.#guests.values()) session.end();
   }
 
-  #onCut = () => (this.#metrics.cuts += 1);
 
   // Gives what waits to the sessions of its names, as far as there is room for them.
   #serveGuests() {
-    const full = new Set(); // names that have to wait
-    const queue = this.#queue;
-    this.#queue = [];
-    for (const item of queue) {
-      const session = !item.command.isWanted || full.has(item.name) ? undefined : this.#guest(item.name);
-      if (!item.command.isWanted) item.command.settle(undefined);
-      else if (session !== undefined) session.command(item.command);
-      else if (full.add(item.name)) this.#queue.push(item);
+    for (;;) {
+      const item = this.#queue.next(({ name, command }) => !command.isWanted || this.#hasRoom(name));
+      if (item === undefined) return;
+      if (item.command.isWanted) this.#guest(item.name).command(item.command);
+      else item.command.settle(undefined);
     }
+  }
+
+  // While several users wait a guest gets nothing new until it is idle, so that its place may be another's.
+  #hasRoom(name) {
+    const found = this.#guests.get(name);
+    if (found !== undefined) return found.session.isIdle || this.#queue.users === 1;
+    return this.#guests.size < this.#most || this.#idle !== undefined;
+  }
+
+  get #idle() {
+    return [...this.#guests].find(([, { session }]) => session.isIdle)?.[0];
   }
 
   #guest(name) {
     const found = this.#guests.get(name);
-    if (found !== undefined) {
-      this.#guests.delete(name);
-    } else if (this.#guests.size >= this.#most) {
-      const idle = [...this.#guests].find(([, { session }]) => session.isIdle);
-      if (idle === undefined) return undefined;
-      this.#close(idle[0]);
-    }
-    const session = found?.session ?? new Upstream(this.#address, name, { onCut: this.#onCut, onIdle: () => this.#onIdle() });
+    if (found !== undefined) this.#guests.delete(name);
+    else if (this.#guests.size >= this.#most) this.#close(this.#idle);
+    const session = found?.session ?? new Upstream(this.#address, name, { ...this.#listener, onIdle: () => this.#onIdle() });
     this.#guests.set(name, { session, used: performance.now() });
     return session;
   }
 
   #onIdle() {
-    if (this.#queue.length > 0) setImmediate(() => this.#serveGuests());
+    if (!this.#queue.isEmpty) setImmediate(() => this.#serveGuests());
   }
 
   #close(name) {

@@ -1,36 +1,50 @@
 // A session of a store: lines go out, replies come back in their order. It is begun again after a cut. Reads that had no reply are asked again
 // then, in their order, as long as their asker wants them. A command that was sent is never sent again from here: whoever sent it is told.
+//
+// What comes is judged before it is passed on. A line that no store would send ends the session, as a cut does, and the read that it answers is
+// to be sent again. A line that is longer than its asker takes is never held: he gets what stands for it, and the rest is dropped.
 
 import net from "node:net";
+import { REFUSAL, codeOf } from "./messages.js";
+import { isNews, isReply } from "./replies.js";
 
 const NEWS = /^\{"doc":"([^"]+)","(news|ended)":(\d+)/;
-const NOTHING = '{"do":"unsubscribe","doc":"-"}\n'; // changes nothing, and is answered
+const HELLO = { do: "hello" };
+const NOTHING = { do: "unsubscribe", doc: "-" }; // changes nothing, and is answered
 const FIRST_PAUSE = 50; // milliseconds until a session is begun again; it is doubled each time
 const LONGEST_PAUSE = 2_000;
 const IDLE = 15_000; // after so many milliseconds without a line it asks whether the store is there
 const PATIENCE = 60_000; // and so long it waits for any line
 
 const SWEEP = 500; // lines that wait for a session; then those that nobody wants any more are dropped
+const SHORT = 1_024; // bytes of a reply to which no operations belong
+const MOST_DROPPED = 1 << 24; // bytes of a line's rest; then the session is begun again
+const SHOWN = 80; // characters of garbage that are logged
 
 /**
  * @typedef {object} Ask  something that may be asked again
+ * @property {any} message
  * @property {string} line
  * @property {(line: Buffer) => void} settle
  * @property {() => boolean} wanted  whether it is still to be sent
+ * @property {number} most  bytes of its reply
+ * @property {Buffer} [instead]  of a reply that is longer
  */
 
 /** A command: it is sent once at most. */
 export class Command {
   isSent = false;
   isWanted = true;
+  most = SHORT;
 
   /**
-   * @param {string} line
+   * @param {any} message
    * @param {(line: Buffer | null | undefined) => void} settle  is called once with the reply; with null where the session was cut after it was sent,
    *     with undefined where it wasn't sent as nobody wanted it any more
    */
-  constructor(line, settle) {
-    this.line = line;
+  constructor(message, settle) {
+    this.message = message;
+    this.line = JSON.stringify(message) + "\n";
     this.settle = settle;
   }
 
@@ -46,10 +60,14 @@ export class Upstream {
   #isOpen = false;
   /** @type {Buffer[]} */
   #part = [];
+  #partBytes = 0;
+  #most = SHORT; // bytes that the line may have, as far as is known
+  #dropped = -1; // bytes of the rest of a line that is too long, or -1
   /** @type {(Ask | Command)[]} */
   #waiting = [];
   #pause = FIRST_PAUSE;
   #isEnded = false;
+  #isGreeted = false;
   #silentSince = performance.now();
   #sweepAt = SWEEP;
   #timer;
@@ -59,7 +77,8 @@ export class Upstream {
    * @param {{ host: string, port: number }} address
    * @param {string} source
    * @param {{ onNews?: (doc: string, rev: number | null, line: Buffer) => void, onBegin?: () => void, onOpen?: () => void, onCut?: () => void,
-   *   onIdle?: () => void }} [listener]
+   *   onIdle?: () => void, onGarbage?: (what: string) => void, onFault?: (error: Error) => void, mostNews?: number,
+   *   onLong?: (doc: string) => void }} [listener]  `mostNews` bytes of a line of news
    */
   constructor(address, source, listener = {}) {
     this.#address = address;
@@ -79,9 +98,15 @@ export class Upstream {
     return this.#waiting.length === 0;
   }
 
-  /** Asks something that may be asked again. */
-  ask(line, settle, wanted = () => true) {
-    this.#add({ line, settle, wanted });
+  /**
+   * Asks something that may be asked again.
+   * @param {any} message
+   * @param {(line: Buffer) => void} settle
+   * @param {() => boolean} [wanted]
+   * @param {{ most?: number, instead?: Buffer }} [bound]  bytes of the reply, and what is given instead of one that has more
+   */
+  ask(message, settle, wanted = () => true, { most = SHORT, instead } = {}) {
+    this.#add({ message, line: JSON.stringify(message) + "\n", settle, wanted, most, instead });
   }
 
   /** Sends a command. @param {Command} command */
@@ -109,7 +134,7 @@ export class Upstream {
     const dropped = this.#waiting.filter(({ wanted }) => !wanted());
     this.#waiting = this.#waiting.filter(({ wanted }) => wanted());
     this.#sweepAt = 2 * this.#waiting.length + SWEEP;
-    for (const item of dropped) if (item instanceof Command) item.settle(undefined);
+    for (const item of dropped) item.settle(item instanceof Command ? undefined : REFUSAL.NoMemory); // whoever asked counts on it
   }
 
   #send(item) {
@@ -119,32 +144,89 @@ export class Upstream {
   }
 
   #begin() {
-    let isGreeted = false;
+    this.#isGreeted = false;
     const socket = net.connect({ ...this.#address, noDelay: true });
     this.#socket = socket;
-    this.#part = [];
+    this.#emptyPart();
     this.#silentSince = performance.now();
     socket.on("error", () => {}); // its close follows
     socket.on("connect", () => socket.write(this.#hello));
     socket.on("data", (bytes) => {
+      if (socket.destroyed) return;
       this.#silentSince = performance.now();
-      let from = 0;
-      for (let at; (at = bytes.indexOf(10, from)) !== -1; from = at + 1) {
-        const end = bytes.subarray(from, at + 1);
-        const line = this.#part.length === 0 ? end : Buffer.concat([...this.#part, end]);
-        this.#part = [];
-        if (isGreeted) this.#take(line);
-        else if (line.latin1Slice(0, 6) !== '{"ok":') return socket.destroy(); // no memory for a session
-        else this.#open();
-        isGreeted = true;
+      try {
+        this.#read(bytes, socket);
+      } catch (error) {
+        this.#listener.onFault?.(error);
+        socket.destroy();
       }
-      if (from < bytes.length) this.#part.push(bytes.subarray(from));
     });
     socket.on("close", () => this.#close());
   }
 
+  #read(bytes, socket) {
+    let from = 0;
+    for (let at; (at = bytes.indexOf(10, from)) !== -1; from = at + 1) {
+      const isHeld = this.#dropped < 0 && this.#addPart(bytes.subarray(from, at + 1));
+      const line = this.#part.length === 1 ? this.#part[0] : Buffer.concat(this.#part);
+      if (socket.destroyed) return;
+      this.#emptyPart();
+      if (isHeld) this.#line(line);
+      if (socket.destroyed) return;
+    }
+    if (from === bytes.length) return;
+    if (this.#dropped < 0) return void this.#addPart(bytes.subarray(from));
+    this.#dropped += bytes.length - from;
+    if (this.#dropped > MOST_DROPPED) socket.destroy();
+  }
+
+  #emptyPart() {
+    this.#part = [];
+    this.#partBytes = 0;
+    this.#most = SHORT;
+    this.#dropped = -1;
+  }
+
+  // Adds a piece of a line, and gives whether that is still held. One that gets longer than its asker takes is answered in its place, and dropped.
+  #addPart(bytes) {
+    this.#part.push(bytes);
+    this.#partBytes += bytes.length;
+    if (this.#partBytes <= this.#most) return true;
+    const head = Buffer.concat(this.#part.map((part) => part.subarray(0, SHORT)).slice(0, SHORT)).subarray(0, SHORT);
+    const news = this.#isGreeted ? NEWS.exec(head.latin1Slice(0, Math.min(100, head.length))) : null;
+    const { mostNews = 0, onNews, onLong } = this.#listener;
+    const isNewsLine = news !== null && onNews !== undefined;
+    const asked = this.#isGreeted ? this.#waiting[0] : undefined;
+    this.#most = Math.max(SHORT, isNewsLine ? mostNews : (asked?.most ?? 0));
+    if (this.#partBytes <= this.#most) return true;
+    if (isNewsLine ? onLong === undefined : asked?.instead === undefined) this.#garbage(head);
+    else {
+      this.#part = [];
+      this.#dropped = 0;
+      if (isNewsLine) onLong(news[1]);
+      else this.#settle(asked, asked.instead);
+    }
+    return false;
+  }
+
+  #line(line) {
+    if (this.#isGreeted) return this.#take(line);
+    if (!isReply(line, HELLO)) return this.#garbage(line);
+    if (codeOf(line) !== 0) return this.#socket.destroy(); // no memory for a session
+    this.#isGreeted = true;
+    this.#open();
+  }
+
+  // What no store sends: whoever asked is told, and the session is begun again.
+  #garbage(bytes) {
+    this.#listener.onGarbage?.(bytes.latin1Slice(0, Math.min(SHOWN, bytes.length)));
+    this.#socket.destroy();
+    const [asked] = this.#waiting;
+    if (!this.#isOpen || asked === undefined || asked instanceof Command) return; // a command is told as the session closes
+    this.#settle(asked, REFUSAL.NoMemory);
+  }
+
   #open() {
-    this.#pause = FIRST_PAUSE;
     this.#sweep();
     this.#listener.onBegin?.(); // what it asks stands behind what waits
     for (const item of this.#waiting) this.#send(item);
@@ -170,8 +252,20 @@ export class Upstream {
 
   #take(line) {
     const found = NEWS.exec(line.latin1Slice(0, Math.min(100, line.length)));
-    if (found !== null) return this.#listener.onNews?.(found[1], found[2] === "news" ? Number(found[3]) : null, line);
-    this.#waiting.shift()?.settle(line);
+    if (found !== null && this.#listener.onNews !== undefined) {
+      if (!isNews(line, found)) return this.#garbage(line);
+      this.#pause = FIRST_PAUSE;
+      return this.#listener.onNews(found[1], found[2] === "news" ? Number(found[3]) : null, line);
+    }
+    const [asked] = this.#waiting;
+    if (asked === undefined || !isReply(line, asked.message)) return this.#garbage(line);
+    this.#pause = FIRST_PAUSE;
+    this.#settle(asked, line);
+  }
+
+  #settle(asked, line) {
+    this.#waiting.shift();
+    asked.settle(line);
     this.#tellIdle();
   }
 

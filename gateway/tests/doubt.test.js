@@ -28,6 +28,7 @@ async function begun(t) {
 async function takeOther(t, gateway) {
   const zoe = await Talk.begin(t, gateway.url, "zoe");
   assert.equal((await zoe.ask({ do: "lease", doc: "d" })).epoch, 1);
+  await zoe.ask({ do: "edit", doc: "d", n: 1, base: 2 ** 53 - 1, ops: [] }); // is never taken, but a name is lent for it
   zoe.socket.terminate();
 }
 

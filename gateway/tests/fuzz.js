@@ -1,5 +1,5 @@
 // Many browsers, as programs with the JavaScript client, that write at random through the gateway, over kills -9 of the store and of the gateway
-// and cuts of the browsers. checks/gateway.py runs it. usage: node fuzz.js SECONDS [BROWSERS] [DOCUMENTS] [lend]
+// and cuts of the browsers. checks/gateway.py runs it. usage: node fuzz.js SECONDS [BROWSERS] [DOCUMENTS] [lend [full | etcd]]
 //
 // In one half of the documents only characters are put in, each one another: at the end each is there once. In the other half the browsers
 // delete, format and undo too. At the end all documents of all browsers hold what `richd dump` has, and so does what each `change` made of the
@@ -7,27 +7,35 @@
 //
 // With `lend` a document has three names for all of its browsers, a term of a second and a half, and the browsers are away for longer now and
 // then. So names are lent on. What was sent by then without a reply is told as in doubt, and is there once or not at all; what finds no name is
-// told as refused, and isn't there.
+// told as refused, and isn't there. With `full` besides, the gateway's file of leases can't grow now and then, so that a line of it is cut short;
+// with `etcd` leases and places are in etcd, which is killed now and then.
 
+import { execFileSync } from "node:child_process";
+import { statSync } from "node:fs";
 import path from "node:path";
 import { webSockets } from "../websockets.js";
 import { connect } from "../../clients/js/node.js";
-import { GatewayProgram, Richd, folderFor, pause } from "./programs.js";
+import { EtcdProgram, GatewayProgram, Richd, folderFor, needsEtcd, pause } from "./programs.js";
 
-const lends = process.argv[5] === "lend";
+const [lends, trouble] = [process.argv[5] === "lend", process.argv[6]];
+if (trouble === "etcd" && needsEtcd.skip) {
+  console.log(`skipped: ${needsEtcd.skip}`);
+  process.exit(0);
+}
 const [seconds = 60, browsers = 100, documents = 20] = process.argv.slice(2, 5).map(Number);
 const TERM = 1_500; // milliseconds, where names are lent on
 const LENDING = { names: 3, writers: 2, guests: 2, term: TERM / 86_400_000 };
 const STORE_KILLS = 4_000; // milliseconds between two, half as many to half as many more
 const GATEWAY_KILLS = 9_000;
 const CUTS = 400;
+const TROUBLES = 2_000; // full disks, kills of etcd
 const LONGEST = 120_000; // milliseconds until all is settled
 const { WebSocket } = webSockets();
 
 const endings = [];
 const test = { after: (ending) => endings.push(ending) };
 const random = (below) => Math.floor(Math.random() * below);
-const count = { edits: 0, undos: 0, "kills of the store": 0, "kills of the gateway": 0, cuts: 0, aways: 0 };
+const count = { edits: 0, undos: 0, "kills of the store": 0, "kills of the gateway": 0, cuts: 0, aways: 0, "full disks": 0, "kills of etcd": 0 };
 const troubles = {};
 const differences = [];
 const differ = (what) => differences.push(what) > 20 || console.log(`DIFFERENCE  ${what}`);
@@ -36,8 +44,10 @@ const told = (error) => (troubles[error.message] = (troubles[error.message] ?? 0
 const store = new Richd(test, "--sources", "256", "--docs", "256", "--cell", "1000000", "--slot", "1000000");
 await store.serve();
 const data = path.join(folderFor(test), "data");
+const etcd = trouble === "etcd" ? new EtcdProgram(test) : undefined;
+await etcd?.start();
 const gateway = new GatewayProgram(test, () => ({
-  name: "f", stores: [{ name: "s1", host: "127.0.0.1", port: store.port }], data, ...(lends ? LENDING : {}), limits: { userSessions: 10_000, userMessages: 1_000_000 },
+  name: "f", stores: [{ name: "s1", host: "127.0.0.1", port: store.port }], ...(etcd === undefined ? { data } : { etcd: { urls: etcd.urls } }), ...(lends ? LENDING : {}), limits: { userSessions: 10_000, userMessages: 1_000_000, userNames: 1_000 },
 }), process.env.LOG ? "inherit" : "ignore");
 await gateway.start();
 
@@ -155,6 +165,26 @@ async function kill(what, program, again) {
   await again();
 }
 
+/** The gateway's files may have so many bytes. It may be gone just now. */
+function bound(bytes) {
+  try {
+    execFileSync("prlimit", [`--fsize=${bytes}:unlimited`, "--pid", String(gateway.pid)], { stdio: "ignore" });
+  } catch {
+    // the next one is bounded again
+  }
+}
+
+async function fillDisk() {
+  count["full disks"] += 1;
+  try {
+    bound(statSync(path.join(data, "leases-s1")).size + random(40));
+  } catch {
+    return; // it is being written anew
+  }
+  await pause(random(1_000));
+  bound("unlimited");
+}
+
 let isOver = false;
 const writers = Array.from({ length: browsers }, (_, id) => new Writer(id));
 await Promise.all(writers.slice(0, documents).map((writer) => writer.begin()));
@@ -165,6 +195,8 @@ await Promise.all([
   ...writers.map((writer) => writer.write()),
   every(STORE_KILLS, () => kill("kills of the store", store, () => store.serve())),
   every(GATEWAY_KILLS, () => kill("kills of the gateway", gateway, () => gateway.start())),
+  trouble === "full" ? every(TROUBLES, fillDisk) : undefined,
+  trouble === "etcd" ? every(TROUBLES, () => kill("kills of etcd", etcd, () => etcd.start(etcd.port))) : undefined,
   every(CUTS, () => {
     count.cuts += 1;
     [...open][random(open.size)]?.terminate();

@@ -26,7 +26,7 @@ const store = new Richd(test, "--sources", "256", "--docs", "256", "--slot", "10
 await store.serve();
 const gateway = new GatewayProgram(test, () => ({
   stores: [{ name: "s1", host: "127.0.0.1", port: store.port }], data: path.join(folderFor(test), "data"), names: 200,
-  limits: { userSessions: 100_000, userMessages: 1_000_000 },
+  limits: { userSessions: 100_000, userMessages: 1_000_000, userNames: 1_000 },
 }), "ignore");
 await gateway.start();
 

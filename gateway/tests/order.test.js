@@ -27,8 +27,8 @@ test("commands are sent without waiting, and a read waits for them", async (t) =
   assert.deepEqual([first.message.n, second.message.n], [1, 2]);
   await pause(50);
   assert.equal(store.asked.length, 0, "nothing overtakes");
-  second.reply(taken(second.message, 2));
   first.reply(taken(first.message, 1));
+  second.reply(taken(second.message, 2));
   const fetch = await store.next();
   assert.equal(fetch.message.do, "fetch");
   await pause(50);

@@ -6,6 +6,7 @@ import test from "node:test";
 import { Etcd } from "../etcd.js";
 import { EtcdLeases } from "../leases-etcd.js";
 import { EtcdPlaces, RuledPlaces } from "../places.js";
+import { Sweep } from "../sweep.js";
 import { EtcdProgram, folderFor, needsEtcd } from "./programs.js";
 import { FakeStore, Talk, gatewayFor, pause, taken, until } from "./talk.js";
 
@@ -25,7 +26,10 @@ class FakeEtcd {
     this.server = http.createServer((request, response) => {
       let text = "";
       request.on("data", (part) => (text += part));
-      request.on("end", () => response.end(JSON.stringify(this[request.url.split("/").at(-1)](JSON.parse(text)))));
+      request.on("end", () => {
+        const answer = this[request.url.split("/").at(-1)](JSON.parse(text));
+        response.end(JSON.stringify({ header: { revision: String(this.revision) }, ...answer }));
+      });
     });
     await new Promise((resolve) => this.server.listen(port, "127.0.0.1", resolve));
     this.port = this.server.address().port;
@@ -41,7 +45,14 @@ class FakeEtcd {
     const [from, to] = [decoded(key), range_end && decoded(range_end)];
     const keys = [...this.kept.keys()].filter((it) => (to === undefined ? it === from : it >= from && it < to)).sort();
     const kvs = (limit > 0 ? keys.slice(0, limit) : keys).map((it) => ({ key: encoded(it), value: encoded(this.kept.get(it).value), mod_revision: String(this.kept.get(it).mod) }));
-    return kvs.length === 0 ? {} : { kvs };
+    return kvs.length === 0 ? {} : { kvs, count: String(keys.length) };
+  }
+
+  deleterange({ key, range_end }) {
+    const { kvs = [] } = this.range({ key, range_end });
+    for (const found of kvs) this.kept.delete(decoded(found.key));
+    this.revision += 1;
+    return {};
   }
 
   txn({ compare = [], success, failure }) {
@@ -60,6 +71,13 @@ class FakeEtcd {
     });
     return succeeded ? { succeeded, responses } : { responses };
   }
+}
+
+/** Places a document, as its creation does. */
+async function placed(places, doc) {
+  const store = await places.find(doc, true);
+  if (places.isOpen(doc)) await places.place(doc, store).catch(() => {}); // another one was faster
+  return places.again(doc);
 }
 
 const STORES = ["s1", "s2", "s3"].map((name) => ({ name, takesNew: true, isOpen: true }));
@@ -83,7 +101,7 @@ for (const [kind, needs, Program] of [["a stub of etcd", {}, FakeEtcd], ["etcd",
     assert.equal(await places.find("d0", false), null);
     assert.equal(places.cached("d0"), undefined);
     const docs = Array.from({ length: 20 }, (_, index) => `d${index}`);
-    const [one, other] = await Promise.all([places, others].map((them) => Promise.all(docs.map((doc) => them.find(doc, true)))));
+    const [one, other] = await Promise.all([places, others].map((them) => Promise.all(docs.map((doc) => placed(them, doc)))));
     assert.deepEqual(one, other);
     assert.deepEqual([...new Set(one)].sort(), ["s1", "s2", "s3"]);
     assert.equal(await others.find("d0", false), one[0]);
@@ -93,7 +111,7 @@ for (const [kind, needs, Program] of [["a stub of etcd", {}, FakeEtcd], ["etcd",
   it("a document moves from a store that is full of documents, once, and new ones go elsewhere", async (t) => {
     const { places, etcd } = await begun(t);
     const others = new EtcdPlaces({ etcd: etcd(), stores: () => STORES });
-    const before = await places.find("d", true);
+    const before = await placed(places, "d");
     await others.find("d", false);
     const [one, other] = await Promise.all([places.move("d", before), others.move("d", before)]);
     assert.equal(one, other);
@@ -104,6 +122,59 @@ for (const [kind, needs, Program] of [["a stub of etcd", {}, FakeEtcd], ["etcd",
     assert.equal(await places.move("d", one), null, "all are full");
   });
 
+  it("a creation's place and lease are one transaction, and are taken back in one, but for a place that is another creation's", async (t) => {
+    const { places, etcd } = await begun(t, [STORES[0]]);
+    const client = etcd();
+    const book = (pool, its) => new EtcdLeases({ etcd: etcd(), store: "s1", pool: async () => [`${pool}-0`], first: 1, term: 1_000, now: () => 0, places: its });
+    const keys = async () => [...(await client.under("place/")), ...(await client.under("lease/")), ...(await client.under("name/")), ...(await client.under("maker/"))].map(({ key }) => key);
+    const one = book("g1", places);
+    await places.find("d", true);
+    assert.deepEqual(await keys(), []);
+    const ann = await one.lend("d", "ann", true);
+    assert.deepEqual(await keys(), ["place/d", "lease/s1/d/ann", "name/s1/d/g1-0", "maker/ann/d"]);
+    one.release("d", "ann", ann, true);
+    await until(async () => (await keys()).length === 0);
+    // a second creation of the same document, from another gateway
+    await places.find("d", true);
+    const again = await one.lend("d", "ann", true);
+    const others = new EtcdPlaces({ etcd: etcd(), stores: () => STORES });
+    assert.equal(await others.find("d", true), "s1");
+    assert.deepEqual([await places.countOf("ann"), await places.countOf("an")], [1, 0]);
+    const other = book("g2", others);
+    const bob = await other.lend("d", "bob", true);
+    one.release("d", "ann", again, true);
+    await until(async () => (await keys()).length === 5); // who tried is counted until a start
+    assert.deepEqual(await keys(), ["place/d", "lease/s1/d/bob", "name/s1/d/g2-0", "maker/ann/d", "maker/bob/d"]);
+    other.release("d", "bob", bob, true);
+    await until(async () => (await keys()).length === 1);
+  });
+
+  it("what creations left that were never made is swept away, and nothing else", async (t) => {
+    const { etcd } = await begun(t);
+    const client = etcd();
+    const put = (key, value = "s1") => client.transact([], [{ key, value }]);
+    const docs = Array.from({ length: 5 }, (_, index) => `d${index}`);
+    for (const doc of [...docs, "there", "late", "away"]) {
+      await put(`place/${doc}`, doc === "away" ? "s9" : "s1");
+      await put(`lease/s1/${doc}/ann`, "{}");
+      await put(`name/s1/${doc}/g-0`, "ann");
+      await put(`maker/ann/${doc}`, "");
+    }
+    await put("lease/s2/d0/ann", "{}"); // of a move
+    const asked = new Map();
+    const standing = async (doc) => {
+      asked.set(doc, (asked.get(doc) ?? 0) + 1);
+      if (doc === "away") throw new Error("the store isn't there");
+      return doc === "there" || (doc === "late" && asked.get(doc) > 1) ? "there" : "nowhere";
+    };
+    const stores = new Map(["s1", "s2"].map((name) => [name, { standing }]));
+    assert.equal(await new Sweep({ etcd: client, stores, wait: 50, pause: 0 }).run(), 6);
+    const left = (await Promise.all(["place/", "lease/", "name/"].map((text) => client.under(text)))).flat().map(({ key }) => key);
+    assert.deepEqual(left, ["away", "late", "there"].map((doc) => `place/${doc}`).concat(...["lease", "name"].map((kind) => ["away", "late", "there"].map((doc) => `${kind}/s1/${doc}/${kind === "lease" ? "ann" : "g-0"}`))));
+    assert.deepEqual((await client.under("maker/")).map(({ key }) => key), ["away", "late", "there"].map((doc) => `maker/ann/${doc}`));
+    assert.equal(await new Sweep({ etcd: client, stores, wait: 50, pause: 0 }).run(), 0);
+  });
+
   it("stores that take nothing new, or aren't there, are passed over", async (t) => {
     const { places } = await begun(t, [{ name: "s1", takesNew: false, isOpen: true }, { name: "s2", takesNew: true, isOpen: false }, { name: "s3", takesNew: true, isOpen: true }]);
     for (let k = 0; k < 5; k += 1) assert.equal(await places.find(`d${k}`, true), "s3");
@@ -112,7 +183,7 @@ for (const [kind, needs, Program] of [["a stub of etcd", {}, FakeEtcd], ["etcd",
   it("the list has all places in order, in pages", async (t) => {
     const { places } = await begun(t);
     const docs = ["a", "a-", "a.b", "a0", "b", "z"];
-    for (const doc of docs) await places.find(doc, true);
+    for (const doc of docs) await placed(places, doc);
     assert.deepEqual(await places.list("", 10), docs);
     assert.deepEqual(await places.list("", 2), ["a", "a-"]);
     assert.deepEqual(await places.list("a-", 3), ["a.b", "a0", "b"]);
@@ -121,7 +192,7 @@ for (const [kind, needs, Program] of [["a stub of etcd", {}, FakeEtcd], ["etcd",
 
   it("documents that a store had are taken in, and those that are elsewhere are told", async (t) => {
     const { places } = await begun(t);
-    const elsewhere = await places.find("d7", true);
+    const elsewhere = await placed(places, "d7");
     const docs = Array.from({ length: 50 }, (_, index) => `d${index}`);
     const store = elsewhere === "s1" ? "s2" : "s1";
     assert.deepEqual(await places.take(docs, store), ["d7"]);
@@ -174,7 +245,7 @@ test("a rule by the beginning of names, and a list of what was created or import
   const places = new RuledPlaces({ rule, folder });
   assert.deepEqual(["team", "team.a", "team.xy"].map((doc) => places.cached(doc)), ["s1", "s2", "s3"]);
   assert.equal(new RuledPlaces({ rule: rule.slice(1), folder: folderFor(t) }).cached("d"), null);
-  for (const doc of ["b", "a", "b"]) places.created(doc);
+  await Promise.all(["b", "a", "b"].map((doc) => places.created(doc)));
   assert.deepEqual(await places.take(["team.c", "d"], "s1"), ["team.c"]);
   await pause(50);
   await places.close();
@@ -272,6 +343,30 @@ test("a creation that a store refuses, as it is full of documents, goes to the n
   assert.equal(late.store, second.store, "a place that has changed is asked for again");
   late.reply({ doc: "d", ok: "doc", ops: [], rev: 1 });
   await until(() => bob.replies.length === 2);
+});
+
+test("a creation that is refused leaves nothing in etcd, and one of what is there leaves the place alone", async (t) => {
+  const { etcd, stores, begin } = await clustered(t, 1);
+  const { url, port } = await begin("g1");
+  const ann = await Talk.begin(t, url, "ann");
+  const kept = () => [...etcd.kept.keys()].filter((key) => !key.startsWith("richd/pool/"));
+  let replies = 1;
+  for (const code of [3, 4, 9, 14, 15, 16, 17, 20]) {
+    ann.send(create("d"), { do: "edit", doc: "d", n: 2, base: 1, ops: [] });
+    const [creation, edit] = [await stores[0].next(), await stores[0].next()];
+    assert.equal(kept().length, 4);
+    creation.reply({ code, error: "Refused" });
+    edit.reply({ code: 6, error: "NoDocument" });
+    replies += 2;
+    await until(() => ann.replies.length === replies);
+    assert.deepEqual(ann.replies.slice(-2).map((reply) => reply.code), [code, 6]);
+    await until(() => kept().length === 0, `nothing is left after ${code}`);
+  }
+  assert.deepEqual(await (await fetch(`http://127.0.0.1:${port}/docs`)).json(), { docs: [], next: null });
+  ann.send(create("d"));
+  (await stores[0].next()).reply({ code: 7, error: "Exists" });
+  await until(() => kept().length === 2);
+  assert.deepEqual(kept().sort(), ["richd/maker/anybody/d", "richd/place/d"]);
 });
 
 test("with etcd away known places are served, others are to be sent again, and all goes on when it is back", async (t) => {

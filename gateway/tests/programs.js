@@ -151,6 +151,10 @@ export class GatewayProgram {
     return `ws://127.0.0.1:${this.port}/`;
   }
 
+  get pid() {
+    return this.#program.pid;
+  }
+
   get said() {
     return this.#program.said.map((line) => JSON.parse(line));
   }

@@ -1,8 +1,9 @@
 // Who connects, and what he may do.
 
 import assert from "node:assert/strict";
+import http from "node:http";
 import test from "node:test";
-import { isAllowedOrigin } from "../origins.js";
+import { isAllowedOrigin, isKnownHost } from "../origins.js";
 import { FakeStore, Talk, gatewayFor, pause, taken, until } from "./talk.js";
 
 async function begun(t, settings) {
@@ -69,6 +70,65 @@ test("onCommand refuses, onTaken is told what was taken, and probes aren't told"
   assert.deepEqual(told, [{ user: { id: "ann", name: "Ann" }, doc: "d", message, rev: 7, isAgain: false }]);
 });
 
+test("a command passes where onCommand gives true, and by nothing else", async (t) => {
+  const given = { yes: true, promised: Promise.resolve(true), no: false, nothing: undefined, null: null, one: 1, text: "true", empty: Promise.resolve() };
+  const { store, url, events } = await begun(t, { onCommand: ({ doc }) => given[doc] });
+  const ann = await Talk.begin(t, url, "token");
+  for (const doc of Object.keys(given)) {
+    ann.send({ ...MESSAGES.edit[0], doc });
+    if (["yes", "promised"].includes(doc)) {
+      const { message, reply } = await store.next();
+      reply(taken(message, 2));
+    }
+    await until(() => ann.replies.length === 2 + Object.keys(given).indexOf(doc));
+    assert.equal(ann.replies.at(-1).code, ["yes", "promised"].includes(doc) ? undefined : 60, doc);
+  }
+  assert.equal(store.asked.length, 0);
+  assert.equal(events.filter(({ event }) => event.startsWith("onCommand gave neither")).length, 5);
+});
+
+test("attributes of any name pass unchanged, to the store and back", async (t) => {
+  const { store, url } = await begun(t);
+  const ann = await Talk.begin(t, url, "token");
+  const ops = '[{"attributes":{"__proto__":1,"constructor":true,"hasOwnProperty":"a","toString":null},"retain":1},{"insert":{"__proto__":"x"}}]';
+  ann.send(`{"do":"edit","doc":"d","n":1,"base":1,"ops":${ops}}`);
+  const { message, reply } = await store.next();
+  assert.equal(JSON.stringify(message.ops), ops);
+  reply(taken(message, 2));
+  ann.send({ do: "subscribe", doc: "d", rev: 1 });
+  (await store.next()).reply({ deltas: [JSON.parse(ops)], doc: "d", ok: "since", rev: 2 });
+  (await store.next()).reply({ doc: "d", ok: "subscribed", rev: 2 });
+  await until(() => ann.news.length === 1);
+  assert.equal(JSON.stringify(ann.news[0].ops), ops);
+});
+
+/** The status of a page that is asked for by these headers. */
+const statusOf = (port, page, headers) => new Promise((resolve, reject) => {
+  const asked = http.get({ host: "127.0.0.1", port, path: page, headers, setHost: false }, ({ statusCode }) => resolve(statusCode));
+  asked.on("error", reject);
+});
+
+test("pages from elsewhere don't get the list, the counts, or whether it runs", async (t) => {
+  const { port, gateway, events } = await begun(t, { hosts: ["gateway1"] });
+  const PAGES = ["/docs", "/metrics", "/healthz"];
+  const good = [{ host: `127.0.0.1:${port}` }, { host: "10.0.0.7" }, { host: "[::1]:80" }, { host: "LOCALHOST" }, { host: "gateway1:8080" }, { host: `localhost:${port}`, origin: `http://localhost:${port}` }];
+  const bad = [{ host: "evil.example" }, { host: `evil.example:${port}`, origin: `http://evil.example:${port}` }, { host: "127.0.0.1", origin: "https://evil.example" },
+    { host: "127.0.0.1", origin: "null" }, { host: "127.0.0.1.evil.example" }, { host: "gateway1.evil.example" }];
+  for (const page of PAGES) {
+    for (const headers of good) assert.equal(await statusOf(port, page, headers), 200, `${page} ${JSON.stringify(headers)}`);
+    for (const headers of bad) assert.equal(await statusOf(port, page, headers), 403, `${page} ${JSON.stringify(headers)}`);
+  }
+  assert.match(gateway.metricsText(), new RegExp(`^richd_gateway_pages_refused_total ${PAGES.length * bad.length}$`, "m"));
+  assert.ok(events.some(({ event, host }) => event === "a page is refused" && host === "evil.example"));
+});
+
+test("with a list of origins their names are known, too", () => {
+  const known = { origins: ["https://notes.example", "http://[2001:db8::1]:8080"] };
+  const asked = (host) => isKnownHost({ headers: { host } }, known);
+  assert.ok(asked("notes.example") && asked("Notes.Example:443") && asked("[2001:db8::1]:8080") && asked(undefined));
+  assert.ok(!asked("example") && !asked("notes.example.evil") && !asked(""));
+});
+
 test("each session is judged by what authorize gave for it, and shown by that name", async (t) => {
   const told = [];
   const given = { "/old": { id: "ann", name: "Ann", isEditor: false }, "/new": { id: "ann", name: "Ann B.", isEditor: true } };
@@ -103,6 +163,82 @@ test("a user's sessions are closed where his rights change, and nobody else's", 
   const [one, other, bob] = [await Talk.begin(t, url, "a", as("ann")), await Talk.begin(t, url, "b", as("ann")), await Talk.begin(t, url, "c", as("bob"))];
   gateway.closeUser("ann");
   assert.deepEqual([await one.closed(), await other.closed(), bob.code], [4403, 4403, null]);
+});
+
+/** Ann and bob follow a document of a gateway that asks what they may. */
+async function following(t, settings) {
+  const rights = { ann: true, bob: true, asked: 0, fault: false };
+  const can = (user) => {
+    rights.asked += 1;
+    if (rights.fault) throw new Error("no database");
+    return rights[user];
+  };
+  const it = await begun(t, { authorize: ({ headers }) => headers["x-user"], can, ...settings });
+  const talks = [];
+  for (const user of ["ann", "bob"]) {
+    const talk = await Talk.begin(t, it.url, user, { headers: { "x-user": user } });
+    talk.send({ do: "subscribe", doc: "d", rev: 1 }, { at: [0, 0], do: "presence", doc: "d", rev: 1 });
+    if (user === "ann") {
+      (await it.store.next(({ do: what }) => what === "since")).reply({ deltas: [], doc: "d", ok: "since", rev: 1 });
+      it.follower = await it.store.next(({ do: what }) => what === "subscribe");
+      it.follower.reply({ doc: "d", ok: "subscribed", rev: 1 });
+    }
+    await until(() => talk.replies.length === 3);
+    talks.push(talk);
+  }
+  const [ann, bob] = talks;
+  const news = async (rev) => {
+    it.follower.reply({ doc: "d", news: rev, ops: [] });
+    await until(() => bob.news.some((line) => line.news === rev));
+  };
+  return { ...it, rights, ann, bob, news };
+}
+
+test("rights that are taken away end news and carets, by 60, after a time, and nobody else's", async (t) => {
+  const { rights, ann, bob, news, events } = await following(t, { recheck: 1 });
+  await news(2);
+  rights.ann = false;
+  await until(() => ann.news.some(({ ended }) => ended === 60));
+  await news(3);
+  await bob.ask({ at: [1, 1], do: "presence", doc: "d", rev: 3 });
+  await until(() => bob.carets.some(({ at }) => at === null), "ann's caret goes");
+  assert.deepEqual(ann.news, [{ doc: "d", news: 2, ops: [] }, { doc: "d", ended: 60 }]);
+  assert.equal(ann.carets.some(({ at }) => at?.[0] === 1), false);
+  assert.ok(events.some(({ event, user, doc }) => event === "a user may no longer read what he is told of" && user === "ann" && doc === "d"));
+});
+
+test("rights that can't be asked for again are asked for later, and nothing ends", async (t) => {
+  const { rights, ann, news, events } = await following(t, { recheck: 1 });
+  rights.fault = true;
+  await until(() => events.some(({ event }) => event === "rights can't be asked for again now"));
+  await news(2);
+  assert.deepEqual(ann.news, [{ doc: "d", news: 2, ops: [] }]);
+  Object.assign(rights, { fault: false, ann: false });
+  await until(() => ann.news.some(({ ended }) => ended === 60));
+});
+
+test("revoke ends at once what a user may no longer do, of one document or all, and his sessions stay", async (t) => {
+  const { rights, ann, bob, news, gateway, store } = await following(t, { recheck: 1_000_000 });
+  rights.ann = false;
+  gateway.revoke("ann", "e");
+  gateway.revoke("zoe");
+  await news(2);
+  assert.deepEqual(ann.news, [{ doc: "d", news: 2, ops: [] }]);
+  ann.send({ do: "fetch", doc: "d" });
+  await until(() => ann.replies.length === 4);
+  assert.deepEqual(ann.replies[3], NOT_ALLOWED);
+  rights.ann = true;
+  ann.send({ do: "fetch", doc: "d" });
+  const fetch = await store.next();
+  rights.ann = false;
+  gateway.revoke("ann");
+  await until(() => ann.replies.length === 5);
+  assert.deepEqual(ann.replies[4], NOT_ALLOWED);
+  fetch.reply({ doc: "d", ok: "doc", ops: [{ insert: "a secret" }], rev: 2 });
+  await until(() => ann.news.some(({ ended }) => ended === 60));
+  await news(3);
+  assert.deepEqual(await bob.ask({ do: "unsubscribe", doc: "d" }), { doc: "d", ok: "unsubscribed" });
+  assert.deepEqual([ann.code, ann.news.at(-1), ann.replies.length], [null, { doc: "d", ended: 60 }, 5]);
 });
 
 const status = async (talk) => {

@@ -30,6 +30,9 @@ const WRONG = [
   [{ readers: 2, writers: 54, guests: 8 }, /are 65 sessions, and a store has 64/],
   [{ writers: 32, names: 31 }, /^names is at least writers, which is 32/],
   [{ term: 0 }, /^term is a number of days above 0/],
+  [{ recall: 0 }, /^recall is a whole number of seconds above 0/],
+  [{ recheck: 0.5 }, /^recheck is a whole number of seconds above 0/],
+  [{ origins: ["https://a b"] }, /^origins is a list/],
   [{ data: undefined }, /^data: a folder of this gateway's own/],
   [{ etcd: {} }, /^etcd: urls is a list/],
   [{ etcd: { urls: ["127.0.0.1:2379"] } }, /isn't http:\/\/HOST:PORT/],
@@ -38,7 +41,12 @@ const WRONG = [
   [{ rule: [{ prefix: "a", store: "s1" }, { prefix: "a", store: "s1" }] }, /^rule: a prefix stands twice/],
   [{ origins: "https://notes.example" }, /^origins is a list/],
   [{ origins: ["https://notes.example/"] }, /^origins is a list/],
-  [{ limits: { session: 1 } }, /^limits: session is none of sessions, userSessions, userMessages/],
+  [{ hosts: "gateway" }, /^hosts is a list of names without a port/],
+  [{ hosts: ["gateway:8080"] }, /^hosts is a list of names without a port/],
+  [{ address: "x-forwarded-for" }, /^address: header is the name of a header/],
+  [{ limits: { session: 1 } }, /^limits: session is none of sessions, /],
+  [{ limits: { waitingBytes: 1_000 } }, /^limits: waitingBytes is at least lineBytes/],
+  [{ limits: { newsBytes: 1.5 } }, /^limits: newsBytes is a whole number above 0/],
   [{ limits: { sessions: 0 } }, /^limits: sessions is a whole number above 0/],
   [{ user: { header: "x-remote-user" } }, /^there is no setting user/],
   [{ authorise: () => null }, /^there is no setting authorise/],
@@ -53,9 +61,11 @@ test("each wrong setting is refused with a reason", async () => {
 });
 
 test("the least settings have defaults", () => {
-  const { name, readers, writers, guests, names, term, limits } = checked(right);
+  const { name, readers, writers, guests, names, term, limits } = checked({ ...right, authorize: () => null });
   assert.deepEqual({ name, readers, writers, guests, names, term }, { name: "g", readers: 2, writers: 16, guests: 8, names: 120, term: 7 * 86_400_000 });
-  assert.deepEqual(limits, { sessions: 20_000, userSessions: 200, userMessages: 2_000 });
+  assert.deepEqual(limits, { sessions: 20_000, userSessions: 200, addressSessions: 20_000, userMessages: 2_000, userBytes: 1_048_576, userOverhead: 16_384,
+    addressBytes: 67_108_864, userNames: 4, userDocuments: 1_000, userCreations: 1_000, userCreationsHour: 100, lineBytes: 67_108_864, newsBytes: 4_194_304, waitingBytes: 268_435_456, keptBytes: 67_108_864 });
+  assert.equal(checked(right).limits.userNames, 120, "without authorize all are one user");
   assert.equal(checked({ stores: [store, { ...store, name: "s2" }], etcd }).data, undefined);
 });
 

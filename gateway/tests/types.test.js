@@ -21,6 +21,8 @@ const gateway = await createGateway({
   log: ({ time, event }) => console.log(time, event),
 });
 gateway.closeUser("ann");
+gateway.revoke("ann");
+gateway.revoke("ann", "d");
 const code: 4503 = CODE.full;
 if (gateway.health().stores.s1) await gateway.close();
 `;
@@ -29,6 +31,8 @@ const WRONG = [
   'await createGateway({ ...settings, origin: "https://notes.example" });',
   'await createGateway({ ...settings, can: (user: any, doc: string, action: "write") => true });',
   'gateway.closeUser();',
+  'await createGateway({ ...settings, onCommand: () => undefined });',
+  'await createGateway({ ...settings, limits: { userName: 4 } });',
 ];
 
 test("a strict program compiles, and wrong uses don't", needsTsc, (t) => {
