@@ -77,7 +77,9 @@ function userOf({ url }) {
 export async function startBridge({ host, port, listenHost = "127.0.0.1", listenPort = 0, origins, data = dataFor(host, port), quill, pages }) {
   const files = filesIn({ ...(pages && { "/": pages }), ...SERVED, ...(quill && { "/quill/": quill }) });
   for (const page of ["/", ...PAGES]) if (files.has(page + "index.html")) files.set(page, files.get(page + "index.html"));
-  const gateway = await createGateway({ name: "bridge", stores: [{ name: "store", host, port }], data, origins, authorize: userOf });
+  // (nobody signs in, so all pages may be one user, who has all names then)
+  const limits = { userNames: 120 };
+  const gateway = await createGateway({ name: "bridge", stores: [{ name: "store", host, port }], data, origins, authorize: userOf, limits });
 
   const server = http.createServer(async (request, response) => {
     const [pathname] = request.url.split("?");
