@@ -1,7 +1,7 @@
 #!/usr/bin/env python3
 """Checks the declarations of clients/js/types by TypeScript, which needn't be there.
 
-usage: checks/types.py [--write]     (with --write it makes them anew)
+usage: checks/declarations.py [--write]     (with --write it makes them anew)
 
 - They are what tsc makes of the JSDoc of clients/js. Versions of tsc print a little differently, so this is asked of the one that made them.
 - None names a type of Node.
@@ -121,7 +121,7 @@ def check_made(folder):
     committed = {file.name: file.read_text() for file in TYPES.glob("*.d.ts")}
     again = made(folder)
     return [
-        f"{name} isn't what tsc makes of the sources: checks/types.py --write makes it anew"
+        f"{name} isn't what tsc makes of the sources: checks/declarations.py --write makes it anew"
         for name in sorted(committed.keys() | again.keys())
         if committed.get(name) != again.get(name)
     ]
