@@ -16,12 +16,12 @@ fn is_filled<W: Write>(stream: &mut W, pieces: usize) -> bool {
 }
 
 // Whether the stream takes a byte.
-fn takes<W: Write>(stream: &mut W) -> &'static str {
-    if stream.write_all(b"y").is_ok() {
-        "taken"
-    } else {
-        "refused"
-    }
+fn takes<W: Write>(stream: &mut W) -> bool {
+    stream.write_all(b"y").is_ok()
+}
+
+fn word(is_taken: bool) -> &'static str {
+    if is_taken { "taken" } else { "refused" }
 }
 
 /// What is written over a pipe while it has no room, once it has some, and once nobody reads it.
@@ -37,12 +37,15 @@ fn over<R: Net + AllocGlobal, I: Drop + Read, W: Drop + Write + AsRawFd>(
 ) -> io::Result<String> {
     let mut stream = Patient::new(rt, writer);
     let is_filled = is_filled(&mut stream, 1_000);
-    let full = takes(&mut stream);
+    let is_taken_full = takes(&mut stream);
     let mut taken = [0; 8192];
     let has_some = reader.read(&mut taken)? > 0;
-    let emptied = takes(&mut stream);
+    let is_taken_then = takes(&mut stream);
     drop(reader);
-    let closed = takes(&mut stream);
+    let is_taken_closed = takes(&mut stream);
+    let full = word(is_taken_full);
+    let emptied = word(is_taken_then);
+    let closed = word(is_taken_closed);
     Ok(format!(in rt.alloc();
         "filled: {is_filled}\nfull: {full}\nread: {has_some}\nthen: {emptied}\nclosed: {closed}\n"
     )?)
