@@ -400,6 +400,7 @@ class Check:
             ann.caret(0)
             ann.type("x")
             wait_until(lambda: bob.text() == ann.text(), "the same text")
+        self.settle(doc, ann, bob)
 
     def values(self, doc):
         ann, bob = self.open(doc)
@@ -411,6 +412,7 @@ class Check:
         self.expect(bob.run("return document.querySelector('.mention').textContent.trim()") == "@bob", "the mention isn't shown")
         bob.run("page.quill.formatText(0, 7, 'bold', true, 'user')")
         ann.caret(6, 1)
+        ann.run("page.quill.history.cutoff()")
         ann.key("Delete")
         self.settle(doc, ann, bob)
         ann.undo()
