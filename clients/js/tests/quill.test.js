@@ -59,11 +59,14 @@ async function prepared(t, Quill, ops = [{ insert: "\n" }], faults = {}) {
   };
   const settled = async (...people) => {
     await new Promise(setImmediate); // what is in a page is told by then
-    const areThere = () => people.every(({ document }) => document.revision === server.documents.newest("d"));
+    const newest = () => server.documents.newest("d");
+    const areThere = () => people.every(({ document }) => document.revision === newest());
+    let before;
     do {
       await until(areThere);
+      before = newest();
       await Promise.all(people.map(({ document }) => document.flush()));
-    } while (!areThere());
+    } while (!areThere() || newest() !== before); // what others did may have let an editor tell more
   };
   const areAlike = (...people) => {
     for (const { quill, document } of people) {
