@@ -1,5 +1,5 @@
-//! A first look, which `./look` runs without a proof: makes a store in a temporary file, serves the lines of its standard input from it,
-//! prints its documents, and removes it, as `richd format`, `richd serve` and `richd dump` do.
+//! A store's life in one run, which the gate compares by two compilers: makes a store in a temporary file, serves the lines of its standard
+//! input from it, prints its documents, and removes it, as `richd format`, `richd serve` and `richd dump` do.
 #![tactic(auto)]
 
 use std::alloc::{AllocError, Global};
