@@ -1,9 +1,9 @@
 //! A sorted map from names to values of any kind.
-ghost use Rattle.std.specs.Prelude.{◌≡◌, T, MatchResult, OnOk, OnErr, option_copied};
+ghost use Rattle.std.specs.Prelude.{◌≡◌, ◌≤◌, T, length, MatchResult, OnOk, OnErr, option_copied};
 ghost use Rattle.std.specs.FinMap.Entries.{is_sorted};
 ghost use Rattle.attributes.specs.Map as map;
 ghost use Rattle.attributes.specs.Map.{by_bytes};
-ghost use Rattle.attributes.specs.Place.{IsHere, IsFree};
+ghost use Rattle.attributes.specs.Place.{IsHere, IsFree, StandsBefore};
 ghost use lib.Dec.{T_prop};
 
 use crate::key::Key;
@@ -45,18 +45,39 @@ impl<V> Map<V> {
         self.list.as_slice()
     }
 
-    // where the name stands, or else where it would stand
+    // where the name stands, or else where it would stand: it looks at the last entry first, so that names that come in order are put
+    // behind at once
     fn place(&self, name: &str) -> Result<usize, usize>
         ensures { MatchResult result (IsHere name.now self.now.entries) (IsFree name.now self.now.entries) }
     {
-        for (i, entry) in self.list.iter().enumerate() {
-            match name.cmp(entry.0.as_str()) {
-                Ordering::Less => return Err(i),
-                Ordering::Equal => return Ok(i),
-                Ordering::Greater => {}
+        let len = self.list.len();
+        if len == 0 {
+            return Err(0);
+        }
+        match name.cmp(self.list[len - 1].0.as_str()) {
+            Ordering::Less => self.search(name, len - 1),
+            Ordering::Equal => Ok(len - 1),
+            Ordering::Greater => Err(len),
+        }
+    }
+
+    // the same of a name that stands before what stands at a place: it halves what is left until that is one place
+    fn search(&self, name: &str, end: usize) -> Result<usize, usize>
+        requires within { end ≤ length self.now.entries }
+        requires before { StandsBefore name.now self.now.entries end }
+        ensures { MatchResult result (IsHere name.now self.now.entries) (IsFree name.now self.now.entries) }
+    {
+        let mut low = 0;
+        let mut high = end;
+        while low < high {
+            let middle = low + (high - low) / 2;
+            match name.cmp(self.list[middle].0.as_str()) {
+                Ordering::Less => high = middle,
+                Ordering::Equal => return Ok(middle),
+                Ordering::Greater => low = middle + 1,
             }
         }
-        Err(self.list.len())
+        Err(low)
     }
 
     /// What stands at a name.
