@@ -3,9 +3,9 @@ use Rattle.std.proofs.Common.{◌≡◌, ℕ, zero, suc, ◌+◌, ◌<◌, Bool,
 use Rattle.std.specs.Prelude.{is_some}
 use Rattle.std.specs.FinMap.Entries.{find}
 use Rattle.std.specs.Ordering.{eq_by_cmp}
-use Rattle.attributes.specs.Attributes.{Attributes, Changes, changed}
+use Rattle.attributes.specs.Attributes.{Attributes, Changes, changed, changed_by}
 use Rattle.attributes.specs.Laws.{first_of, value_after}
-use Rattle.attributes.specs.Map.{Map, by_bytes, get, contains, insert, overwritten, without}
+use Rattle.attributes.specs.Map.{Map, by_bytes, empty, get, contains, insert, insert_all, overwritten, without}
 use Rattle.attributes.specs.Scalar.{Scalar}
 use Rattle.attributes.proofs.AtEachName.{get-changed}
 use Rattle.attributes.proofs.Maps.{is_name, same_map, get-insert, get-overwritten, get-without, same_name_from}
@@ -94,6 +94,23 @@ overwritten-without {X} m n =
     dropped : (new old : Option X) → first_of new (cond (is_some new) None old) ≡ first_of new old
     dropped None old = refl
     dropped (Some x) old = refl
+
+-- a map over the one without an entry
+pub overwritten-empty : {X : Type 0} (m n : Map X) → m ≡ empty → overwritten m n ≡ n
+overwritten-empty {X} m n none = same_map _ _ (λ name. get-overwritten m n name ∙ (ap (λ k. first_of (get n name) (get k name)) none ∙ alone (get n name)))
+  where
+    alone : (o : Option X) → first_of o None ≡ o
+    alone None = refl
+    alone (Some x) = refl
+
+-- and the one without an entry over a map
+pub overwritten-by-empty : {X : Type 0} (m n : Map X) → n ≡ empty → overwritten m n ≡ m
+unfolding insert_all
+overwritten-by-empty m n none = ap (overwritten m) none
+
+pub changed-by-empty : (a : Attributes) (c : Changes) → c ≡ empty → changed a c ≡ a
+unfolding changed_by
+changed-by-empty a c none = ap (changed a) none
 
 -- equal steps from equal maps
 pub kept-same : {X : Type 0} {m n : Map X} (has : Bool) (e : List ℕ × X) → m ≡ n → cond has m (insert m e.0 e.1) ≡ cond has n (insert n e.0 e.1)

@@ -3,7 +3,7 @@ ghost use Rattle.std.specs.Prelude.{◌≡◌, [], IfOk, OnOk, OnErr, option_cop
 ghost use Rattle.attributes.specs.Map.{empty, insert, get, remove};
 
 use crate::key::Key;
-use crate::map::Map;
+use crate::shared::Shared;
 use crate::value::Value;
 use std::alloc::{AllocError, Global};
 use std::marker::Model;
@@ -11,7 +11,7 @@ use std::marker::Model;
 /// Attributes of an insertion or a unit: a value at each of their names.
 #[derive(Drop)]
 pub struct Attrs {
-    map: Map<Value>,
+    map: Shared<Value>,
 }
 
 impl Model for Attrs {
@@ -32,7 +32,7 @@ impl Attrs {
         ensures { result ≡ empty }
     {
         Attrs {
-            map: Map::new(alloc),
+            map: Shared::new(alloc),
         }
     }
 
@@ -58,21 +58,19 @@ impl Attrs {
         self.map.entries()
     }
 
-    pub(crate) fn remove(&mut self, name: &str)
-        ensures { self.new ≡ remove self.old name.now }
+    pub(crate) fn remove(&mut self, name: &str) -> Result<(), AllocError>
+        ensures ok { OnOk result (self.new ≡ remove self.old name.now) }
+        ensures err { OnErr result (self.new ≡ self.old) }
     {
         self.map.remove(name)
     }
 
-    /// Equal attributes.
+    /// Equal attributes, which stand in memory once with these. It takes no memory: refused only where they can have no more owners.
     pub fn copy(&self, alloc: Global) -> Result<Self, AllocError>
         ensures same { IfOk result (λ attrs. attrs ≡ self.now) }
     {
-        let mut copy = Attrs::new(alloc);
-        for (key, value) in self.entries() {
-            copy.set(key.copy(alloc)?, value.copy(alloc)?)?;
-        }
-        Ok(copy)
+        let map = self.map.share(alloc)?;
+        Ok(Attrs { map })
     }
 }
 

@@ -3,7 +3,7 @@ ghost use Rattle.std.specs.Prelude.{◌≡◌, ◌↔◌, IfOk, IsTrue, OnOk, On
 ghost use Rattle.attributes.specs.Map.{empty, insert, get, contains};
 
 use crate::key::Key;
-use crate::map::Map;
+use crate::shared::{Copied, Shared};
 use crate::value::Value;
 use std::alloc::{AllocError, Global};
 use std::marker::Model;
@@ -11,7 +11,7 @@ use std::marker::Model;
 /// A change of attributes: at each of its names a new value, or None, which removes the name.
 #[derive(Drop)]
 pub struct Change {
-    map: Map<Option<Value>>,
+    map: Shared<Option<Value>>,
 }
 
 impl Model for Change {
@@ -33,7 +33,7 @@ impl Change {
         ensures { result ≡ empty }
     {
         Change {
-            map: Map::new(alloc),
+            map: Shared::new(alloc),
         }
     }
 
@@ -87,15 +87,24 @@ impl Change {
         self.entries().is_empty()
     }
 
-    /// An equal change.
+    /// An equal change, which stands in memory once with this one. It takes no memory: refused only where it can have no more owners.
     pub fn copy(&self, alloc: Global) -> Result<Self, AllocError>
         ensures same { IfOk result (λ change. change ≡ self.now) }
     {
-        let mut copy = Change::new(alloc);
-        for (key, value) in self.entries() {
-            copy.set_copy(alloc, key, value)?;
-        }
-        Ok(copy)
+        let map = self.map.share(alloc)?;
+        Ok(Change { map })
+    }
+}
+
+impl Copied for Value {
+    fn copied(&self, alloc: Global) -> Result<Self, AllocError> {
+        self.copy(alloc)
+    }
+}
+
+impl Copied for Option<Value> {
+    fn copied(&self, alloc: Global) -> Result<Self, AllocError> {
+        copy_value(alloc, self)
     }
 }
 

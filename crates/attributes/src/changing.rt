@@ -10,8 +10,18 @@ use crate::value::Value;
 use std::alloc::{AllocError, Global};
 use std::cmp::Ordering;
 
-/// The attributes after a change.
+/// The attributes after a change. An empty change takes no memory.
 pub fn apply(alloc: Global, attrs: &Attrs, change: &Change) -> Result<Attrs, AllocError>
+    ensures value { IfOk result (λ after. after ≡ changed attrs.now change.now) }
+{
+    if change.is_empty() {
+        return attrs.copy(alloc);
+    }
+    apply_each(alloc, attrs, change)
+}
+
+// the same of any change, name by name
+fn apply_each(alloc: Global, attrs: &Attrs, change: &Change) -> Result<Attrs, AllocError>
     ensures value { IfOk result (λ after. after ≡ changed attrs.now change.now) }
 {
     let old = attrs.entries();
@@ -34,8 +44,21 @@ pub fn apply(alloc: Global, attrs: &Attrs, change: &Change) -> Result<Attrs, All
     Ok(after)
 }
 
-/// One change for two, the second after the first.
+/// One change for two, the second after the first. Where one of them is empty that takes no memory.
 pub fn compose(alloc: Global, first: &Change, second: &Change) -> Result<Change, AllocError>
+    ensures value { IfOk result (λ both. both ≡ composed first.now second.now) }
+{
+    if first.is_empty() {
+        return second.copy(alloc);
+    }
+    if second.is_empty() {
+        return first.copy(alloc);
+    }
+    compose_each(alloc, first, second)
+}
+
+// the same of any two changes, name by name
+fn compose_each(alloc: Global, first: &Change, second: &Change) -> Result<Change, AllocError>
     ensures value { IfOk result (λ both. both ≡ composed first.now second.now) }
 {
     let old = first.entries();
@@ -44,7 +67,7 @@ pub fn compose(alloc: Global, first: &Change, second: &Change) -> Result<Change,
     let mut kept = 0;
     let mut made = 0;
 
-    // as in `apply`
+    // as in `apply_each`
     while kept < old.len() || made < new.len() {
         if is_next(old, kept, new, made) {
             keep(alloc, &mut both, &old[kept], second)?;
@@ -114,10 +137,7 @@ fn put(alloc: Global, attrs: &mut Attrs, entry: &(Key, Option<Value>)) -> Result
 {
     match &entry.1 {
         Some(value) => attrs.set(entry.0.copy(alloc)?, value.copy(alloc)?),
-        None => {
-            attrs.remove(entry.0.as_str());
-            Ok(())
-        }
+        None => attrs.remove(entry.0.as_str()),
     }
 }
 

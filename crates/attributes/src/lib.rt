@@ -34,12 +34,15 @@ mod attrs;
 mod change;
 mod changing;
 mod key;
+mod known;
 pub mod laws;
 mod map;
+mod shared;
 mod value;
 
 pub use attrs::Attrs;
 pub use change::Change;
 pub use changing::{apply, compose, invert, transform};
 pub use key::Key;
+pub use known::Known;
 pub use value::{Value, ValueRef};

@@ -1,5 +1,7 @@
 //! A sorted map from names to values of any kind.
-ghost use Rattle.std.specs.Prelude.{◌≡◌, ◌≤◌, T, length, MatchResult, OnOk, OnErr, option_copied};
+ghost use Rattle.std.specs.Prelude.{◌≡◌, ◌≤◌, T, if◌then◌else◌, length, MatchResult, OnOk, OnErr, option_copied};
+ghost use Rattle.std.specs.List.{insert};
+ghost use Rattle.std.specs.Result.{is_ok};
 ghost use Rattle.std.specs.FinMap.Entries.{is_sorted};
 ghost use Rattle.attributes.specs.Map as map;
 ghost use Rattle.attributes.specs.Map.{by_bytes};
@@ -10,6 +12,9 @@ use crate::key::Key;
 use std::alloc::{AllocError, Global};
 use std::cmp::Ordering;
 use std::marker::Model;
+
+/// Maps with fewer names have no more room than they need.
+const FEW: usize = 4;
 
 /// Names with a value each, in the order of the names' bytes.
 #[derive(Drop)]
@@ -110,7 +115,7 @@ impl<V> Map<V> {
                 Ok(())
             }
             Err(i) => {
-                self.list.insert(i, (key, value))?;
+                insert_at(&mut self.list, i, (key, value))?;
                 Ok(())
             }
         }
@@ -126,4 +131,16 @@ impl<V> Map<V> {
             let _ = self.list.remove(i);
         }
     }
+}
+
+// puts an entry at a place of a list, which has no more room than it needs as long as it is short, as most are
+fn insert_at<T: Drop>(list: &mut Vec<T>, at: usize, entry: T) -> Result<(), AllocError>
+    requires { at ≤ length list.old.items }
+    ensures items { list.new.items ≡ (if is_ok result then insert list.old.items at entry else list.old.items) }
+{
+    if list.len() < FEW {
+        list.reserve_exact(1)?;
+    }
+    list.insert(at, entry)?;
+    Ok(())
 }

@@ -1,57 +1,10 @@
-use Rattle.std.proofs.Common.{◌∙◌, refl, length, ap, arith}
-use Rattle.attributes.specs.Attributes.{changed}
-use Rattle.attributes.specs.Map.{contains, without}
-use Rattle.attributes.proofs.Places.{read_at}
-use Rattle.attributes.proofs.Prefixes.{prefix, prefix-over, changed-none, changed-more, put_or_remove-same, without-none}
-use Rattle.attributes.proofs.Merging.{kept-same, changed-kept, changed-without}
+use Rattle.std.proofs.Common.{sym, ◌∙◌}
+use Rattle.std.proofs.lemmas.Result.{IfOk-weaker}
+use Rattle.attributes.proofs.Merging.{changed-by-empty}
 use Rattle.attributes.proofs.changing.apply.Goals as goal
 
-pub loop-kept-init : goal.loop-kept-init
-loop-kept-init c =
-    let old = c.args.attrs.now in
-    let new = c.args.change.now in
-    record {
-      kept = omega arith;
-      made = omega arith;
-      after = c.new-after.ensures ∙ (without-none old new ∙ changed-none (without (prefix old 0) new) new);
-    }
-
-pub loop-kept-preserved-then-is_next : goal.loop-kept-preserved-then-is_next
-loop-kept-preserved-then-is_next c =
-    let old = c.args.attrs.now in
-    let new = c.args.change.now in
-    let entry = c.index-old-kept.result in
-    let read = read_at _ old.entries c.loop-kept.kept entry c.entries-old.ensures (c.if-is_next.ensures.first refl) c.index-old-kept.is in
-    record {
-      kept = omega (arith, read.0);
-      made = c.loop-kept.invariant.made;
-      after =
-          c.in_ok-keep_value.ensures.ok
-          ∙ (kept-same (contains new entry.0) entry c.loop-kept.invariant.after ∙ changed-kept old new c.loop-kept.kept c.loop-kept.made entry read.0 read.1);
-    }
-
-pub loop-kept-preserved : goal.loop-kept-preserved
-loop-kept-preserved c =
-    let old = c.args.attrs.now in
-    let new = c.args.change.now in
-    let entry = c.index-new-made.result in
-    let read = read_at _ new.entries c.loop-kept.made entry c.entries-new.ensures (c.if-is_next.ensures.second refl) c.index-new-made.is in
-    record {
-      kept = c.loop-kept.invariant.kept;
-      made = omega (arith, read.0);
-      after =
-          c.in_ok-put.ensures.ok
-          ∙ (put_or_remove-same c.loop-kept.invariant.after refl refl ∙ changed-more (without (prefix old c.loop-kept.kept) new) new c.loop-kept.made entry read.0 read.1);
-    }
-
-pub returns : goal.returns
-returns c =
-    let old = c.args.attrs.now in
-    let new = c.args.change.now in
-    let all_old = prefix-over old old.entries c.loop-kept.kept refl c.loop-kept.invariant.kept (omega (arith, c.if-kept-old.false, ap length c.entries-old.ensures)) in
-    let all_new = prefix-over new new.entries c.loop-kept.made refl c.loop-kept.invariant.made (omega (arith, c.if-made-new.false, ap length c.entries-new.ensures)) in
-    record {
-      value =
-          c.loop-kept.invariant.after
-          ∙ (ap (λ m. changed (without m new) (prefix new c.loop-kept.made)) all_old ∙ (ap (changed (without old new)) all_new ∙ changed-without old new));
-    }
+pub returns-then-is_empty : goal.returns-then-is_empty
+returns-then-is_empty c = record {
+  value =
+      IfOk-weaker c.copy.result _ _ (λ after same. same ∙ sym (changed-by-empty c.args.attrs.now c.args.change.now (c.is_empty.ensures.0 c.if-is_empty.true))) c.copy.ensures.same;
+}

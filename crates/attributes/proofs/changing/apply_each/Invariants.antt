@@ -2,7 +2,7 @@ use Rattle.std.proofs.Common.{◌≡◌, ◌≤◌, ◌+◌, ◌-◌, length}
 use Rattle.attributes.specs.Attributes.{changed}
 use Rattle.attributes.specs.Map.{without}
 use Rattle.attributes.proofs.Prefixes.{prefix}
-use Rattle.attributes.proofs.changing.apply.Given as goal
+use Rattle.attributes.proofs.changing.apply_each.Given as goal
 
 abbrev pub invariant-loop-kept : goal.invariant-loop-kept
 invariant-loop-kept l = record {

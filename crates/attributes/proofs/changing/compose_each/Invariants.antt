@@ -1,7 +1,7 @@
 use Rattle.std.proofs.Common.{◌≡◌, ◌≤◌, ◌+◌, ◌-◌, length}
 use Rattle.attributes.specs.Map.{overwritten, without}
 use Rattle.attributes.proofs.Prefixes.{prefix}
-use Rattle.attributes.proofs.changing.compose.Given as goal
+use Rattle.attributes.proofs.changing.compose_each.Given as goal
 
 abbrev pub invariant-loop-kept : goal.invariant-loop-kept
 invariant-loop-kept l = record {
