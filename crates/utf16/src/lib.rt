@@ -12,10 +12,10 @@
 //! ghost use Rattle.std.specs.Prelude.{◌≡◌, take, IfOk};
 //! ghost use Rattle.utf16.specs.Units.{units_of};
 //!
-//! use utf16::{SplitError, split_at16};
+//! use utf16::{Cut, split_at16};
 //!
 //! /// The first code units of a text; refused where the text is shorter, or where a pair would be parted.
-//! pub fn first_units(text: &str, count: u64) -> Result<&str, SplitError>
+//! pub fn first_units(text: &str, count: u64) -> Result<&str, Cut>
 //!     ensures { IfOk result (λ front. units_of front.now ≡ take count (units_of text.now)) }
 //! {
 //!     let (front, _) = split_at16(text, count)?;
@@ -30,5 +30,5 @@ pub mod laws;
 mod len;
 
 pub use appending::append;
-pub use cut::{SplitError, split_at16, split_counted};
+pub use cut::{Cut, split_at16, split_counted};
 pub use len::len16;
