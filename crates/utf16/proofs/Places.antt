@@ -1,5 +1,5 @@
 -- Places in a text where a character begins, and the code units before and behind them.
-use Rattle.std.proofs.Common.{◌≡◌, ℕ, ◌+◌, ◌-◌, ◌<◌, ◌≤◌, Bool, true, false, zero, suc, List, [], ◌∷◌, ◌++◌, length, take, drop, get_or, refl, sym, ap, subst, ◌∙◌, ⊎_elim, arith, length-append, length-drop, get_or-drop, add-zero}
+use Rattle.std.proofs.Common.{◌≡◌, ℕ, ◌+◌, ◌-◌, ◌<◌, ◌≤◌, Bool, true, false, List, [], ◌∷◌, ◌++◌, length, take, drop, get_or, refl, sym, ap, subst, ◌∙◌, ⊎_elim, arith, length-append, length-drop, get_or-drop, add-zero}
 use Rattle.std.proofs.lemmas.Bool.{and_parts, cases_lt}
 use Rattle.std.proofs.lemmas.List.{get_or-append-add, take-append-drop, length-take-le}
 use Rattle.std.proofs.lemmas.Str.{IsUtf8-take, IsUtf8-drop, chars_past_char, encodes-chars, scalars-chars, length-encode, len_utf8_bounds}
@@ -8,7 +8,7 @@ use Rattle.std.specs.Char.{IsScalar, encode_utf8}
 use Rattle.std.specs.Char.Escape.{encode_utf16}
 use Rattle.std.specs.Str.{IsUtf8, chars, encode_utf8_all, IsCharBoundary}
 use Rattle.utf16.proofs.Begun.{begun_in-encode, begun_in-text, begun_in-take, begun-le}
-use Rattle.utf16.proofs.CodeUnits.{units_of-append, units_of-halves, first_not_low, low_not_zero, pair_of-large, length-units_of-le}
+use Rattle.utf16.proofs.CodeUnits.{units_of-append, units_of-halves, first_not_low, pair_of-large, length-units_of-le}
 use Rattle.utf16.specs.Begun.{begun, begun_in, continues}
 use Rattle.utf16.specs.Units.{units_of, units_of_chars, IsHigh, IsLow, IsInPair}
 
@@ -98,19 +98,10 @@ parted_at text i valid boundary inside two =
     units_of-behind text i 1 valid boundary ∙ ap (λ us. get_or us 1 0) start in
     (omega arith, subst IsHigh (sym high) pair.0, subst IsLow (sym low) pair.1)
 
--- the place lies before the end
-low-inside : (us : List ℕ) (i : ℕ) → IsLow (get_or us i 0) → i < length us
-low-inside [] i low = absurd (low_not_zero low)
-low-inside (u ∷ us) zero low = omega arith
-low-inside (u ∷ us) (suc i) low = omega (arith, low-inside us i low)
-
-pub in_pair-inside : (us : List ℕ) (at : ℕ) → IsInPair us at → at < length us
-in_pair-inside us at pair = low-inside us at pair.2
-
 -- the bytes so far begin characters of so many code units; where these pass the place, it lies in a pair
 pub record IsCounted (text : List ℕ) (bytes units at : ℕ) : Type 0 where
   pub inside : bytes ≤ length text
-  pub units : units ≡ begun_in (take bytes text)
+  pub units_are : units ≡ begun_in (take bytes text)
   pub in_pair : at < units → IsInPair (units_of text) at
 
 in_pair_after : (text : List ℕ) (bytes units at : ℕ) → IsUtf8 text → bytes < length text → IsCounted text bytes units at
@@ -123,7 +114,7 @@ in_pair_after text bytes units at valid inside counted before false begins past 
     let boundary = boundary_of text bytes inside begins in
     let more = begun-le (get_or text bytes 0) in
     let earlier = before begins in
-    let here : length (units_of (take bytes text)) + 1 ≡ at = omega (arith, counted.units, units_before text bytes valid boundary) in
+    let here : length (units_of (take bytes text)) + 1 ≡ at = omega (arith, counted.units_are, units_before text bytes valid boundary) in
     subst (IsInPair (units_of text)) here (parted_at text bytes valid boundary inside (omega arith))
 
 -- one more byte, where it begins no character at the place or past it
@@ -131,7 +122,7 @@ pub IsCounted-more : (text : List ℕ) (bytes units at : ℕ) → IsUtf8 text �
     → (continues (get_or text bytes 0) ≡ false → units < at) → IsCounted text (bytes + 1) (units + begun (get_or text bytes 0)) at
 IsCounted-more text bytes units at valid inside counted before = record {
   inside = omega arith;
-  units = omega (arith, counted.units, begun_in-take text bytes inside);
+  units_are = omega (arith, counted.units_are, begun_in-take text bytes inside);
   in_pair = λ past. in_pair_after text bytes units at valid inside counted before _ refl past;
 }
 
