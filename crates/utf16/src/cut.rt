@@ -34,7 +34,7 @@ pub fn split_at16(text: &str, at: u64) -> Result<(&str, &str), Cut>
     }
 }
 
-// The byte where the first character begins that has so many code units before it, or more, and these units; else the end.
+// Where the first character begins with at least `at` code units before it, else the end; and how many these are.
 fn place_at(text: &str, at: u64) -> (usize, u64)
     ensures boundary { IsCharBoundary text.now result.0 }
     ensures units { result.1 ≡ length (units_of (take result.0 text.now)) }
@@ -54,7 +54,7 @@ fn place_at(text: &str, at: u64) -> (usize, u64)
     (bytes, units)
 }
 
-// Bytes in whole blocks, among which characters of at most `at` code units begin, and these units.
+// The whole blocks where characters of at most `at` code units begin: their bytes, and these code units.
 fn blocks_before(all: &[u8], at: u64) -> (usize, u64)
     ensures inside { result.0 ≤ length all.now }
     ensures units { result.1 ≡ begun_in (take result.0 all.now) }

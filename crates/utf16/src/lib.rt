@@ -3,7 +3,8 @@
 //! Rich text counts its lengths in code units: one for a character below U+10000, two (a high one and
 //! a low one) for every other. The crate promises the length and the two halves of a text by code
 //! units, without a copy and without memory, and a text at the end of another; nothing is ever cut
-//! between the two units of a pair. The definitions stand in specs/Units.antt, and `laws` has what follows from them.
+//! between the two units of a pair. They are counted by blocks of bytes, for any script alike. The definitions
+//! stand in specs/Units.antt, those of counting over bytes in specs/Begun.antt, and `laws` has what follows from them.
 //! It stands on nothing but `std`.
 //!
 //! A caller, with its contract, which is proved as it stands:
