@@ -8,8 +8,8 @@ use Rattle.std.specs.Borrow.{Bor}
 use Rattle.document.specs.declared.run.Piece.{Piece}
 use Rattle.document.specs.declared.run.Piece.TheVariants as piece
 use Rattle.document.specs.Pieces.{IsPiece}
-use Rattle.utf16.specs.declared.cut.SplitError.{SplitError}
-use Rattle.utf16.specs.declared.cut.SplitError.TheVariants.{PastEnd, InPair}
+use Rattle.utf16.specs.declared.cut.Cut.{Cut}
+use Rattle.utf16.specs.declared.cut.Cut.TheVariants.{PastEnd, InPair}
 use Rattle.delta.specs.Element.{letters}
 use Rattle.document.specs.Pairs.{IsPairAt, IsWithinPair, IsWellFormed}
 use Rattle.document.proofs.Formed.{IsWellFormed-parts}
@@ -60,11 +60,11 @@ both_formed us front back n a within f b formed whole =
     IsWellFormed-parts (letters front a) (letters back a) (subst IsWellFormed (sym parts) formed)
     (λ cut. whole (parts_of_within us n a (subst (IsWithinPair (letters us a)) count (subst (λ d. IsWithinPair d (length (letters front a))) parts cut))))
 
-abbrev refused : (T : Type 0) → SplitError → Result T SplitError
+abbrev refused : (T : Type 0) → Cut → Result T Cut
 refused T cut = Err cut
 
 -- a text of enough units is refused a cut only where that parts a pair
-pub parted_by : (T : Type 0) (cut : SplitError) (us : List ℕ) (n : ℕ) (a : Attributes) → n ≤ length us
+pub parted_by : (T : Type 0) (cut : Cut) (us : List ℕ) (n : ℕ) (a : Attributes) → n ≤ length us
     → ((refused T cut ≡ refused T PastEnd) ↔ (length us < n)) → ((refused T cut ≡ refused T InPair) ↔ IsInPair us n) → IsWithinPair (letters us a) n
 parted_by T PastEnd us n a within past pair = absurd (omega (arith, past.0 refl))
 parted_by T InPair us n a within past pair = within_of_parts us n a (pair.0 refl)

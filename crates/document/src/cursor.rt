@@ -13,7 +13,7 @@ use crate::shared::SharedRun;
 use crate::walk::skip;
 use crate::weights::{chunks_weight, runs_weight};
 use std::marker::Model;
-use utf16::{SplitError, split_counted};
+use utf16::{Cut, split_counted};
 
 /// A place in a document, seen as the units from there on. It is what is left of a run, the runs after it in its chunk, and the
 /// chunks after that.
@@ -69,11 +69,11 @@ impl<'a> Cursor<'a> {
 
     /// Steps over so many code units, and looks into none of the chunks and runs that these have as a whole; refused where that would
     /// part a pair, and then the cursor may have moved.
-    pub fn skip(&mut self, len: u64) -> Result<(), SplitError>
+    pub fn skip(&mut self, len: u64) -> Result<(), Cut>
         requires { len ≤ length self.old }
         ensures passed { OnOk result (IsSteppedOver self.old self.new len) }
         ensures parted { OnErr result (IsWithinPair self.old len) }
-        ensures only { IsOkUnless result SplitError.InPair }
+        ensures only { IsOkUnless result Cut.InPair }
     {
         skip(self, len)?;
         Ok(())
@@ -81,14 +81,14 @@ impl<'a> Cursor<'a> {
 
     /// The next piece, of at most so many code units, a run or a part of one, and steps over it; refused where that would part a
     /// pair.
-    pub fn next(&mut self, most: u64) -> Result<Piece<'a>, SplitError>
+    pub fn next(&mut self, most: u64) -> Result<Piece<'a>, Cut>
         requires some { 0 < most }
         requires there { most ≤ length self.old }
         ensures parts { IfOk result (λ p. piece_units p ++ self.new ≡ self.old) }
         ensures piece { IfOk result (λ p. IsPiece p) }
         ensures most { IfOk result (λ p. length (piece_units p) ≤ most) }
         ensures parted { OnErr result (IsWithinPair self.old most) }
-        ensures only { IsOkUnless result SplitError.InPair }
+        ensures only { IsOkUnless result Cut.InPair }
     {
         let (whole, runs, chunks) = first(self.begun, self.runs, self.chunks);
         let (piece, left) = cut(whole, most)?;
@@ -260,7 +260,7 @@ fn whole_chunks(chunks: &[Chunk], most: u64) -> (usize, u64)
 }
 
 // parts a piece after at most so many code units
-fn cut<'a>(piece: Piece<'a>, most: u64) -> Result<(Piece<'a>, Option<Piece<'a>>), SplitError>
+fn cut<'a>(piece: Piece<'a>, most: u64) -> Result<(Piece<'a>, Option<Piece<'a>>), Cut>
     requires piece { IsPiece piece }
     requires some { 0 < most }
     ensures parts { IfOk result (λ p. piece_units p.0 ++ begun_units p.1 ≡ piece_units piece.entry) }
@@ -268,7 +268,7 @@ fn cut<'a>(piece: Piece<'a>, most: u64) -> Result<(Piece<'a>, Option<Piece<'a>>)
     ensures back { IfOk result (λ p. IsBegun p.1) }
     ensures most { IfOk result (λ p. length (piece_units p.0) ≤ most) }
     ensures parted { OnErr result (IsWithinPair (piece_units piece.entry) most) }
-    ensures only { IsOkUnless result SplitError.InPair }
+    ensures only { IsOkUnless result Cut.InPair }
 {
     match piece {
         Piece::Text(text, units, attrs) => {

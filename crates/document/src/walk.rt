@@ -15,14 +15,14 @@ use crate::shared::SharedRun;
 use attributes::{Attrs, Change, apply};
 use delta::Op;
 use std::alloc::{AllocError, Global};
-use utf16::SplitError;
+use utf16::Cut;
 
 /// Steps over so many code units; refused where that would part a pair.
-pub fn skip(cursor: &mut Cursor<'_>, len: u64) -> Result<(), SplitError>
+pub fn skip(cursor: &mut Cursor<'_>, len: u64) -> Result<(), Cut>
     requires { len ≤ length cursor.old }
     ensures passed { OnOk result (IsSteppedOver cursor.old cursor.new len) }
     ensures parted { OnErr result (IsWithinPair cursor.old len) }
-    ensures only { IsOkUnless result SplitError.InPair }
+    ensures only { IsOkUnless result Cut.InPair }
 {
     let mut left = len;
     while left > 0 {
@@ -33,14 +33,14 @@ pub fn skip(cursor: &mut Cursor<'_>, len: u64) -> Result<(), SplitError>
 
 // steps over the next chunks or runs, or a piece of a run, of at most so many code units, and says how many they have; refused
 // where that would part a pair
-fn skip_next(cursor: &mut Cursor<'_>, most: u64) -> Result<u64, SplitError>
+fn skip_next(cursor: &mut Cursor<'_>, most: u64) -> Result<u64, Cut>
     requires some { 0 < most }
     requires there { most ≤ length cursor.old }
     ensures passed { IfOk result (λ len. IsSteppedOver cursor.old cursor.new len) }
     ensures some { IfOk result (λ len. 0 < len) }
     ensures most { IfOk result (λ len. len ≤ most) }
     ensures parted { OnErr result (IsWithinPair cursor.old most) }
-    ensures only { IsOkUnless result SplitError.InPair }
+    ensures only { IsOkUnless result Cut.InPair }
 {
     let (_, units) = cursor.next_chunks(most);
     if units > 0 {

@@ -25,11 +25,11 @@ use optext::{read_ops, write_ops};
 use refusal::Refusal;
 use serde_json::Value as Json;
 use std::alloc::Global;
-use utf16::{SplitError, split_at16};
+use utf16::{Cut, split_at16};
 use xform::transform;
 
 /// The first code units of a text; refused where the text is shorter, or where a pair would be parted.
-pub fn first_units(text: &str, count: u64) -> Result<&str, SplitError>
+pub fn first_units(text: &str, count: u64) -> Result<&str, Cut>
     ensures { IfOk result (λ front. units_of front.now ≡ take count (units_of text.now)) }
 {
     let (front, _) = split_at16(text, count)?;

@@ -77,14 +77,6 @@ utf8_of-units_of text valid =
 pub same_units : SameUnits
 same_units a b valid_a valid_b same = sym (utf8_of-units_of a valid_a) ∙ (ap utf8_of same ∙ utf8_of-units_of b valid_b)
 
--- what `len_utf16` gives
-pub length-encode_utf16 : (c n : ℕ) → (c < 0x1_0000 → n ≡ 1) → (0x1_0000 ≤ c → n ≡ 2) → n ≡ length (encode_utf16 c)
-length-encode_utf16 c n one two =
-    ⊎_elim
-    (λ small. one small ∙ ap length (sym (one_unit c small)))
-    (λ large. two large ∙ ap length (sym (two_units c large)))
-    (cases_lt c 0x1_0000)
-
 -- no character has more code units than bytes
 length-units-le : (c : ℕ) → length (encode_utf16 c) ≤ length (encode_utf8 c)
 length-units-le c =

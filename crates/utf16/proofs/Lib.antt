@@ -1,4 +1,5 @@
 pub mod CodeUnits
-pub mod Walk
-pub mod Widths
+pub mod Bytes
+pub mod Begun
+pub mod Places
 pub mod CallerLemmas

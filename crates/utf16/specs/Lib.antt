@@ -1,3 +1,4 @@
 pub mod Units
+pub mod Begun
 pub mod Laws
 mod Examples

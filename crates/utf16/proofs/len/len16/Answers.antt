@@ -1,41 +1,35 @@
-use Rattle.std.proofs.Common.{◌+◌, ◌<◌, ◌∙◌, length, length-drop, drop, get_or, ap, sym, arith}
-use Rattle.utf16.proofs.Walk.{IsWalk, IsWalk-start, IsWalk-bound, IsWalk-end}
-use Rattle.utf16.proofs.Widths.{AreWidths, turn_of, inside_of, goes_on}
+use Rattle.std.proofs.Common.{◌≡◌, ◌+◌, ap, arith}
+use Rattle.utf16.specs.Begun.{begun_in}
+use Rattle.utf16.proofs.Begun.{begun_in-halves, begun_in-text}
+use Rattle.utf16.proofs.CodeUnits.{length-units_of-le}
 use Rattle.utf16.proofs.len.len16.Goals as goal
-use Rattle.utf16.proofs.len.len16.Goals.{After-widths-spelled}
+use Rattle.utf16.proofs.len.len16.Goals.{After-from-units}
 
-pub loop-bytes-init : goal.loop-bytes-init
-loop-bytes-init c = IsWalk-start c.args.text.now c.utf8.text
+turn : (c : After-from-units) → c.loop-rest.units + c.from-units.result + begun_in c.split_at.result.1.now ≡ begun_in c.args.text.now
+turn c =
+    omega (
+      arith,
+      c.loop-rest.invariant,
+      c.from-units.ensures,
+      c.units_in_block.ensures,
+      ap begun_in c.split_at.ensures.front,
+      ap begun_in c.split_at.ensures.back,
+      begun_in-halves c.loop-rest.rest.now 64,
+    )
 
-within : (c : After-widths-spelled) → c.loop-bytes.bytes < length c.args.text.now
-within c = omega (arith, c.loop-bytes-test.true, ap length c.as_bytes-all.ensures.value)
-
-widths : (c : After-widths-spelled) → AreWidths (get_or c.args.text.now c.loop-bytes.bytes 0) c.widths-spelled.result.0 c.widths-spelled.result.1
-widths c =
-    let here = sym (ap (λ l. get_or l c.loop-bytes.bytes 0) c.as_bytes-all.ensures.value) in
-    record {
-      bytes = λ ch after first. c.widths-spelled.ensures.bytes ch after (first ∙ here);
-      bmp = λ ch after first. c.widths-spelled.ensures.bmp ch after (first ∙ here);
-      surrogate_pair = λ ch after first. c.widths-spelled.ensures.surrogate_pair ch after (first ∙ here);
-    }
-
-turn : (c : After-widths-spelled)
-    → IsWalk c.args.text.now (drop (c.loop-bytes.bytes + c.widths-spelled.result.0) c.args.text.now) (c.loop-bytes.bytes + c.widths-spelled.result.0) (c.loop-bytes.units + c.widths-spelled.result.1)
-turn c = turn_of c.args.text.now _ _ _ _ c.loop-bytes.invariant (within c) (widths c)
-
-pub overflow_add-bytes : goal.overflow_add-bytes
-overflow_add-bytes c = omega (arith, inside_of c.args.text.now _ _ _ (turn (goal.at.overflow_add-bytes c).After-widths-spelled))
+pub loop-rest-init : goal.loop-rest-init
+loop-rest-init c = omega (arith, ap begun_in c.as_bytes-rest.ensures.value)
 
 pub overflow_add-units : goal.overflow_add-units
-overflow_add-units c = omega (arith, IsWalk-bound c.args.text.now _ _ _ c.utf8.text (turn (goal.at.overflow_add-units c).After-widths-spelled))
+overflow_add-units c =
+    omega (arith, turn (goal.at.overflow_add-units c).After-from-units, begun_in-text c.args.text.now c.utf8.text, length-units_of-le c.args.text.now c.utf8.text)
 
-pub loop-bytes-smaller : goal.loop-bytes-smaller
-loop-bytes-smaller c =
-    let at = (goal.at.loop-bytes-smaller c).After-widths-spelled in
-    omega (arith, c.loop-bytes-test.true, goes_on c.args.text.now _ _ _ _ c.loop-bytes.invariant (within at) (widths at))
+pub loop-rest-preserved : goal.loop-rest-preserved
+loop-rest-preserved c = turn (goal.at.loop-rest-preserved c).After-from-units
 
-pub loop-bytes-preserved : goal.loop-bytes-preserved
-loop-bytes-preserved c = turn (goal.at.loop-bytes-preserved c).After-widths-spelled
+pub overflow_add-result : goal.overflow_add-result
+overflow_add-result c =
+    omega (arith, c.loop-rest.invariant, c.from.ensures, c.units_in_block-2.ensures, begun_in-text c.args.text.now c.utf8.text, length-units_of-le c.args.text.now c.utf8.text)
 
 pub returns : goal.returns
-returns c = IsWalk-end c.args.text.now _ _ _ c.loop-bytes.invariant (omega (arith, c.loop-bytes-test.false, ap length c.as_bytes-all.ensures.value, length-drop c.loop-bytes.bytes c.args.text.now))
+returns c = omega (arith, c.loop-rest.invariant, c.from.ensures, c.units_in_block-2.ensures, begun_in-text c.args.text.now c.utf8.text)
