@@ -9,7 +9,7 @@ use Rattle.delta.specs.declared.op.OpRef.TheVariants as op_ref
 
 abbrev pub operation_of_kind : ℕ → Kind → Operation
 operation_of_kind len (kind.Text text a) = insert_text (units_of (string_bytes text)) a
-operation_of_kind len (kind.Embed name value a) = insert_embed name value a
+operation_of_kind len (kind.Embed embed a) = insert_embed embed.value.name embed.value.value a
 operation_of_kind len (kind.Retain c) = retain len c
 operation_of_kind len kind.Delete = delete len
 

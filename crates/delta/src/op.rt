@@ -26,9 +26,16 @@ pub struct Op {
 #[derive(Drop)]
 enum Kind {
     Text(String, Attrs),
-    Embed(Key, Value, Attrs),
+    Embed(Box<Embed>, Attrs),
     Retain(Change),
     Delete,
+}
+
+// an embed, which stands apart, so that every operation is as short as a text is
+#[derive(Drop)]
+struct Embed {
+    name: Key,
+    value: Value,
 }
 
 /// An operation as it is, to match on.
@@ -92,8 +99,8 @@ impl Op {
         ensures only { IfErr result (λ e. (e ≡ Refusal.BadOps) ⊎ (e ≡ Refusal.NoMemory)) }
     {
         match Key::new(alloc, name) {
-            Ok(key) => Ok(Op {
-                kind: Kind::Embed(key, value, attrs),
+            Ok(name) => Ok(Op {
+                kind: Kind::Embed(boxed(alloc, name, value)?, attrs),
                 len: 1,
             }),
             Err(refusal) => Err(refusal),
@@ -126,7 +133,7 @@ impl Op {
     {
         match &self.kind {
             Kind::Text(text, attrs) => OpRef::Text(text.as_str(), attrs),
-            Kind::Embed(name, value, attrs) => OpRef::Embed(name, value, attrs),
+            Kind::Embed(embed, attrs) => OpRef::Embed(&embed.name, &embed.value, attrs),
             Kind::Retain(change) => OpRef::Retain(self.len, change),
             Kind::Delete => OpRef::Delete(self.len),
         }
@@ -148,8 +155,8 @@ impl Op {
             Kind::Text(text, attrs) => {
                 Kind::Text(text, attributes::apply(alloc, &attrs, change)?)
             }
-            Kind::Embed(name, value, attrs) => {
-                Kind::Embed(name, value, attributes::apply(alloc, &attrs, change)?)
+            Kind::Embed(embed, attrs) => {
+                Kind::Embed(embed, attributes::apply(alloc, &attrs, change)?)
             }
             Kind::Retain(first) => Kind::Retain(attributes::compose(alloc, &first, change)?),
             Kind::Delete => Kind::Delete,
@@ -202,7 +209,7 @@ impl Op {
                 self.len = len;
                 Some(old)
             }
-            Kind::Text(_, _) | Kind::Embed(_, _, _) | Kind::Delete => None,
+            Kind::Text(_, _) | Kind::Embed(_, _) | Kind::Delete => None,
         }
     }
 
@@ -246,12 +253,23 @@ impl Op {
         let kind = match op {
             OpRef::Text(text, attrs) => Kind::Text(copy_text(alloc, text)?, attrs.copy(alloc)?),
             OpRef::Embed(name, value, attrs) => {
-                Kind::Embed(name.copy(alloc)?, value.copy(alloc)?, attrs.copy(alloc)?)
+                let embed = boxed(alloc, name.copy(alloc)?, value.copy(alloc)?)?;
+                Kind::Embed(embed, attrs.copy(alloc)?)
             }
             OpRef::Retain(_, change) => Kind::Retain(change.copy(alloc)?),
             OpRef::Delete(_) => Kind::Delete,
         };
         Ok(Op { kind, len })
+    }
+}
+
+fn boxed(alloc: Global, name: Key, value: Value) -> Result<Box<Embed>, AllocError>
+    ensures name { IfOk result (λ embed. embed.value.name ≡ name) }
+    ensures value { IfOk result (λ embed. embed.value.value ≡ value) }
+{
+    match Box::new(alloc, Embed { name, value }) {
+        Ok(embed) => Ok(embed),
+        Err(_) => Err(AllocError),
     }
 }
 
@@ -274,8 +292,8 @@ impl PartialEq for Op {
             (Kind::Text(text, attrs), Kind::Text(words, others)) => {
                 same_text(text.as_str(), words.as_str()) && attrs == others
             }
-            (Kind::Embed(name, value, attrs), Kind::Embed(key, content, others)) => {
-                name == key && value == content && attrs == others
+            (Kind::Embed(embed, attrs), Kind::Embed(other, others)) => {
+                embed.name == other.name && embed.value == other.value && attrs == others
             }
             (Kind::Retain(change), Kind::Retain(changes)) => {
                 self.len == other.len && change == changes

@@ -51,18 +51,21 @@ impl Ops {
         }
     }
 
-    // the operations, whose copies take no memory
+    // the operations, whose copies take no memory, without room for more
     pub(crate) fn share(self, alloc: Global) -> Result<Self, AllocError>
         ensures same { IfOk result (λ shared. shared ≡ self) }
     {
         let Ops { held } = self;
         match held {
-            Held::Own(ops) => match Arc::new(alloc, ops) {
-                Ok(ops) => Ok(Ops {
-                    held: Held::Shared(ops),
-                }),
-                Err(_) => Err(AllocError),
-            },
+            Held::Own(mut ops) => {
+                ops.shrink_to_fit();
+                match Arc::new(alloc, ops) {
+                    Ok(ops) => Ok(Ops {
+                        held: Held::Shared(ops),
+                    }),
+                    Err(_) => Err(AllocError),
+                }
+            }
             Held::Shared(ops) => Ok(Ops {
                 held: Held::Shared(ops),
             }),
