@@ -11,18 +11,15 @@ plain document. Each row has the least processor time of a command: that of a ru
 Run ./demo first, which builds crates/richd/out/richd, or name another program in RICHD. The store lies in a temporary folder
 (TMPDIR); with TMPDIR=/dev/shm its syncs cost next to nothing.
 """
-import os
 import random
-import resource
-import subprocess
 import sys
-import tempfile
 from pathlib import Path
 
 sys.path.insert(0, str(Path(__file__).resolve().parent.parent / "clients/python"))
+sys.path.insert(0, str(Path(__file__).resolve().parent / "load"))
 
+from piped import cost
 from richd import messages
-from richd.program import find, format_store
 
 count = int(sys.argv[1]) if len(sys.argv) > 1 else 1_000
 rounds = int(sys.argv[2]) if len(sys.argv) > 2 else 5
@@ -69,36 +66,12 @@ def fetches(rev):
     return [messages.fetch("d", rev)] * count
 
 
-def processor_time(commands, answered):
-    """The processor's seconds of a server with a new store that is given these commands."""
-    with tempfile.TemporaryDirectory() as folder:
-        store = os.path.join(folder, "store")
-        words = ["--docs", "1", "--cell", "16777216", "--slots", "2", "--slot", "16777216", "--keep", "4096"]
-        format_store(store, *words)
-        lines = b"".join(map(messages.spelled, [messages.hello("bench"), *commands]))
-        before = resource.getrusage(resource.RUSAGE_CHILDREN)
-        served = subprocess.run([find(), "serve", store, "--every", "65536"], input=lines, capture_output=True)
-        after = resource.getrusage(resource.RUSAGE_CHILDREN)
-    replies = served.stdout.count(b'"ok":')
-    if replies != answered:
-        sys.exit(f"{replies} of {answered} requests were answered ok: {served.stdout[-200:]!r}")
-    return after.ru_utime - before.ru_utime + after.ru_stime - before.ru_stime
-
-
-def cost(base, more):
-    """Microseconds of one of the further commands."""
-    base = list(base)
-    least = min(processor_time(base, 1 + len(base)) for _ in range(rounds))
-    whole = min(processor_time(base + more, 1 + len(base) + len(more)) for _ in range(rounds))
-    return 1e6 * (whole - least) / len(more)
-
-
 sizes = (80, 8_000)
 made = {runs: list(rich(runs)) for runs in sizes}
-edit = {runs: cost(made[runs], edits(runs, 1 + len(made[runs]))) for runs in sizes}
-undo = {runs: cost(made[runs] + edits(runs, 1 + len(made[runs]))[:1], undos(2 + len(made[runs]))) for runs in sizes}
+edit = {runs: cost(made[runs], edits(runs, 1 + len(made[runs])), rounds) for runs in sizes}
+undo = {runs: cost(made[runs] + edits(runs, 1 + len(made[runs]))[:1], undos(2 + len(made[runs])), rounds) for runs in sizes}
 for name, costs in (("an edit at a random place", edit), ("an undo", undo)):
     few, many = (costs[runs] for runs in sizes)
     print(f"{name}: {few:.0f} us of the processor's time in {sizes[0]} runs, {many:.0f} in {sizes[1]}, {many / few:.2f} times as much")
 history = list(plain())
-print(f"a fetch of the newest revision: {cost(history, fetches(4_100)):.0f} us, of one 4,000 back: {cost(history, fetches(100)):.0f}")
+print(f"a fetch of the newest revision: {cost(history, fetches(4_100), rounds):.0f} us, of one 4,000 back: {cost(history, fetches(100), rounds):.0f}")
