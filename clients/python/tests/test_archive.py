@@ -68,6 +68,8 @@ class Asked(Archived):
         text = self.well("history", self.archive, "gone").splitlines()
         self.assertRegex(text[0], r"^2 \d{4}-\d\d-\d\dT[\d:.]+ ann 2 delete \[\]$")
         self.assertEqual(len(self.well("history", self.archive, "d", "--limit", "1").splitlines()), 1)
+        self.assertRegex(self.well("history", self.archive, "gone", "--brief").splitlines()[0], "ann 2 delete$")
+        self.assertNotIn("ops", json.loads(self.well("history", self.archive, "d", "--brief", "--json", "--limit", "1")))
         self.assertEqual(json.loads(self.well("history", self.archive, "d", "--at", "1", "--json"))["rev"], 1)
 
     def test_a_document_as_it_was(self):
@@ -75,6 +77,10 @@ class Asked(Archived):
         self.assertEqual(self.well("show", self.archive, "d", "--at", "1"), "Hello world\n")
         ops = [{"insert": "Hello", "attributes": {"bold": True}}, {"insert": " there\n"}]
         self.assertEqual(json.loads(self.well("show", self.archive, "d", "--ops")), ops)
+        self.assertEqual(json.loads(self.well("show", self.archive, "d", "--json", "--at", "3")), {"doc": "d", "rev": 3, "ops": ops})
+        self.assertEqual(json.loads(self.well("show", self.archive, "gone", "--json")), {"doc": "gone", "rev": 2, "ops": None})
+        self.assertEqual(run("show", self.archive, "d", "--json", "--at", "9"), (1, '{"doc":"d","missing":"revision 9 isn\'t held"}\n', ""))
+        self.assertEqual(run("history", "--json", "--", self.archive, "-x"), (1, '{"doc":"-x","missing":"there is no document -x"}\n', ""))
         self.assertIn("gone is deleted at revision 2", self.refused("show", self.archive, "gone"))
         self.assertIn("revision 9 isn't held", self.refused("show", self.archive, "d", "--at", "9"))
         self.assertIn("wasn't there then", self.refused("show", self.archive, "d", "--at", "1.5"))
