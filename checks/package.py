@@ -4,8 +4,8 @@
 usage: checks/package.py
 
 The copy is an overlay over the root of this machine, in a mount namespace of its own, so that this machine stays unchanged. There dpkg installs the package,
-and then what docs/OPERATIONS.md has is done by it alone: a store is made and served by the user richd, asked for its health, archived, lost, and
-restored, and its client goes on. The manual page and the units are looked at. At last the package is removed and purged: the program goes, and
+and then what docs/OPERATIONS.md and docs/ARCHIVE.md have is done by it alone: a store is made and served by the user richd, asked for its health,
+archived, lost, and restored, and its client goes on; a copy is put back. The manual page and the units are looked at. At last the package is removed and purged: the program goes, and
 the store is left. Both builds have to be the same bytes. The JavaScript client is imported as its archive has it.
 
 Run ./demo first, which builds crates/richd/out/richd, or name another program in RICHD. It wants root and Debian's dpkg-deb, else it skips.
@@ -61,6 +61,9 @@ test "$(client cat $at letter)" = "Dear everybody"
 echo "Dear everybody!" | client put $at letter --source me
 test "$(client show /var/lib/richd/archive letter --at 2)" = "Dear all"
 kill -9 $(pgrep -x richd); wait $server || true
+client jump /var/lib/richd/copy /var/lib/richd/back --by 2000000
+as richd check /var/lib/richd/back
+test -x /usr/share/doc/richd/examples/replicated/volume
 dpkg --remove richd
 test ! -e /usr/bin/richd
 dpkg --purge richd
