@@ -29,7 +29,7 @@ cd /
 dpkg --install /richd.deb
 test "$(command -v richd)" = /usr/bin/richd
 richd --version
-test "$(stat -c '%U %a' /var/lib/richd)" = "richd 700"
+for folder in richd richd-archive; do test "$(stat -c '%U %a' /var/lib/$folder)" = "richd 700"; done
 man -w richd
 man -l "$(man -w richd)" | grep -q 'serve'
 systemd-analyze verify /lib/systemd/system/richd.service /lib/systemd/system/richd-archive.service
@@ -46,20 +46,20 @@ as richd format /var/lib/richd/store
 served /var/lib/richd/store
 client health $at
 echo "Dear all" | client put $at letter --source me
-client archive /var/lib/richd/store /var/lib/richd/archive --quiet
+client archive /var/lib/richd/store /var/lib/richd-archive/archive --quiet
 echo "Dear everybody" | client put $at letter --source me
 client health --write $at
-client archive /var/lib/richd/store /var/lib/richd/archive --quiet
+client archive /var/lib/richd/store /var/lib/richd-archive/archive --quiet
 as sh /usr/share/doc/richd/examples/backup /var/lib/richd/store /var/lib/richd/copy $(pgrep -x richd)
 as richd check /var/lib/richd/copy
 kill -9 $(pgrep -x richd); wait $server || true
 rm /var/lib/richd/store
-client restore /var/lib/richd/archive /var/lib/richd/store
+client restore /var/lib/richd-archive/archive /var/lib/richd/store
 as richd check /var/lib/richd/store
 served /var/lib/richd/store
 test "$(client cat $at letter)" = "Dear everybody"
 echo "Dear everybody!" | client put $at letter --source me
-test "$(client show /var/lib/richd/archive letter --at 2)" = "Dear all"
+test "$(client show /var/lib/richd-archive/archive letter --at 2)" = "Dear all"
 kill -9 $(pgrep -x richd); wait $server || true
 client jump /var/lib/richd/copy /var/lib/richd/back --by 2000000
 as richd check /var/lib/richd/back
