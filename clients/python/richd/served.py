@@ -99,7 +99,9 @@ class StoreFile:
     def slots(self) -> Tuple[List[Tuple[int, int]], Dict[int, int]]:
         """Number and slot of each segment, the oldest first; and the slots of closed ones by what stands there for their numbers, which
         proves nothing."""
-        found, closed, heads = [], {}, []
+        found: List[Tuple[int, int]] = []
+        heads: List[Tuple[int, bool]] = []
+        closed: Dict[int, int] = {}
         for slot in range(self.shape.slots):
             number, is_open = self.slot(slot)
             if not closed:
