@@ -1,7 +1,7 @@
 #!/usr/bin/env python3
 """Serves a store that lies on three hosts, by GlusterFS, while hosts are killed, cut off, frozen and filled; compares it with what was acknowledged.
 
-usage: checks/replicated.py [FAULTS] [KIND..]     (default: 24 faults of each kind, replica and arbiter; a third one, defaults, shows what is lost)
+usage: checks/replicated.py [FAULTS] [KIND..]     (default: 21 faults of replica; the other kinds are arbiter, and defaults, which shows what is lost)
 
 Three hosts are network and mount namespaces of this machine, on a switch of their own, each with a file system of its own (xfs on a loop device),
 glusterd, and the volume that examples/replicated/volume makes. Each starts richd over the store again and again, as its unit does: who gets the lock of
@@ -40,8 +40,8 @@ import time
 
 from loading import PATIENCE, Cut, Place, Session, Writer, agrees, dumped, parsed, richd
 
-count = int(sys.argv[1]) if len(sys.argv) > 1 else 24
-kinds = sys.argv[2:] or ["replica", "arbiter"]
+count = int(sys.argv[1]) if len(sys.argv) > 1 else 21
+kinds = sys.argv[2:] or ["replica"]
 
 HERE = os.path.dirname(os.path.abspath(__file__))
 EXAMPLES = os.path.join(HERE, "../examples/replicated")
@@ -49,7 +49,7 @@ HOSTS = (1, 2, 3)
 SIZE = 400 << 20  # bytes of a disk: xfs takes no fewer than 300 MB
 SWITCH, VOLUME = "richd-switch", "richd"
 WRITERS, STORE_FAILED, REPLY = 8, 21, 4  # seconds of a reply
-HEALED = 90  # seconds
+HEALED, LOOKS = 240, 3  # seconds until a volume is healed, and looks in turn at which it has to be
 FS_IOC_SHUTDOWN, WITHOUT_FLUSH = 0x8004587D, 2  # from linux/fs.h
 FAULTS = ["kill", "cut", "partial", "freeze", "power", "brick", "fill"]
 drawn = random.Random(int(os.environ.get("SEED", "11")))
@@ -284,8 +284,18 @@ class Cluster:
     def serving(self):
         return [host for host in self.hosts if host.is_serving()]
 
-    def healed(self):
-        """Whether all hosts are there, and nothing is left that one of them lacks."""
+    def heal(self, after):
+        """Waits until all hosts are there, and none lacks what is written meanwhile."""
+        looks = 0
+
+        def has_healed():
+            nonlocal looks
+            looks = looks + 1 if self.is_whole() else 0
+            return looks == LOOKS
+
+        within(HEALED, has_healed, f"the volume is healed {after}")
+
+    def is_whole(self):
         told = self.hosts[0].inside("gluster", "--mode=script", "volume", "heal", VOLUME, "info", check=False)
         return re.findall(r"^Status: (.*)$", told, re.M) == ["Connected"] * 3 and re.findall(r"^Number of entries: (.*)$", told, re.M) == ["0"] * 3
 
@@ -380,7 +390,7 @@ class Tried:
             began = time.monotonic()
             is_serving = cluster.fault(what)
             self.go_on(100)
-            within(HEALED, cluster.healed, f"the volume is healed after {what}")
+            cluster.heal(f"after {what}")
             self.go_on(100)
             times = [moment for moment in self.place.acknowledged if moment >= began - 1]
             gap = max(later - earlier for earlier, later in zip(times, times[1:]))
@@ -392,7 +402,7 @@ class Tried:
             writer.join(PATIENCE)
         for host in cluster.hosts:
             host.unit.end()
-        within(HEALED, cluster.healed, "the volume is healed at the end")
+        cluster.heal("at the end")
         return done
 
     def compare(self):
