@@ -50,6 +50,7 @@ SIZE = 400 << 20  # bytes of a disk: xfs takes no fewer than 300 MB
 SWITCH, VOLUME = "richd-switch", "richd"
 WRITERS, STORE_FAILED, REPLY = 8, 21, 4  # seconds of a reply
 HEALED, LOOKS = 240, 3  # seconds until a volume is healed, and looks in turn at which it has to be
+AWAY = 110  # seconds, longer than Gluster's own timeouts
 FS_IOC_SHUTDOWN, WITHOUT_FLUSH = 0x8004587D, 2  # from linux/fs.h
 FAULTS = ["kill", "cut", "partial", "freeze", "power", "brick", "fill"]
 drawn = random.Random(int(os.environ.get("SEED", "11")))
@@ -427,7 +428,8 @@ def digest(path):
 
 
 def lost_by_defaults():
-    """What a volume with Gluster's own settings loses, where its server moves from host to host, and where its host is cut off for a minute."""
+    """What a volume with Gluster's own settings loses, where its server moves from host to host, and where its host is cut off, comes back, and the
+    server that has taken over is killed."""
     with tempfile.TemporaryDirectory() as folder:
         cluster = Cluster(folder, "defaults")
         try:
@@ -437,22 +439,24 @@ def lost_by_defaults():
                 host.serve()
             for writer in it.writers:
                 writer.start()
-            both = 0
-            for what in ("kill", "kill", "kill", "cut", "kill"):
+            for _ in range(2):
                 time.sleep(4)
                 for host in cluster.serving():
-                    if what == "kill":
-                        host.unit.kill()
-                    else:
-                        host.reach(False)
-                if what == "cut":
-                    until = time.monotonic() + 60
-                    while time.monotonic() < until:
-                        both = max(both, len(cluster.serving()))
-                        time.sleep(0.2)
-                    for host in cluster.hosts:
-                        host.reach(True)
-                    time.sleep(10)
+                    host.unit.kill()
+            time.sleep(4)
+            away, both = cluster.serving(), 0
+            for host in away:
+                host.reach(False)
+            for _ in range(AWAY):
+                time.sleep(1)
+                both = max(both, len(cluster.serving()))
+            for host in away:
+                host.reach(True)
+            time.sleep(10)
+            for host in cluster.serving():
+                if host not in away:
+                    host.unit.kill()
+            time.sleep(10)
             it.place.ends.set()
             for writer in it.writers:
                 writer.join(PATIENCE)

@@ -514,7 +514,7 @@ export class Gateway {
     if (user === null) return [401, { error: "not signed in" }];
     if (user === undefined) return [503, { error: "later" }];
     const asked = versionIn(name);
-    return (await this.mayRead(user, asked.doc)) ? this.#versions.page(asked, query) : [403, { error: "not allowed" }];
+    return (await this.mayRead(user, asked.doc)) ? this.#versions.page(idOf(user), asked, query) : [403, { error: "not allowed" }];
   }
 
   #look() {

@@ -9,10 +9,11 @@
 import { execFile } from "node:child_process";
 import path from "node:path";
 import { Journal, readLines } from "./journal.js";
+import { Turns } from "./turns.js";
 
 const COMMAND = ["python3", "-m", "richd"];
 const AT_ONCE = 2; // questions
-const MOST_WAITING = 50; // further ones
+const MOST_WAITING = 50; // further ones of a user; users take turns
 const PATIENCE = 30_000; // milliseconds that one may take
 const MOST_LISTED = 1_000; // versions of a page
 const PAGE = /^\/docs\/([A-Za-z0-9._-]{1,64})\/(?:versions|at\/([1-9]\d{0,15}))$/;
@@ -112,8 +113,10 @@ export class Versions {
   #writers;
   #most;
   #running = 0;
-  /** @type {(() => void)[]} */
-  #waiting = [];
+  /** @type {Turns<() => void>} */
+  #waiting = new Turns();
+  /** @type {Map<string, number>} user -> how many of his wait */
+  #counts = new Map();
 
   /**
    * @param {{ archive: string | Record<string, string>, places: { find: (doc: string) => Promise<string | null | undefined> }, data?: string,
@@ -133,28 +136,29 @@ export class Versions {
 
   /**
    * The status of a page, and its value.
+   * @param {string} user  who asks
    * @param {{ doc: string, rev?: string }} asked
    * @param {URLSearchParams} query
    * @returns {Promise<[number, object]>}
    */
-  async page({ doc, rev }, query) {
+  async page(user, { doc, rev }, query) {
     const archive = typeof this.#archive === "string" ? this.#archive : this.#archive[(await this.#places.find(doc)) ?? ""];
     if (archive === undefined) return [404, { error: "no archive" }];
-    if (this.#waiting.length >= MOST_WAITING) return [503, { error: "later" }];
-    return rev === undefined ? this.#list(archive, doc, query) : this.#show(archive, doc, rev);
+    if ((this.#counts.get(user) ?? 0) >= MOST_WAITING) return [503, { error: "later" }];
+    return rev === undefined ? this.#list(user, archive, doc, query) : this.#show(user, archive, doc, rev);
   }
 
   close() {
     return this.#writers.close();
   }
 
-  async #list(archive, doc, query) {
+  async #list(user, archive, doc, query) {
     const limit = Math.min(Number.parseInt(query.get("limit") ?? "100", 10), MOST_LISTED);
     const before = query.get("before");
     if (!(limit > 0)) return [400, { error: "limit is a whole number above 0" }];
     if (before !== null && !/^[1-9]\d{0,15}$/.test(before)) return [400, { error: "before is a revision" }];
     const at = before === null ? [] : ["--at", String(Number(before) - 1)];
-    const lines = await this.#ask("history", "--json", "--brief", "--quiet", "--limit", String(limit), ...at, "--", archive, doc);
+    const lines = await this.#ask(user, "history", "--json", "--brief", "--quiet", "--limit", String(limit), ...at, "--", archive, doc);
     if (isMissing(lines[0])) return [404, { error: lines[0].missing }];
     const writers = await this.#writers.of(doc);
     const revisions = lines.filter(({ rev }) => rev !== undefined);
@@ -162,21 +166,29 @@ export class Versions {
     return [200, { doc, versions, next: revisions.length < limit ? null : revisions.at(-1).rev }];
   }
 
-  async #show(archive, doc, rev) {
-    const [shown] = await this.#ask("show", "--json", "--quiet", "--at", rev, "--", archive, doc);
+  async #show(user, archive, doc, rev) {
+    const [shown] = await this.#ask(user, "show", "--json", "--quiet", "--at", rev, "--", archive, doc);
     return isMissing(shown) ? [404, { error: shown.missing }] : [200, shown];
   }
 
-  async #ask(...words) {
-    if (this.#running >= AT_ONCE) await new Promise((resolve) => this.#waiting.push(() => resolve(undefined)));
+  async #ask(user, ...words) {
+    if (this.#running >= AT_ONCE) await this.#turn(user);
     else this.#running += 1;
     try {
       return await ask(words, this.#most);
     } finally {
-      const next = this.#waiting.shift();
+      const next = this.#waiting.next(() => true);
       if (next !== undefined) next();
       else this.#running -= 1;
     }
+  }
+
+  async #turn(user) {
+    this.#counts.set(user, (this.#counts.get(user) ?? 0) + 1);
+    await new Promise((resolve) => this.#waiting.add(user, () => resolve(undefined)));
+    const left = this.#counts.get(user) - 1;
+    if (left > 0) this.#counts.set(user, left);
+    else this.#counts.delete(user);
   }
 }
 
