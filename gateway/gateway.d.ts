@@ -96,6 +96,8 @@ export interface Settings {
   hosts?: string[];
   /** Which header says where a request comes from, as a proxy sets it. Without it the connection does. */
   address?: { header: string };
+  /** Where `python3 -m richd archive` keeps the documents' revisions: a path or a URL, or one by each name of a store. */
+  archive?: string | Record<string, string>;
   /** What users may take, and what is held of what a store sends; docs/GATEWAY.md has their table. */
   limits?: Partial<Limits>;
   /** Gives who asks, or null where he isn't signed in. Without it everybody is the user "anybody". */
@@ -121,7 +123,7 @@ export interface Health {
 export interface Gateway {
   /** For the event "upgrade" of an HTTP server. */
   handleUpgrade(request: Request, socket: any, head: any): Promise<void>;
-  /** Answers /healthz, /metrics and /docs; gives false where it was none of them. */
+  /** Answers /healthz, /metrics, /docs and the pages of versions; gives false where it was none of them. */
   handleRequest(request: Request, response: any): boolean;
   /** Answers /healthz and /metrics, for an address of their own; gives false where it was none of them. */
   handleWatch(request: Request, response: any): boolean;

@@ -18,7 +18,8 @@ import { Presence } from "./presence.js";
 import { checkOrigins, checkStore, checked } from "./settings.js";
 import { Store } from "./store.js";
 import { Sweep } from "./sweep.js";
-import { Address, User, idOf } from "./users.js";
+import { Address, User, idOf, nameOf } from "./users.js";
+import { Versions, versionIn } from "./versions.js";
 import { Waiting } from "./waiting.js";
 import { webSockets } from "./websockets.js";
 
@@ -76,6 +77,8 @@ export class Gateway {
   #said = new Map();
   #isEnding = false;
   #sweep;
+  /** @type {Versions | undefined} */
+  #versions;
   #timers = [];
 
   metrics = new Metrics();
@@ -100,7 +103,7 @@ export class Gateway {
   }
 
   async begin() {
-    const { etcd, data, rule, stores, pulse } = this.#settings;
+    const { etcd, data, rule, stores, pulse, archive, limits } = this.#settings;
     if (etcd === undefined) {
       mkdirSync(data, { recursive: true, mode: 0o700 });
       this.#unlock = await lock(data);
@@ -111,6 +114,8 @@ export class Gateway {
       this.places = new EtcdPlaces({ etcd: this.#etcd, stores: () => [...this.stores.values()] });
     }
     this.places.moves = etcd !== undefined;
+    const { places } = this;
+    if (archive !== undefined) this.#versions = new Versions({ archive, places, data, etcd: this.#etcd, most: limits.lineBytes, onFailure: this.#onUnwritten });
     for (const store of stores) this.#add(store);
     if (etcd !== undefined) {
       this.#findPool();
@@ -199,7 +204,7 @@ export class Gateway {
   }
 
   /**
-   * Answers /healthz, /metrics and /docs. Gives whether it was one of them.
+   * Answers /healthz, /metrics, /docs and the pages of versions. Gives whether it was one of them.
    * @param {import("node:http").IncomingMessage} request
    * @param {import("node:http").ServerResponse} response
    */
@@ -215,7 +220,8 @@ export class Gateway {
   #handle(request, response, pages) {
     try {
       const [name, query = ""] = request.url.split("?", 2);
-      if (!pages.includes(name)) return false;
+      const version = this.#versions && versionIn(name);
+      if (!pages.includes(version ? "/docs" : name)) return false;
       if (isKnownHost(request, this.#settings) && isAllowedOrigin(request, this.#settings.origins)) {
         this.#answer(name, query, request, response);
       } else {
@@ -245,8 +251,9 @@ export class Gateway {
       response.writeHead(200, { "content-type": "text/plain; version=0.0.4" });
       response.end(this.metricsText());
     } else {
-      this.#list(request, new URLSearchParams(query)).then(([status, value]) => json(status, value), (error) => {
-        this.log("the list can't be given now", { error: error.message });
+      const answer = name === "/docs" ? this.#list : this.#version;
+      answer.call(this, request, new URLSearchParams(query), name).then(([status, value]) => json(status, value), (error) => {
+        this.log("a page can't be given now", { page: name, error: error.message });
         json(503, { error: "later" });
       });
     }
@@ -306,6 +313,7 @@ export class Gateway {
       await store.leases.close();
     }
     this.#sweep?.end();
+    await this.#versions?.close();
     await this.places?.close();
     this.#etcd?.close();
     this.#unlock();
@@ -347,8 +355,9 @@ export class Gateway {
     return verdict === true;
   }
 
-  /** A command was taken. */
-  taken(user, message, rev, isAgain) {
+  /** A command was taken, under a name that is this user's, if one is given. */
+  taken(user, message, rev, isAgain, name) {
+    if (name !== undefined) this.#versions?.note(message.doc, name, nameOf(user), rev);
     if (this.#onTaken === undefined) return;
     const failed = (error) => this.log("onTaken failed", { error: error.message });
     try {
@@ -498,6 +507,14 @@ export class Gateway {
       if (found.length < wanted) return [200, { docs, next: null }];
     }
     return [200, { docs, next: after }];
+  }
+
+  async #version(request, query, name) {
+    const user = await this.#signedIn(request);
+    if (user === null) return [401, { error: "not signed in" }];
+    if (user === undefined) return [503, { error: "later" }];
+    const asked = versionIn(name);
+    return (await this.mayRead(user, asked.doc)) ? this.#versions.page(idOf(user), asked, query) : [403, { error: "not allowed" }];
   }
 
   #look() {

@@ -17,7 +17,7 @@ import { HOOKS } from "./settings.js";
 const USAGE = "usage: richd-gateway --settings FILE, or richd-gateway import STORE --settings FILE [LIST]";
 const PATIENCE = 10_000; // milliseconds that a request may take to come
 const OWN = ["127.0.0.1", "localhost", "[::1]", "::1"];
-const FIELDS = ["listen", "watch", "name", "stores", "readers", "writers", "guests", "names", "data", "etcd", "rule", "term", "recall", "recheck", "origins", "hosts", "address", "user", "module", "anybody", "limits"];
+const FIELDS = ["listen", "watch", "name", "stores", "readers", "writers", "guests", "names", "data", "etcd", "rule", "term", "recall", "recheck", "origins", "hosts", "address", "archive", "user", "module", "anybody", "limits"];
 
 /** @param {any} text @param {string} field */
 function addressIn(text, field) {

@@ -1,5 +1,7 @@
 // What a gateway is told: its settings, and why they can't be used.
 
+import { archiveFault } from "./versions.js";
+
 const NAME = /^[A-Za-z0-9._-]{1,12}$/;
 const STORE = /^[A-Za-z0-9._-]{1,32}$/;
 const SESSIONS = 64; // that a store serves
@@ -16,7 +18,7 @@ export const LIMITS = {
 // The defaults where all are one user, but for names, of which he has all.
 const OF_ALL = { userBytes: 64 * MIB, userOverhead: MIB, userDocuments: 2 ** 31, userCreations: 2 ** 31, userCreationsHour: 2 ** 31 };
 export const HOOKS = ["authorize", "can", "onCommand", "onTaken"];
-const FIELDS = [...Object.keys(DEFAULTS), "stores", "data", "etcd", "rule", "origins", "hosts", "address", "limits", ...HOOKS, "log", "hidesMetrics"];
+const FIELDS = [...Object.keys(DEFAULTS), "stores", "data", "etcd", "rule", "origins", "hosts", "address", "archive", "limits", ...HOOKS, "log", "hidesMetrics"];
 
 /** Throws a reason where something doesn't hold. */
 function demand(holds, reason) {
@@ -102,7 +104,9 @@ export function checked(given) {
   demand(etcd !== undefined || rule !== undefined || stores.length === 1, "several stores need etcd, or a rule");
   if (rule !== undefined) checkRule(rule, stores);
   checkOrigins(origins);
-  const { hosts, address } = settings;
+  const { hosts, address, archive } = settings;
+  const fault = archiveFault(archive, stores.map((store) => store.name));
+  demand(fault === undefined, fault);
   demand(address === undefined || isText(address?.header), "address: header is the name of a header");
   demand(hosts === undefined || (Array.isArray(hosts) && hosts.every((it) => isText(it) && /^[^/:]+$/.test(it))), "hosts is a list of names without a port");
   for (const [limit, value] of Object.entries(limits)) {
