@@ -1,6 +1,6 @@
 // A document that types ahead: what is typed shows at once, and is sent one edit at a time.
 
-import { Delta } from "./delta.js";
+import { Delta, remember } from "./delta.js";
 import { difference } from "./difference.js";
 import { Emitter } from "./emitter.js";
 import { Refusal, RichdError } from "./errors.js";
@@ -111,6 +111,7 @@ export class RichDocument extends Emitter {
   #values = new Values();
   /** @type {Delta} */
   #base;
+  #baseLength = 0;
   /** @type {number} */
   #revision;
   /** @type {Delta} */
@@ -365,11 +366,19 @@ export class RichDocument extends Emitter {
     return true;
   }
 
+  /**
+   * Whether a change begins or ends between the two halves of a character.
+   * @param {{ ops: Op[] }} change  as the server keeps it
+   */
+  cutsPair(change) {
+    return cutsPair(change, this.#contents);
+  }
+
   /** @param {Op[]} ops */
   #readTyped(ops) {
     const delta = takenOver(this.#encoded(ops));
     if (reachOf(delta) > this.#length) throw new RichdError(Refusal.PastEnd, "PastEnd");
-    if (cutsPair(delta, this.#contents)) throw new RichdError(Refusal.CutsPair, "CutsPair");
+    if (this.cutsPair(delta)) throw new RichdError(Refusal.CutsPair, "CutsPair");
     return delta;
   }
 
@@ -417,7 +426,8 @@ export class RichDocument extends Emitter {
   /** @param {number} revision @param {Delta} base */
   #begin(revision, base) {
     this.#revision = revision;
-    this.#base = base;
+    this.#base = remember(base.compose(new Delta())); // in normal form
+    this.#baseLength = base.length();
     this.#isStale = false;
     this.#follow();
   }
@@ -507,7 +517,7 @@ export class RichDocument extends Emitter {
       const next = this.#news.shift();
       if (next === undefined) break;
       if (next.rev !== this.#revision + 1) continue;
-      if (reachOf(next) <= this.#base.length()) this.#takeOver(new Delta(next.ops), next.rev);
+      if (reachOf(next) <= this.#baseLength) this.#takeOver(new Delta(next.ops), next.rev);
       else this.#isStale = true; // this copy isn't the server's
     }
     if (this.#isClosed) return;
@@ -524,6 +534,7 @@ export class RichDocument extends Emitter {
       this.#typed = this.#sent.compose(this.#typed);
     } else {
       this.#base = this.#base.compose(this.#sent);
+      this.#baseLength += growthOf(this.#sent);
       this.#revision = this.#taken;
       this.#places.step(this.#sent, this.#revision, true);
     }
@@ -537,6 +548,7 @@ export class RichDocument extends Emitter {
    */
   #takeOver(change, revision) {
     this.#base = this.#base.compose(change);
+    this.#baseLength += growthOf(change);
     this.#revision = revision;
     this.#places.step(change, revision, false);
     this.#strays = 0;
@@ -612,7 +624,7 @@ export class RichDocument extends Emitter {
     this.#steps.clear();
     this.#room = ROOM;
     this.#contents = this.#base;
-    this.#length = this.#base.length();
+    this.#length = this.#baseLength;
     this.#strays = this.#pastEnds = 0;
     this.#isRefused = true;
     for (const { reject } of this.#waiting.splice(0)) reject(error);
