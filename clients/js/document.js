@@ -68,9 +68,10 @@ function frozen(op) {
  * @param {import("./richd.js").Client} client
  * @param {string} name
  * @param {Op[]} ops
+ * @param {import("./keeping.js").Keeper} [keeper]  keeps what isn't on its way yet
  * @returns {Promise<{ rev: number, ops: Op[], rest?: Delta }>}
  */
-async function fetchCreated(client, name, ops) {
+async function fetchCreated(client, name, ops, keeper) {
   const pauses = new Pauses();
   const hasParts = isLong(ops);
   /** @type {{ rev: number, ops: Op[] } | undefined} */
@@ -85,12 +86,29 @@ async function fetchCreated(client, name, ops) {
     }
     if (tries > 0) await pauses.wait();
     try {
-      const { rev, first, rest } = await client.begin(name, ops);
+      const { rev, first, rest } = await client.begin(name, ops, { keep: keeper && ((creation) => keeper.keep(creation)) });
       if (rest.ops.length > 0) return { rev, ops: first.ops, rest };
     } catch (error) {
       if (error.code !== Refusal.Exists && error.name !== "InDoubt") throw error;
       if (fetched !== undefined) return fetched; // others are about to create it
     }
+  }
+}
+
+/**
+ * A document that an earlier page began to create. Where it can't be known whether that was taken, or somebody else was sooner, it is created or
+ * fetched as any other.
+ * @param {import("./richd.js").Client} client
+ * @param {string} name
+ * @param {import("./keeping.js").Creation} creation
+ * @param {import("./keeping.js").Keeper} keeper
+ */
+async function createAgain(client, name, creation, keeper) {
+  try {
+    return await client.beginAgain(name, creation);
+  } catch (error) {
+    if (error.code !== Refusal.Exists && error.name !== "InDoubt" && !isTooLong(error)) throw error;
+    return fetchCreated(client, name, new Delta(creation.first).compose(new Delta(creation.rest)).ops, keeper);
   }
 }
 
@@ -168,11 +186,13 @@ export class RichDocument extends Emitter {
     document.#values = new Values(options?.encode, options?.decode);
     document.#keeper = options?.keeper;
     const kept = await document.#keeper?.load();
-    if (kept !== undefined) {
-      document.#restore(kept);
-    } else {
+    if (kept === undefined) {
       const ops = options?.create && document.#values.encode(options.create);
-      document.#start(ops === undefined ? await client.fetch(name) : await fetchCreated(client, name, ops));
+      document.#start(ops === undefined ? await client.fetch(name) : await fetchCreated(client, name, ops, document.#keeper));
+    } else if (kept.creation !== undefined) {
+      document.#start(await createAgain(client, name, kept.creation, document.#keeper));
+    } else {
+      document.#restore(kept);
     }
     document.#length = document.#contents.length();
     document.#meet();
