@@ -218,13 +218,14 @@ test("an edit that was sent under a lease that is lost is in doubt: it is told, 
 });
 
 test("an edit whose number others have used since is in doubt too", async (t) => {
-  let isLost = true;
+  let [isLost, lost] = [true, 0];
   const isA = (message) => isLost && message.ops?.[0]?.insert === "a";
-  const { load, newest, server } = await prepared(t, { refuse: (message) => (isA(message) ? {} : undefined), spoil: isA });
+  const spoil = (message) => isA(message) && (lost += 1) > 0;
+  const { load, newest, server } = await prepared(t, { refuse: (message) => (isA(message) ? {} : undefined), spoil });
   const before = await load();
   const document = await before.open();
   document.apply([{ insert: "a" }]);
-  await until(() => document.isKept);
+  await until(() => document.isKept && lost > 0);
   before.page.goes();
   isLost = false;
   const other = await connectPlain({ ...server.address, source: before.client.source });
