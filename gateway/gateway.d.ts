@@ -53,7 +53,7 @@ export interface Limits {
   /** Documents that a user may create: 1,000 in all, and 100 an hour. */
   userCreations: number;
   userCreationsHour: number;
-  /** Names of a user in one document: 4. */
+  /** Names of a user in one document, and of one store under which he sends at a time: 4. */
   userNames: number;
   /** Bytes of a document as it is fetched: 64 MiB. */
   lineBytes: number;

@@ -508,7 +508,10 @@ export class Gateway {
     this.#said.clear();
     const forgotten = performance.now() - FORGOTTEN;
     for (const [id, { goneSince }] of this.#users) if (goneSince < forgotten) this.#users.delete(id);
-    for (const store of this.stores.values()) store.serveNames();
+    for (const store of this.stores.values()) {
+      store.leases.tidy();
+      store.serveNames();
+    }
     const before = performance.now() - SECOND * this.#settings.recheck;
     for (const browser of [...this.#browsers]) {
       browser.giveUpWaiting();

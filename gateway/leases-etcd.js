@@ -2,7 +2,8 @@
 // pool of its own, and each step is one transaction that compares what it stands on. A lease says at which gateway it is used: that one alone
 // asks it back before its term, for it knows what is on its way.
 
-import { Lease, NAMING, choice, userOf } from "./leases.js";
+import { Lease, NAMING, choice } from "./leases.js";
+import { NamesInUse, userOf } from "./names.js";
 
 const MOST_TRIES = 10; // of a transaction that others were faster than
 const MOST_KEPT = 100_000; // leases in memory; then those that were asked for longest ago are asked for anew
@@ -17,6 +18,7 @@ export class EtcdLeases {
   #onLent;
   #at;
   #naming;
+  #inUse;
   #began;
   #places;
   /** @type {Map<string, Lease>} `doc/holder` -> lease */
@@ -32,6 +34,7 @@ export class EtcdLeases {
     this.#places = places;
     this.#at = at;
     this.#naming = naming;
+    this.#inUse = new NamesInUse({ most: naming.most, now });
     this.#began = now();
     this.#etcd = etcd;
     this.#store = store;
@@ -46,7 +49,7 @@ export class EtcdLeases {
    * As `lend` of a file's leases; with `isNew` for a creation, whose place is written with the lease. A lease that was used of late needs no etcd.
    * @param {string} doc
    * @param {string} holder
-   * @returns {Lease | Promise<Lease | undefined>}
+   * @returns {Lease | undefined | Promise<Lease | undefined>}
    */
   lend(doc, holder, isNew = false) {
     return this.#find(doc, holder, true, isNew);
@@ -62,6 +65,7 @@ export class EtcdLeases {
     const known = this.#known.get(key);
     if (known !== undefined) known.seen = this.#now();
     if (known?.isReserved && !isCommand) return known;
+    if (isCommand && known !== undefined && !this.#inUse.takes(holder, known)) return undefined;
     if (known !== undefined && !known.isReserved && !known.isAway && known.seen - known.used <= this.#term / 8) return known;
     const asked = `${isCommand} ${key}`;
     if (!this.#asked.has(asked)) {
@@ -115,6 +119,11 @@ export class EtcdLeases {
     }
   }
 
+  /** Is called now and then. */
+  tidy() {
+    this.#inUse.tidy();
+  }
+
   async close() {}
 
   async #write(doc, holder, lease) {
@@ -130,7 +139,8 @@ export class EtcdLeases {
       const all = (await this.#etcd.under(under)).map(({ key, value, mod }) => ({ key, mod, holder: key.slice(under.length), ...JSON.parse(value) }));
       const own = all.find((lease) => lease.holder === holder);
       const lease = own === undefined ? await this.#lendNew(doc, holder, all, isCommand, isNew) : await this.#renew(doc, holder, own);
-      if (lease !== null) return lease;
+      if (lease === null) continue;
+      return isCommand && lease !== undefined && !this.#inUse.takes(holder, lease) ? undefined : lease;
     }
     throw new Error(`no lease in ${doc}: others were faster each time`);
   }
@@ -170,7 +180,8 @@ export class EtcdLeases {
     for (const [key, lease] of this.#known) {
       if (lease.isReserved && key.startsWith(under)) taken.push([key.slice(under.length), { ...lease, mayGo: true, isOver: lease.seen < now - recall }]);
     }
-    const { free, old } = choice(taken, { doc, holder, isCommand, names, first: this.#first, naming: this.#naming });
+    const only = this.#inUse.only(holder);
+    const { free, old } = choice(taken, { doc, holder, isCommand, names, first: this.#first, naming: this.#naming, only });
     if (free === undefined && old === undefined) return undefined;
     if (free !== undefined || old[1].isReserved) {
       const lease = Object.assign(new Lease(free ?? old[1].name, 1, now), { next: 1, isReserved: !isCommand });

@@ -5,6 +5,7 @@ import http from "node:http";
 import test from "node:test";
 import { Etcd } from "../etcd.js";
 import { EtcdLeases } from "../leases-etcd.js";
+import { NAMING } from "../leases.js";
 import { EtcdPlaces, RuledPlaces } from "../places.js";
 import { Sweep } from "../sweep.js";
 import { EtcdProgram, folderFor, needsEtcd } from "./programs.js";
@@ -223,6 +224,28 @@ for (const [kind, needs, Program] of [["a stub of etcd", {}, FakeEtcd], ["etcd",
     assert.notEqual((await other.lend("d", gone))?.name, anew.name, "who had it has another one now");
   });
 }
+
+test("a user sends under so many names of a store at a time, also with leases in etcd", async (t) => {
+  const program = new FakeEtcd(t);
+  await program.start();
+  const clock = { now: 0 };
+  const pool = async () => Array.from({ length: 40 }, (_, index) => `g-${index}`);
+  const book = new EtcdLeases({ etcd: new Etcd(program), store: "s1", pool, first: 40, term: 1_000_000, now: () => clock.now, naming: { ...NAMING, most: 1 } });
+  const ann = await book.lend("d", "ann/a");
+  assert.equal((await book.lend("e", "ann/a")).name, ann.name);
+  const others = [];
+  for (let k = 0; !others.includes(ann.name); k += 1) others.push((await book.lend("f", `u${k}/a`)).name);
+  assert.equal(await book.lend("f", "ann/a"), undefined);
+  ann.begin();
+  clock.now += 2_000;
+  assert.equal(await book.lend("f", "ann/a"), undefined, "a command is on its way");
+  ann.settle(1, "taken");
+  const other = await book.lend("f", "ann/a");
+  assert.notEqual(other.name, ann.name);
+  assert.equal(await book.lend("d", "ann/a"), undefined);
+  clock.now += 2_000;
+  assert.equal(await book.lend("d", "ann/a"), ann);
+});
 
 test("a lease that another gateway uses isn't lent anew", async (t) => {
   const program = new FakeEtcd(t);
