@@ -4,7 +4,7 @@
 import { CODE } from "./codes.js";
 import { MOST_LINE, KIND, PROBE, REFUSAL, codeOf, isAgain, readMessage, revOf } from "./messages.js";
 import { Subscription, endedLine } from "./news.js";
-import { nameOf } from "./users.js";
+import { MOST_OWED, nameOf } from "./users.js";
 
 const MOST_WAITING = 64; // messages without a reply; then no more are read
 const MOST_READS = 8; // reads that are asked at the same time; one where a reply was large
@@ -15,7 +15,6 @@ const LATER = 50; // milliseconds until a browser that took too little is looked
 const PATIENCE = 10_000; // milliseconds that a message waits for a store that isn't there, then it is to be sent again
 const FRAME = 64; // bytes beside a line that count as its own: its end, and a frame's head
 const PIECE = 1_024; // bytes for which a message counts that ends no line, and a ping
-export const MOST_OWED = 10; // seconds that a user isn't read; where it would be more his sessions are closed
 const SHORT_FAREWELL = 1_000; // where nothing more of it is read
 const FAREWELL = 5_000; // milliseconds that a browser has to answer the end
 const MOST_PIECES = 1_000; // of a line, that are held one by one
@@ -40,6 +39,8 @@ const UNKNOWN = [21, 22]; // a command that is refused so may have been taken
  * @property {boolean} [isNew]  it creates a document that is nowhere
  * @property {boolean} [isCounted]  among its user's creations
  * @property {boolean} [waitsForName]
+ * @property {import("./users.js").Account} [full]  it waits, as this one is told of as many documents as it may be
+ * @property {boolean} [isRoom]  it counts as a document that its session is told of, until it is delivered
  * @property {boolean} [isAsking]  something is found out before it can be sent
  * @property {boolean} [isSent]  to the sessions of a store, where it may still wait
  * @property {{ isSent: boolean, isWanted: boolean }} [ticket]
@@ -72,7 +73,9 @@ export class Browser {
   #taken = 0; // of them, at the last look
   #isAlive = true;
   #wasSlow = false; // at the last look
-  #address;
+  #accounts;
+  #rooms = 0; // documents that it is told of, or asks to be, as its accounts have them
+  #asksRooms = 0; // of them, that it asks to be told of
   #isOwing = false;
   #holder;
   #isPumping = false;
@@ -85,6 +88,7 @@ export class Browser {
 
   isGone = false;
   waiting = 0; // bytes, at the last count
+  sent = 0; // bytes and messages of late: those of a second ago count half
 
   /**
    * @param {any} gateway  what the gateway has for its browsers, see gateway.js
@@ -100,7 +104,9 @@ export class Browser {
     this.user = user;
     this.#given = given;
     this.id = id;
-    this.#address = address;
+    this.#accounts = [user, address];
+    for (const account of this.#accounts) account.browsers.add(this);
+    this.asker = { user: user.id, accounts: this.#accounts, hold: (account, limit, seconds) => this.#hold(account, limit, seconds) };
     socket._socket?.prependListener("data", this.#guarded((bytes) => this.#weigh(bytes.length)));
     socket.on("message", this.#guarded((bytes) => this.#read(bytes)));
     socket.on("ping", this.#guarded(() => this.#charge()));
@@ -203,8 +209,9 @@ export class Browser {
     const now = performance.now();
     let hasGivenUp = false;
     for (const slot of this.#slots) {
-      const { reply, ticket, kind } = slot;
-      if (reply !== undefined || !(now - slot.since > PATIENCE) || (kind === "command" && ticket?.isSent)) continue;
+      const { reply, ticket, kind, full } = slot;
+      if (full !== undefined && now - slot.since > full.patience) return this.closeAsOver(full.nameOf("Documents"));
+      if (full !== undefined || reply !== undefined || !(now - slot.since > PATIENCE) || (kind === "command" && ticket?.isSent)) continue;
       if (ticket !== undefined) ticket.isWanted = false;
       slot.reply = REFUSAL.NoMemory;
       if (ticket === undefined) this.#uncount(slot, false);
@@ -258,24 +265,26 @@ export class Browser {
     this.#gateway.metrics.count("rights_ended_total");
     this.#gateway.log("a user may no longer read what he is told of", { user: this.user.id, doc });
     this.#gateway.presence.end(this, doc);
+    this.#countRooms();
     if (!this.#followed.has(doc)) return;
     this.#give(endedLine(doc, NOT_ALLOWED));
     this.#unfollow(doc);
     this.#flush();
   }
 
-  /** How many documents it is told of. */
-  get documents() {
-    return this.#followed.size + this.#gateway.presence.countOf(this);
+  // How many documents it is told of, or asks to be, has changed.
+  #countRooms() {
+    const rooms = this.isGone ? 0 : this.#followed.size + this.#gateway.presence.countOf(this) + this.#asksRooms;
+    for (const account of this.#accounts) account.documents += rooms - this.#rooms;
+    this.#rooms = rooms;
   }
 
   // All bytes of its connection count, those of pings and of a message's pieces too. Those of a line that is whole are given back to what isn't lines.
   #weigh(bytes) {
     if (this.isGone) return;
-    this.user.bytes.take(bytes);
-    this.user.overhead.take(bytes);
-    this.#address.bytes.take(bytes);
-    if (this.#isOwing || (this.user.bytes.owed === 0 && this.user.overhead.owed === 0 && this.#address.bytes.owed === 0)) return;
+    this.sent += bytes;
+    for (const account of this.#accounts) account.weigh(bytes);
+    if (this.#isOwing || this.#accounts.every(({ debt }) => debt.seconds === 0)) return;
     this.#isOwing = true;
     this.#socket.pause(); // at once: a connection is read many times before anything else is looked at
     setImmediate(this.#settleDebt, true); // once the lines among them are read
@@ -284,30 +293,45 @@ export class Browser {
   // A message that ends no line, and a ping, cost more than their bytes.
   #charge() {
     if (this.isGone) return;
-    this.user.overhead.take(PIECE);
-    if (this.user.overhead.owed > MOST_OWED) this.#settleDebt();
+    this.sent += PIECE;
+    for (const { overhead } of this.#accounts) overhead.take(PIECE);
+    if (this.#accounts.some(({ owesMuch }) => owesMuch)) this.#settleDebt();
   }
 
-  // Whose user owes isn't read until that is over, and is closed where it takes too long.
-  #settleDebt = this.#guarded((isFirst = false) => {
+  // Whose user or address owes isn't read until that is over. Where it takes too long it is closed, or who sends most from that address.
+  #settleDebt = this.#guarded(() => {
     if (this.isGone) return;
-    const owed = { bytes: this.user.bytes.owed, overhead: this.user.overhead.owed, address: this.#address.bytes.owed };
-    const [limit, seconds] = Object.entries(owed).sort(([, one], [, other]) => other - one)[0];
+    const debts = this.#accounts.map((account) => ({ account, ...account.debt }));
+    const { account, limit, seconds } = debts.reduce((one, other) => (other.seconds > one.seconds ? other : one));
     this.#isOwing = seconds > 0;
-    if (seconds > MOST_OWED) {
-      this.#gateway.metrics.count("over_total", { limit });
-      this.#gateway.log("a user sends more than he may, and is closed", { user: this.user.id, limit });
-      return this.close(CODE.over, "more than you may send");
-    }
-    if (this.#isOwing) {
-      if (isFirst) {
-        this.#gateway.metrics.count("slowed_total", { limit });
-        this.#gateway.log("a user sends more than he may, and is read later", { user: this.user.id, limit });
-      }
-      this.#socket.pause();
-      setTimeout(this.#settleDebt, Math.max(LATER, 1_000 * seconds)).unref();
-    } else this.#pump();
+    if (!this.#isOwing) return this.#pump();
+    if (seconds > MOST_OWED) (account === this.user ? this : account.greedy).closeAsOver(account.nameOf(limit));
+    if (this.isGone) return;
+    this.#socket.pause();
+    setTimeout(this.#settleDebt, Math.max(LATER, 1_000 * Math.min(seconds, MOST_OWED))).unref();
+    this.#hold(account, limit, seconds);
   });
+
+  // It waits for so many seconds, as one of its accounts has taken too much. Where that goes on for too long the one that sends most is closed.
+  #hold(account, limit, seconds) {
+    const name = account.nameOf(limit);
+    const { isFirst, greedy } = account.hold(seconds);
+    if (isFirst) this.#tellSlowed(name);
+    greedy?.closeAsOver(name);
+  }
+
+  #tellSlowed(limit) {
+    this.#gateway.metrics.count("slowed_total", { limit });
+    this.#gateway.log("a user sends more than he may, and is read later", { user: this.user.id, limit });
+  }
+
+  /** Ends it, as it has been above a limit for too long. @param {string} limit */
+  closeAsOver(limit) {
+    if (this.isGone) return;
+    this.#gateway.metrics.count("over_total", { limit });
+    this.#gateway.log("a user sends more than he may, and is closed", { user: this.user.id, limit });
+    this.close(CODE.over, "more than you may send");
+  }
 
   #read(bytes) {
     if (this.isGone) return;
@@ -351,9 +375,17 @@ export class Browser {
     while (!this.isGone && !this.#isEnding && this.#slots.length < MOST_WAITING) {
       const at = this.#unread.indexOf(10);
       if (at === -1) break;
-      if (!this.user.takesTurn()) return this.#pumpLater();
+      const full = this.#accounts.find(({ messages }) => messages.isEmpty);
+      if (full !== undefined) {
+        this.#hold(full, "Messages", LATER / 1_000);
+        return this.#pumpLater();
+      }
       const line = this.#unread.subarray(0, at);
-      this.user.overhead.take(-Math.min(line.length, MOST_LINE) - FRAME);
+      this.sent += PIECE;
+      for (const { messages, overhead } of this.#accounts) {
+        messages.take(1);
+        overhead.take(-Math.min(line.length, MOST_LINE) - FRAME);
+      }
       this.#unread = this.#unread.subarray(at + 1);
       if (this.#skips) this.#skips = false;
       else if (line.length > MOST_LINE) this.#refuse(REFUSAL.LineTooLong);
@@ -419,12 +451,7 @@ export class Browser {
   #send(slot) {
     const { kind, message: { do: what, doc } } = slot;
     const isToldMore = (what === "subscribe" && !this.#followed.has(doc)) || (kind === "presence" && slot.message.at !== null && !this.#gateway.presence.has(this, doc));
-    if (isToldMore && this.user.documents >= this.#gateway.mostDocuments) {
-      this.#gateway.metrics.count("rooms_refused_total");
-      this.#gateway.log("a user follows more documents than he may", { user: this.user.id });
-      slot.reply = REFUSAL.NotAllowed;
-      return true;
-    }
+    if (isToldMore && !slot.isRoom && !this.#takesRoom(slot)) return false;
     if (kind === "presence") return this.#reply(slot, `{"doc":"${doc}","ok":"presence"}\n`);
     if (what === "unsubscribe") return this.#reply(slot, `{"doc":"${doc}","ok":"unsubscribed"}\n`);
     const { places, stores } = this.#gateway;
@@ -439,6 +466,22 @@ export class Browser {
     }
     if (kind === "command" || kind === "lease") return this.#write(slot, store);
     this.#ask(slot, store);
+    return true;
+  }
+
+  // Counts one more document that it is told of, or has it wait until there is one less.
+  #takesRoom(slot) {
+    const full = this.#accounts.find(({ documents, mostDocuments }) => documents >= mostDocuments);
+    if (full !== undefined) {
+      if (slot.full === undefined) this.#tellSlowed(full.nameOf("Documents"));
+      slot.full = full;
+      this.#pumpLater();
+      return false;
+    }
+    slot.full = undefined;
+    slot.isRoom = true;
+    this.#asksRooms += 1;
+    this.#countRooms();
     return true;
   }
 
@@ -582,8 +625,8 @@ export class Browser {
     const wanted = () => ticket.isWanted && !this.isGone;
     const settle = this.#guarded((line) => (codeOf(line) === NO_DOCUMENT ? this.#lookAgain(slot, store, line) : this.#answer(slot, line)));
     const own = this.#own.get(doc) ?? 0;
-    if (message.do === "fetch") return store.fetch(message, rev === undefined ? own : 0, settle, wanted, this.user.id);
-    if (message.do === "since") return store.since(doc, rev, settle, wanted, this.user.id, own);
+    if (message.do === "fetch") return store.fetch(message, rev === undefined ? own : 0, settle, wanted, this.asker);
+    if (message.do === "since") return store.since(doc, rev, settle, wanted, this.asker, own);
     const subscription = new Subscription(doc, rev, this.#guarded((it) => this.#followed.get(doc)?.subscription === it && this.#tell(doc) && this.#flush()));
     store.news.join(subscription, this.#guarded((line) => {
       if (this.isGone || slot.reply !== undefined) return store.news.leave(subscription);
@@ -592,7 +635,7 @@ export class Browser {
         this.#backlogBytes += subscription.backlogBytes;
       }
       settle(line);
-    }), wanted, this.user.id);
+    }), wanted, this.asker);
   }
 
   // A document may have another place by now than the one that was asked.
@@ -623,7 +666,7 @@ export class Browser {
   #deliver() {
     const before = this.#slots.length;
     while (!this.isGone && this.#slots[0]?.reply !== undefined) {
-      const { kind, message, reply, followed, bytes = 0 } = this.#slots.shift();
+      const { kind, message, reply, followed, bytes = 0, isRoom } = this.#slots.shift();
       this.#slotBytes -= bytes;
       const code = codeOf(reply);
       if (reply.length > LARGE_REPLY) this.#readsAtOnce = 1;
@@ -641,6 +684,8 @@ export class Browser {
         this.#unfollow(doc);
         this.#followed.set(doc, followed);
       }
+      if (isRoom) this.#asksRooms -= 1;
+      if (isRoom || kind === "presence") this.#countRooms();
       this.#tell(doc);
     }
     return this.#slots.length < before;
@@ -735,11 +780,14 @@ export class Browser {
     this.#followed.delete(doc);
     this.#backlogBytes -= followed.subscription.backlogBytes;
     followed.news.leave(followed.subscription);
+    this.#countRooms();
   }
 
   #leave() {
     if (this.isGone) return;
     this.isGone = true;
+    for (const account of this.#accounts) account.browsers.delete(this);
+    this.#countRooms();
     this.#gateway.waiting.note(this, 0);
     clearTimeout(this.#timer);
     for (const slot of this.#slots) {

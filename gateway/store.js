@@ -13,6 +13,7 @@ const DELETED = 40;
 const MOST_READING = 2; // reads of older revisions that are asked for at once
 const MOST_STALE = 100; // times that a read is asked again which is older than an own command
 const STALE_PAUSE = 10; // milliseconds
+const READ_PAUSE = 50; // milliseconds until it is looked again whose reads may be asked for
 const TOO_LONG = Buffer.from(REFUSAL.NoMemory); // another object than that of a store without memory
 
 /**
@@ -20,6 +21,13 @@ const TOO_LONG = Buffer.from(REFUSAL.NoMemory); // another object than that of a
  * @property {string} user
  * @property {() => boolean} isWanted
  * @property {() => Promise<boolean>} isServed  asks again
+ */
+
+/**
+ * @typedef {object} Asker  whose read it is
+ * @property {string} user
+ * @property {import("./users.js").Account[]} accounts  what it takes of a session's time is theirs
+ * @property {(account: import("./users.js").Account, limit: string, seconds: number) => void} hold  his reads wait, as an account has taken too much
  */
 
 /**
@@ -47,9 +55,12 @@ export class Store {
   /** @type {Map<string, Turns<Waiter>>} document -> messages that wait for a name */
   #names = new Map();
   #isNaming = false;
-  /** @type {Turns<{ wanted: () => boolean, ask: (done: (settle: (line: Buffer) => void, line: Buffer) => void) => void }>} */
+  /** @type {Turns<{ asker: Asker, wanted: () => boolean, ask: (done: (settle: (line: Buffer) => void, line: Buffer) => void) => void }>} */
   #older = new Turns(); // reads of older revisions
   #reading = 0; // of them that are asked
+  #readAt = 0; // when the last one had its reply
+  #readerCuts = 0; // of sessions that read
+  #readTimer;
   #timer;
 
   #onCut = () => (this.#metrics.cuts += 1);
@@ -83,13 +94,18 @@ export class Store {
     this.#log = log;
     this.#limits = limits;
     const onOpen = () => log("a store is there", { store: name });
-    const onCut = () => {
+    const onReaderCut = () => {
       this.#onCut();
+      this.#readerCuts += 1;
+    };
+    const onCut = () => {
+      onReaderCut();
       log("a store is away", { store: name });
     };
     const first = new Upstream(this.#address, `${prefix}-reader`, { ...this.#listener, onOpen, onCut });
-    this.#readers = [first, ...Array.from({ length: readers - 1 }, () => new Upstream(this.#address, `${prefix}-reader2`, this.#listener))];
-    const since = (doc, rev, settle, wanted, user) => this.since(doc, rev, settle, wanted, user);
+    const second = () => new Upstream(this.#address, `${prefix}-reader2`, { ...this.#listener, onCut: onReaderCut });
+    this.#readers = [first, ...Array.from({ length: readers - 1 }, second)];
+    const since = (doc, rev, settle, wanted, asker) => this.since(doc, rev, settle, wanted, asker);
     const onLong = (doc) => log("news of a document are longer than newsBytes", { store: name, doc });
     this.news = new News(this.#address, `${prefix}-news`, since, { ...this.#listener, onLong, mostNews: limits.newsBytes, kept, onLag: (lag) => metrics.lag.add(lag) });
     this.#timer = setInterval(() => this.#closeIdle(), IDLE / 4);
@@ -123,36 +139,62 @@ export class Store {
    * @param {number} least  the revision that it has to have, 0 where it may have any
    * @param {(line: Buffer) => void} settle
    * @param {() => boolean} wanted
-   * @param {string} user
+   * @param {Asker} asker
    */
-  fetch(message, least, settle, wanted, user) {
+  fetch(message, least, settle, wanted, asker) {
     const answer = (line) => {
       if (line === TOO_LONG) this.#log("a document is longer than lineBytes", { store: this.name, doc: message.doc });
       settle(line);
     };
     const bound = { most: this.#limits.lineBytes, instead: TOO_LONG };
     if (message.rev === undefined) return this.#askUpTo(this.#readers[0], message, least, answer, wanted, bound);
-    this.#readOlder(user, wanted, (done) => this.#readers.at(-1).ask(message, (line) => done(answer, line), wanted, bound));
+    this.#readOlder(asker, wanted, (done) => this.#readers.at(-1).ask(message, (line) => done(answer, line), wanted, bound));
   }
 
-  // What a store has to make of its past may take long: users take turns at it, and few are asked for at once.
-  #readOlder(user, wanted, ask) {
-    this.#older.add(user, { wanted, ask });
+  // What a store has to make of its past may take long: users take turns at it, few are asked for at once, and each has a share of a session's time.
+  #readOlder(asker, wanted, ask) {
+    this.#older.add(asker.user, { asker, wanted, ask });
     this.#serveReads();
   }
 
   #serveReads() {
     while (this.#reading < MOST_READING) {
-      const read = this.#older.next(() => true);
-      if (read === undefined) return;
+      const read = this.#older.next(({ asker, wanted }) => !wanted() || asker.accounts.every(({ reading }) => reading.owed === 0));
+      if (read === undefined) return this.#readLater();
       if (!read.wanted()) continue;
       this.#reading += 1;
+      const count = this.#counter(read.asker.accounts);
       read.ask((settle, line) => {
         this.#reading -= 1;
+        count();
         setImmediate(() => this.#serveReads());
         settle(line);
       });
     }
+  }
+
+  // Counts the time from now on, but for what belongs to the read before, and for a time in which the store wasn't there.
+  #counter(accounts) {
+    const began = performance.now();
+    const isThere = this.#readers.at(-1).isOpen;
+    const cuts = this.#readerCuts;
+    return () => {
+      const now = performance.now();
+      const taken = isThere && cuts === this.#readerCuts ? now - Math.max(began, this.#readAt) : 0;
+      this.#readAt = now;
+      for (const { reading } of accounts) reading.take(taken);
+    };
+  }
+
+  #readLater() {
+    for (const { asker: { accounts, hold } } of this.#older.first()) {
+      for (const account of accounts) if (account.reading.owed > 0) hold(account, "Reading", account.reading.owed);
+    }
+    if (this.#older.isEmpty) return;
+    this.#readTimer ??= setTimeout(() => {
+      this.#readTimer = undefined;
+      this.#serveReads();
+    }, READ_PAUSE).unref();
   }
 
   /**
@@ -162,15 +204,15 @@ export class Store {
    * @param {number} rev
    * @param {(line: Buffer) => void} settle
    * @param {() => boolean} wanted
-   * @param {string} user
+   * @param {Asker} asker
    * @param {number} [least]
    */
-  since(doc, rev, settle, wanted, user, least = 0) {
+  since(doc, rev, settle, wanted, asker, least = 0) {
     const reader = this.#readers.at(-1);
     const beyond = rev + MOST_SINCE + 1;
     const message = { do: "since", doc, rev };
     const tooOld = { most: this.#limits.newsBytes, instead: REFUSAL.TooOld };
-    this.#readOlder(user, wanted, (done) => {
+    this.#readOlder(asker, wanted, (done) => {
       if (!Number.isSafeInteger(beyond)) return reader.ask(message, (line) => done(settle, line), wanted);
       reader.ask({ do: "fetch", doc, rev: beyond }, (answer) => {
         const code = codeOf(answer);
@@ -254,6 +296,7 @@ export class Store {
 
   end() {
     clearInterval(this.#timer);
+    clearTimeout(this.#readTimer);
     this.#queue = new Turns();
     this.news.end();
     for (const session of [...this.#readers, ...this.#writers.values()]) session.end();

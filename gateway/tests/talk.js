@@ -14,6 +14,7 @@ export async function gatewayFor(test, settings) {
   const events = [];
   const gateway = await createGateway({ data: settings.etcd ? undefined : folderFor(test), log: (event) => events.push(event), ...settings });
   const server = http.createServer((request, response) => gateway.handleRequest(request, response) || response.writeHead(404).end());
+  server.on("connection", (socket) => gateway.handleConnection(socket));
   server.on("upgrade", (request, socket, head) => gateway.handleUpgrade(request, socket, head));
   await new Promise((resolve) => server.listen(0, "127.0.0.1", resolve));
   const { port } = server.address();
