@@ -38,6 +38,7 @@ const UNKNOWN = [21, 22]; // a command that is refused so may have been taken
  * @property {boolean} [needsLease]  its holder may have a new lease in its document
  * @property {boolean} [isNew]  it creates a document that is nowhere
  * @property {boolean} [isCounted]  among its user's creations
+ * @property {() => void} [undo]  takes back what was written before it is sent
  * @property {boolean} [waitsForName]
  * @property {import("./users.js").Account} [full]  it waits, as this one is told of as many documents as it may be
  * @property {boolean} [isRoom]  it counts as a document that its session is told of, until it is delivered
@@ -214,6 +215,7 @@ export class Browser {
       if (full !== undefined || reply !== undefined || !(now - slot.since > PATIENCE) || (kind === "command" && ticket?.isSent)) continue;
       if (ticket !== undefined) ticket.isWanted = false;
       slot.reply = REFUSAL.NoMemory;
+      slot.undo?.();
       if (ticket === undefined) this.#uncount(slot, false);
       hasGivenUp = true;
     }
@@ -256,6 +258,7 @@ export class Browser {
         slot.followed?.news.leave(slot.followed.subscription);
         slot.followed = undefined;
         slot.reply = REFUSAL.NotAllowed;
+        slot.undo?.();
         this.#pump();
       }), () => {});
     }
@@ -511,16 +514,28 @@ export class Browser {
     }
     this.#written.add(message.doc);
     const lease = kind === "lease" ? store.leases.reserve(message.doc, this.#holder) : store.leases.lend(message.doc, this.#holder, slot.isNew);
-    if (lease instanceof Promise) return this.#find(slot, lease, (found) => found === undefined && this.#waitForName(slot, store));
+    if (lease instanceof Promise) return this.#find(slot, lease, (found) => (found === undefined ? this.#waitForName(slot, store) : this.#lent(slot, store, found)));
     if (lease === undefined) return this.#waitForName(slot, store);
     const { places } = this.#gateway;
-    if (message.do === "create" && places.isOpen(message.doc)) return this.#find(slot, places.place(message.doc, store.name, this.user.id), () => {});
+    if (message.do === "create" && places.isOpen(message.doc)) {
+      return this.#find(slot, places.place(message.doc, store.name), () => this.#lent(slot, store, lease));
+    }
     if (kind === "lease") slot.reply = leaseLine(message.doc, Object.assign(lease, { isTold: true }));
     else if (message.do === "undo" && lease.epoch > 1 && !lease.isOwn) {
       if (this.#slots.some((it) => it !== slot && isWaiting(it) && it.message.doc === message.doc)) return false; // it may become one's own
       slot.reply = REFUSAL.NothingToUndo; // what there is was another's
     } else this.#command(slot, store, lease);
     return true;
+  }
+
+  // What was written for a creation is taken back where it isn't sent after all.
+  #lent(slot, { leases }, lease) {
+    if (!slot.isNew) return;
+    slot.undo = () => {
+      slot.undo = undefined;
+      leases.release(slot.message.doc, this.#holder, lease, true);
+    };
+    if (this.isGone || slot.reply !== undefined) slot.undo();
   }
 
   // All names are lent in a document: it is asked again as they come back. Gives that the next message may not follow.
@@ -532,7 +547,9 @@ export class Browser {
       user: this.user.id,
       isWanted: () => !this.isGone && slot.reply === undefined,
       isServed: async () => {
-        if ((await ask()) === undefined) return false;
+        const lease = await ask();
+        if (lease === undefined) return false;
+        this.#lent(slot, store, lease);
         slot.waitsForName = false;
         this.#pump();
         return true;
@@ -546,7 +563,7 @@ export class Browser {
     const { do: what, doc } = slot.message;
     const isCreation = what === "create";
     const { places } = this.#gateway;
-    if (isCreation && standing !== "nowhere" && places.isOpen(doc)) await places.place(doc, places.cached(doc), this.user.id); // the store had it before its place
+    if (isCreation && standing !== "nowhere" && places.isOpen(doc)) await places.place(doc, places.cached(doc)); // the store had it before its place
     if (isCreation && standing === "there" && !(await leases.isHeld(doc, this.#holder))) slot.reply ??= REFUSAL.Exists;
     else if (!isCreation && standing === "nowhere") slot.reply ??= REFUSAL.NoDocument;
     else slot.needsLease = true;
@@ -574,6 +591,7 @@ export class Browser {
 
   #command(slot, store, lease) {
     slot.isSent = true;
+    slot.undo = undefined;
     lease.begin();
     const began = performance.now();
     const settle = this.#guarded((line) => this.#onCommand(slot, store, lease, line, began));
@@ -586,7 +604,9 @@ export class Browser {
     const { do: what, doc, n, base } = slot.message;
     if (line === undefined) {
       this.#uncount(slot, false);
-      return lease.settle(n, "refused");
+      lease.settle(n, "refused");
+      if (what === "create") store.leases.release(doc, this.#holder, lease, true);
+      return;
     }
     if (line === null) {
       this.#uncount(slot, true);
@@ -599,7 +619,6 @@ export class Browser {
     const isCreation = what === "create";
     metrics.commands[result] += 1;
     lease.settle(n, UNKNOWN.includes(code) ? "cut" : result);
-    this.#uncount(slot, code === 0 || UNKNOWN.includes(code));
     const releases = (isCreation && NOT_MADE.includes(code)) || code === NO_DOCUMENT;
     if (releases) store.leases.release(doc, this.#holder, lease, code !== EXISTS && code !== FULL_STORE);
     const isOthers = result === "again" && isCreation && n === 1 && lease.epoch > 1 && !lease.isOwn;
@@ -608,9 +627,11 @@ export class Browser {
       store.news.taken(doc, line);
     }
     const listing = result !== "refused" && isCreation && !isOthers ? this.#gateway.places.created(doc, store.name, this.user.id) : undefined;
-    listing?.catch(() => {});
+    const uncount = () => this.#uncount(slot, code === 0 || UNKNOWN.includes(code));
+    if (listing === undefined) uncount();
+    else listing.then(uncount, uncount);
     if (result !== "refused" && base !== PROBE) this.#gateway.taken(this.#given, slot.message, revOf(line), result === "again");
-    if (this.isGone) return;
+    if (this.isGone) return code === FULL_STORE && isCreation ? void this.#gateway.places.undo(doc).catch(() => {}) : undefined;
     if (code === FULL_STORE && isCreation) return this.#sendElsewhere(slot, store, line, this.#gateway.places.move(doc, store.name));
     if (code === NO_DOCUMENT) return this.#lookAgain(slot, store, line);
     if (listing !== undefined) return this.#find(slot, listing, () => (slot.reply ??= line)); // where it can't be listed it is sent again
@@ -791,6 +812,7 @@ export class Browser {
     this.#gateway.waiting.note(this, 0);
     clearTimeout(this.#timer);
     for (const slot of this.#slots) {
+      slot.undo?.();
       if (slot.ticket !== undefined) slot.ticket.isWanted = false;
       else this.#uncount(slot, false);
     }

@@ -87,10 +87,14 @@ export class EtcdLeases {
   /** Takes back a lease that was new, and under which nothing was taken; and with it the place of a document that isn't made. */
   release(doc, holder, lease, isNowhere) {
     const key = `${doc}/${holder}`;
-    if (!lease.isUnused || lease.mod === undefined || this.#known.get(key) !== lease) return;
-    this.#known.delete(key);
-    const place = isNowhere ? this.#places?.disclaim(doc) : undefined;
+    const place = isNowhere && lease.onWay === 0 ? this.#places?.disclaim(doc) : undefined;
+    const isFree = lease.isUnused(isNowhere) && lease.mod !== undefined && this.#known.get(key) === lease;
     if (place) this.#places.disclaimed(doc);
+    if (!isFree) {
+      if (place) this.#etcd.transact([place.compare], place.remove).catch(() => {});
+      return;
+    }
+    this.#known.delete(key);
     this.#takeBack(doc, holder, lease, place).catch(() => {}); // the next start sweeps it away
   }
 
@@ -113,7 +117,6 @@ export class EtcdLeases {
       const key = `${doc}/${holder}`;
       const known = this.#known.get(key);
       if (known === undefined) continue;
-      known.next = undefined;
       known.isAway = true;
       if (known.isReserved) this.#known.delete(key);
     }
@@ -128,9 +131,9 @@ export class EtcdLeases {
 
   async #write(doc, holder, lease) {
     const found = await this.#etcd.get(this.#key(doc, holder));
-    if (found !== undefined && isSame(JSON.parse(found.value), lease)) {
-      await this.#etcd.transact([{ key: found.key, mod: found.mod }], [{ key: found.key, value: this.#kept(lease) }]);
-    }
+    if (found === undefined || !isSame(JSON.parse(found.value), lease)) return;
+    const mod = await this.#etcd.transact([{ key: found.key, mod: found.mod }], [{ key: found.key, value: this.#kept(lease) }]);
+    if (mod !== false && lease.mod === found.mod) lease.mod = mod;
   }
 
   async #ask(doc, holder, isCommand, isNew) {
@@ -153,11 +156,13 @@ export class EtcdLeases {
     if (known?.isReserved) this.#naming.onRecall(doc, holder, holder); // he was told another name
     lease.used = own.used; // perhaps at another gateway
     lease.isAway = false;
-    lease.mod = undefined; // it may have been used
+    if (lease.mod !== own.mod) lease.next = undefined; // it may have been used there
+    lease.mod = own.mod;
     if (now - own.used > this.#term / 8 || own.at !== this.#at) {
       const value = JSON.stringify({ ...kept(own), used: now, at: this.#at });
-      if (!(await this.#etcd.transact([{ key: own.key, mod: own.mod }], [{ key: own.key, value }]))) return null;
-      lease.used = now;
+      const mod = await this.#etcd.transact([{ key: own.key, mod: own.mod }], [{ key: own.key, value }]);
+      if (mod === false) return null;
+      Object.assign(lease, { mod, used: now });
     }
     return this.#keep(doc, holder, lease);
   }
@@ -195,7 +200,9 @@ export class EtcdLeases {
     const lease = new Lease(name, epoch + 1, now);
     const key = this.#key(doc, holder);
     onRecall(doc, from, holder);
-    if (!(await this.#etcd.transact([{ key }, { key: oldKey, mod }], [{ key: oldKey }, { key, value: this.#kept(lease) }]))) return null;
+    const written = await this.#etcd.transact([{ key }, { key: oldKey, mod }], [{ key: oldKey }, { key, value: this.#kept(lease) }]);
+    if (written === false) return null;
+    lease.mod = written;
     this.#known.delete(under + from);
     return this.#lent(doc, holder, lease);
   }
@@ -204,7 +211,7 @@ export class EtcdLeases {
   async #lendFree(doc, holder, lease, isNew) {
     const key = this.#key(doc, holder);
     const nameKey = this.#nameKey(doc, lease.name); // a name is new in a document once
-    const place = isNew ? await this.#places?.claim(doc, this.#store, userOf(holder)) : undefined;
+    const place = isNew ? await this.#places?.claim(doc, this.#store) : undefined;
     const compare = [{ key }, { key: nameKey }, ...(place ? [place.compare] : [])];
     const put = [{ key, value: this.#kept(lease) }, { key: nameKey, value: holder }, ...(place ? place.put : [])];
     const mod = await this.#etcd.transact(compare, put);
@@ -213,7 +220,7 @@ export class EtcdLeases {
       if (lease.isTold) this.#naming.onRecall(doc, holder, holder); // he was told a name that he doesn't get
       return null;
     }
-    if (place) this.#places.claimed(doc, this.#store, mod, userOf(holder));
+    if (place) this.#places.claimed(doc, this.#store, mod);
     Object.assign(lease, { isReserved: false, mod });
     return this.#lent(doc, holder, lease);
   }

@@ -11,7 +11,7 @@ export class Lease {
   onWay = 0; // commands that were sent and have no reply
   isTold = false; // its holder asked for it, and counts on it
   isKept = true; // it is on the disk
-  /** @type {string | undefined} the revision of etcd that wrote it, where nothing was sent under it before */
+  /** @type {string | undefined} the revision of etcd that wrote it last, as far as this gateway knows */
   mod;
   isReserved = false; // it was asked for, and is lent with the first command
   isAway = false; // its holder has gone since it was asked for; where leases are in etcd
@@ -26,9 +26,9 @@ export class Lease {
     Object.assign(this, { name, epoch, used, isOwn, seen: used });
   }
 
-  /** Whether its numbers are all unused still, and its holder knows nothing of it. */
-  get isUnused() {
-    return this.epoch === 1 && this.next === 1 && this.onWay === 0 && !this.isTold;
+  /** Whether its numbers are all unused still, and its holder doesn't count on it: he knows nothing of it, or the document is nowhere. @param {boolean} isNowhere */
+  isUnused(isNowhere) {
+    return this.epoch === 1 && this.next === 1 && this.onWay === 0 && (isNowhere || !this.isTold);
   }
 
   /** A command leaves. */
@@ -197,8 +197,8 @@ export class Leases {
   }
 
   /** Takes back a lease that was new, and under which nothing was taken. */
-  release(doc, holder, lease) {
-    if (!lease.isUnused || this.#docs.get(doc)?.get(holder) !== lease) return;
+  release(doc, holder, lease, isNowhere = false) {
+    if (!lease.isUnused(isNowhere) || this.#docs.get(doc)?.get(holder) !== lease) return;
     this.#remove(doc, holder);
     if (lease.isReserved) return;
     this.#journal.add([doc, holder, null]).catch(() => {});
