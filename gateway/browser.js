@@ -4,6 +4,7 @@
 import { CODE } from "./codes.js";
 import { MOST_LINE, KIND, PROBE, REFUSAL, codeOf, isAgain, readMessage, revOf } from "./messages.js";
 import { Subscription, endedLine } from "./news.js";
+import { TOO_LONG } from "./store.js";
 import { MOST_OWED, nameOf } from "./users.js";
 
 const MOST_WAITING = 64; // messages without a reply; then no more are read
@@ -45,6 +46,8 @@ const UNKNOWN = [21, 22]; // a command that is refused so may have been taken
  * @property {boolean} [isAsking]  something is found out before it can be sent
  * @property {boolean} [isSent]  to the sessions of a store, where it may still wait
  * @property {{ isSent: boolean, isWanted: boolean }} [ticket]
+ * @property {boolean} [isLong]  its reply is too long to be held: it comes in pieces, once this message stands first
+ * @property {boolean} [isPassed]  its reply has been given, but for its last bytes
  * @property {number} [since]
  * @property {{ subscription: Subscription, news: import("./news.js").News }} [followed]
  */
@@ -66,6 +69,10 @@ export class Browser {
   #followed = new Map();
   #judgedAt = new Map(); // doc -> when the right to read it was asked for last
   #written = new Set(); // documents with a lease
+  /** @type {Slot | undefined} the message whose reply is given in pieces just now */
+  #passing;
+  /** @type {Buffer[]} lines that come behind that */
+  #behind = [];
   /** @type {Buffer[]} */
   #out = [];
   #outBytes = 0;
@@ -141,8 +148,12 @@ export class Browser {
     return nameOf(this.#given);
   }
 
-  /** Whether it has so much to take that it gets nothing unasked. */
+  /** Whether it has so much to take that it gets nothing unasked, or is in the middle of a line. */
   get isSlow() {
+    return this.#hasMuch || this.#passing !== undefined;
+  }
+
+  get #hasMuch() {
     return this.#socket.bufferedAmount > MOST_BUFFERED;
   }
 
@@ -158,7 +169,7 @@ export class Browser {
     if (this.isGone) return;
     this.#flush();
     this.#leave();
-    if (this.isSlow) return this.#socket.terminate(); // its farewell would stand behind what it doesn't take, and hold that
+    if (this.#hasMuch) return this.#socket.terminate(); // its farewell would stand behind what it doesn't take, and hold that
     const isFlood = code === CODE.over; // nothing more of it is read, its farewell neither
     if (isFlood) this.#socket.pause();
     else if (this.#socket.isPaused) this.#socket.resume(); // else its farewell isn't read
@@ -194,13 +205,13 @@ export class Browser {
   look = this.#guarded(() => {
     const taken = this.#givenBytes - this.#socket.bufferedAmount;
     const isSilent = !this.#isAlive && !this.#socket.isPaused; // its pong isn't read while no more messages are
-    const isStuck = this.isSlow && this.#wasSlow;
+    const isStuck = this.#hasMuch && this.#wasSlow;
     if (taken <= this.#taken && (isSilent || isStuck)) {
       if (isStuck) this.#gateway.metrics.slow += 1;
       return this.#socket.terminate();
     }
     this.#taken = taken;
-    this.#wasSlow = this.isSlow;
+    this.#wasSlow = this.#hasMuch;
     this.#isAlive = false;
     this.#socket.ping();
   });
@@ -212,7 +223,7 @@ export class Browser {
     for (const slot of this.#slots) {
       const { reply, ticket, kind, full } = slot;
       if (full !== undefined && now - slot.since > full.patience) return this.closeAsOver(full.nameOf("Documents"));
-      if (full !== undefined || reply !== undefined || !(now - slot.since > PATIENCE) || (kind === "command" && ticket?.isSent)) continue;
+      if (full !== undefined || slot === this.#passing || reply !== undefined || !(now - slot.since > PATIENCE) || (kind === "command" && ticket?.isSent)) continue;
       if (ticket !== undefined) ticket.isWanted = false;
       slot.reply = REFUSAL.NoMemory;
       slot.undo?.();
@@ -253,6 +264,7 @@ export class Browser {
       if (message === undefined || (only ?? message.doc) !== message.doc || (!isRead && (ticket?.isSent || slot.reply !== undefined))) continue;
       if (isRead && slot.reply !== undefined && codeOf(slot.reply) !== 0) continue;
       this.#gateway.mayDo(this.#given, message.doc, message.do).then(this.#guarded((may) => {
+        if (!may && slot === this.#passing) return this.close(CODE.rights, "the rights have changed");
         if (may || (!isRead && (slot.reply !== undefined || slot.ticket?.isSent))) return;
         if (slot.ticket !== undefined) slot.ticket.isWanted = false;
         slot.followed?.news.leave(slot.followed.subscription);
@@ -441,6 +453,7 @@ export class Browser {
       if (kind !== undefined && slot.kind !== kind && slot.kind !== "presence") return;
       if (!slot.isSent) {
         const isRead = slot.kind === "fetch" || slot.kind === "since";
+        if (slot.isLong && slot !== this.#slots[0]) return;
         if (isRead && this.isSlow) return this.#pumpLater();
         if ((isRead && asked >= this.#readsAtOnce) || !slot.isAllowed || slot.isAsking || slot.waitsForName || !this.#send(slot)) return;
       }
@@ -644,8 +657,15 @@ export class Browser {
     const ticket = { isSent: false, isWanted: true };
     Object.assign(slot, { isSent: true, ticket });
     const wanted = () => ticket.isWanted && !this.isGone;
-    const settle = this.#guarded((line) => (codeOf(line) === NO_DOCUMENT ? this.#lookAgain(slot, store, line) : this.#answer(slot, line)));
+    const settle = this.#guarded((line) => {
+      if (codeOf(line) === NO_DOCUMENT) return this.#lookAgain(slot, store, line);
+      if (line !== TOO_LONG) return this.#answer(slot, line);
+      if (slot.reply !== undefined) return;
+      Object.assign(slot, { isLong: true, isSent: false });
+      this.#pump();
+    });
     const own = this.#own.get(doc) ?? 0;
+    if (slot.isLong) return store.pass(message, own, this.user.id, this.#takerOf(slot, wanted, settle));
     if (message.do === "fetch") return store.fetch(message, rev === undefined ? own : 0, settle, wanted, this.asker);
     if (message.do === "since") return store.since(doc, rev, settle, wanted, this.asker, own);
     const subscription = new Subscription(doc, rev, this.#guarded((it) => this.#followed.get(doc)?.subscription === it && this.#tell(doc) && this.#flush()));
@@ -657,6 +677,31 @@ export class Browser {
       }
       settle(line);
     }), wanted, this.asker);
+  }
+
+  // Takes the pieces of a long document. Nothing else is given until its end.
+  #takerOf(slot, wanted, settle) {
+    return {
+      wanted,
+      isBehind: () => this.#hasMuch,
+      tooSlow: this.#guarded(() => this.close(CODE.later, "too slow for a document that is so long")),
+      take: this.#guarded((bytes) => {
+        this.#passing = slot;
+        this.#put(bytes);
+        this.#flush();
+      }),
+      settle: this.#guarded((line) => {
+        if (this.#passing !== slot) return line !== null && settle(line);
+        if (line === null) return this.close(CODE.ends, "the store's session was cut");
+        this.#passing = undefined;
+        this.#put(line);
+        for (const held of this.#behind.splice(0)) this.#give(held);
+        slot.isPassed = true;
+        this.#answer(slot, EMPTY);
+        for (const doc of [...this.#followed.keys()]) this.#tell(doc);
+        this.#flush();
+      }),
+    };
   }
 
   // A document may have another place by now than the one that was asked.
@@ -687,10 +732,10 @@ export class Browser {
   #deliver() {
     const before = this.#slots.length;
     while (!this.isGone && this.#slots[0]?.reply !== undefined) {
-      const { kind, message, reply, followed, bytes = 0, isRoom } = this.#slots.shift();
+      const { kind, message, reply, followed, bytes = 0, isRoom, isPassed = false } = this.#slots.shift();
       this.#slotBytes -= bytes;
       const code = codeOf(reply);
-      if (reply.length > LARGE_REPLY) this.#readsAtOnce = 1;
+      if (reply.length > LARGE_REPLY || isPassed) this.#readsAtOnce = 1;
       if (message?.do === "unsubscribe" && code === 0) this.#unfollow(message.doc);
       this.#give(reply);
       this.#gateway.metrics.refused(code);
@@ -722,7 +767,7 @@ export class Browser {
   // Tells the news of a document. It waits while a message of it has no reply; what stands up to an own change that was answered may go.
   #tell(doc) {
     const followed = this.#followed.get(doc);
-    if (followed === undefined || this.isGone) return false;
+    if (followed === undefined || this.isGone || this.#passing !== undefined) return false; // it is told behind what is passed on
     const { subscription, news } = followed;
     const last = this.#open.has(doc) ? (this.#own.get(doc) ?? 0) : Infinity;
     const { backlog } = subscription;
@@ -747,7 +792,7 @@ export class Browser {
   }
 
   #isBehind() {
-    return this.#socket.bufferedAmount + this.#outBytes > MOST_BUFFERED;
+    return this.#passing !== undefined || this.#socket.bufferedAmount + this.#outBytes > MOST_BUFFERED;
   }
 
   #giveNews(subscription, line) {
@@ -766,6 +811,11 @@ export class Browser {
   }
 
   #give(line) {
+    if (this.#passing === undefined) this.#put(line);
+    else this.#behind.push(line);
+  }
+
+  #put(line) {
     this.#out.push(line);
     this.#outBytes += line.length;
     this.#givenBytes += line.length;

@@ -16,6 +16,7 @@ const COUNTED = [
   ["pages_refused_total", [{}]],
   ["rights_ended_total", [{}]],
   ["swept_total", [{}]],
+  ["passed_total", [{}]],
   ["slowed_total", OVER.map((limit) => ({ limit }))],
   ["over_total", [...OVER, "addressSessions", "addressUnsigned"].map((limit) => ({ limit }))],
   ["creations_refused_total", ["all", "hour"].map((limit) => ({ limit }))],
