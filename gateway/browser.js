@@ -245,7 +245,7 @@ export class Browser {
       if ((only ?? doc) !== doc) continue;
       if (!this.#judgedAt.has(doc)) this.#judgedAt.set(doc, performance.now());
       if (this.#judgedAt.get(doc) > before) continue;
-      this.#judgedAt.set(doc, Infinity); // until it is known
+      this.#judgedAt.set(doc, performance.now() + PATIENCE); // until it is known; where no answer comes it is asked again
       this.#gateway.mayRead(this.#given, doc).then(this.#guarded((may) => {
         this.#judgedAt.set(doc, performance.now());
         if (!may && !this.isGone) this.#endDocument(doc);
@@ -527,7 +527,8 @@ export class Browser {
     }
     this.#written.add(message.doc);
     const lease = kind === "lease" ? store.leases.reserve(message.doc, this.#holder) : store.leases.lend(message.doc, this.#holder, slot.isNew);
-    if (lease instanceof Promise) return this.#find(slot, lease, (found) => (found === undefined ? this.#waitForName(slot, store) : this.#lent(slot, store, found)));
+    const onLease = (found) => (found === undefined ? this.#waitForName(slot, store) : this.#lent(slot, store, found));
+    if (lease instanceof Promise) return this.#find(slot, lease, onLease);
     if (lease === undefined) return this.#waitForName(slot, store);
     const { places } = this.#gateway;
     if (message.do === "create" && places.isOpen(message.doc)) {
@@ -644,7 +645,8 @@ export class Browser {
     if (listing === undefined) uncount();
     else listing.then(uncount, uncount);
     if (result !== "refused" && base !== PROBE) this.#gateway.taken(this.#given, slot.message, revOf(line), result === "again");
-    if (this.isGone) return code === FULL_STORE && isCreation ? void this.#gateway.places.undo(doc).catch(() => {}) : undefined;
+    if (this.isGone && code === FULL_STORE && isCreation) this.#gateway.places.undo(doc).catch(() => {});
+    if (this.isGone) return;
     if (code === FULL_STORE && isCreation) return this.#sendElsewhere(slot, store, line, this.#gateway.places.move(doc, store.name));
     if (code === NO_DOCUMENT) return this.#lookAgain(slot, store, line);
     if (listing !== undefined) return this.#find(slot, listing, () => (slot.reply ??= line)); // where it can't be listed it is sent again

@@ -197,7 +197,8 @@ export class Gateway {
     if (before !== undefined) return before.address;
     const { limits } = this.#settings;
     const address = this.#addresses.get(from) ?? new Address(limits);
-    const over = address.connections >= limits.addressSessions ? "addressSessions" : address.unsigned >= limits.addressUnsigned ? "addressUnsigned" : undefined;
+    const counts = { addressSessions: address.connections, addressUnsigned: address.unsigned };
+    const over = Object.keys(counts).find((limit) => counts[limit] >= limits[limit]);
     if (over !== undefined) {
       this.metrics.count("over_total", { limit: over });
       this.log("an address has too many connections", { address: from, limit: over });

@@ -26,7 +26,10 @@ export class Lease {
     Object.assign(this, { name, epoch, used, isOwn, seen: used });
   }
 
-  /** Whether its numbers are all unused still, and its holder doesn't count on it: he knows nothing of it, or the document is nowhere. @param {boolean} isNowhere */
+  /**
+   * Whether its numbers are all unused still, and its holder doesn't count on it: he knows nothing of it, or the document is nowhere.
+   * @param {boolean} isNowhere
+   */
   isUnused(isNowhere) {
     return this.epoch === 1 && this.next === 1 && this.onWay === 0 && (isNowhere || !this.isTold);
   }

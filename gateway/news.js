@@ -48,7 +48,8 @@ export class News {
   /**
    * @param {{ host: string, port: number }} address
    * @param {string} source
-   * @param {(doc: string, rev: number, settle: (line: Buffer) => void, wanted: () => boolean, asker: import("./store.js").Asker) => void} since  asks what came after a revision
+   * @param {(doc: string, rev: number, settle: (line: Buffer) => void, wanted: () => boolean, asker: import("./store.js").Asker) => void} since  asks
+   *     what came after a revision
    * @param {{ onCut?: () => void, onLag?: (milliseconds: number) => void, onGarbage?: (what: string) => void, onFault?: (error: Error) => void,
    *   onLong?: (doc: string) => void, mostNews?: number, kept?: Kept }} listener  `mostNews` bytes of a line; whoever follows the document fetches where it has more
    */
