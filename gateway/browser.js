@@ -619,7 +619,7 @@ export class Browser {
     if (line === undefined) {
       this.#uncount(slot, false);
       lease.settle(n, "refused");
-      if (what === "create") store.leases.release(doc, this.#holder, lease, true);
+      if (what === "create") store.leases.release(doc, this.#holder, lease, slot.isNew === true);
       return;
     }
     if (line === null) {
@@ -634,7 +634,8 @@ export class Browser {
     metrics.commands[result] += 1;
     lease.settle(n, UNKNOWN.includes(code) ? "cut" : result);
     const releases = (isCreation && NOT_MADE.includes(code)) || code === NO_DOCUMENT;
-    if (releases) store.leases.release(doc, this.#holder, lease, code !== EXISTS && code !== FULL_STORE);
+    const isNowhere = code === NO_DOCUMENT || (slot.isNew === true && code !== EXISTS && code !== FULL_STORE);
+    if (releases) store.leases.release(doc, this.#holder, lease, isNowhere);
     const isOthers = result === "again" && isCreation && n === 1 && lease.epoch > 1 && !lease.isOwn;
     if (result === "taken") {
       store.leases.own(doc, this.#holder, lease);

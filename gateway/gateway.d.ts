@@ -129,7 +129,7 @@ export interface Health {
 }
 
 export interface Gateway {
-  /** For the event "connection" of an HTTP server: connections that nobody has signed in are limited, too. */
+  /** For the event "connection" of an HTTP server, "secureConnection" of one with TLS: connections that nobody has signed in are limited, too. */
   handleConnection(socket: any): void;
   /** For the event "upgrade" of an HTTP server. */
   handleUpgrade(request: Request, socket: any, head: any): Promise<void>;

@@ -16,7 +16,7 @@ export const LIMITS = {
 };
 // The defaults where all are one user, but for names, of which he has all.
 const OF_ALL = {
-  userMessages: 20_000, userBytes: 64 * MIB, userOverhead: MIB, userReading: 1_000,
+  userMessages: 20_000, userBytes: 64 * MIB, userOverhead: MIB, userReading: 2 ** 31,
   userDocuments: 2 ** 31, userCreations: 2 ** 31, userCreationsHour: 2 ** 31,
 };
 export const HOOKS = ["authorize", "can", "onCommand", "onTaken"];

@@ -2,7 +2,7 @@
 
 const HOUR = 3_600; // seconds
 const PIECES = 1 << 17; // bytes: a line may come in pieces, which count until it is whole
-const READING = 5_000; // milliseconds of a session's time that reads may take at once, as where a browser begins to follow many documents
+const READING = { user: 5_000, address: 60_000 }; // milliseconds of a session's time that reads may take at once, as where all begin to follow again
 const GAP = 1_000; // milliseconds; who isn't held again within them has kept to his limits
 export const MOST_OWED = 10; // seconds that a session isn't read; where it would be more it is closed
 const MOST_NAME = 64; // characters of a name that others see
@@ -80,7 +80,7 @@ export class Account {
     this.messages = new Allowance(limits[`${of}Messages`], undefined, now);
     this.bytes = new Allowance(limits[`${of}Bytes`], undefined, now);
     this.overhead = new Allowance(limits[`${of}Overhead`], limits[`${of}Overhead`] + PIECES, now);
-    this.reading = new Allowance(limits[`${of}Reading`], READING, now);
+    this.reading = new Allowance(limits[`${of}Reading`], READING[of], now);
     this.mostDocuments = limits[`${of}Documents`];
   }
 

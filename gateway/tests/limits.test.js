@@ -13,7 +13,8 @@ const NEVER = 1_000_000_000; // milliseconds: who reads nothing isn't cut off fo
 
 async function begun(t, settings) {
   const store = await FakeStore.begin(t);
-  return { store, ...(await gatewayFor(t, { stores: [{ name: "s1", ...store.address }], authorize: ({ headers }) => headers["x-user"], ...settings })) };
+  const served = await gatewayFor(t, { stores: [{ name: "s1", ...store.address }], authorize: ({ headers }) => headers["x-user"], ...settings });
+  return { store, ...served };
 }
 
 const as = (user) => ({ headers: { "x-user": user } });
@@ -220,27 +221,51 @@ test("who is held again and again is closed, who keeps to the limit for a while 
   assert.deepEqual(account.hold(1), { isFirst: false, greedy: other });
 });
 
-test("reads of older revisions take a share of a session's time, by user and by address, and others' go on", async (t) => {
-  for (const limit of ["userReading", "addressReading"]) {
-    const it = await begun(t, { address: { header: "x-real-ip" }, limits: { [limit]: 1, heldSeconds: 1 } });
-    const from = (user, address) => ({ headers: { "x-user": user, "x-real-ip": address } });
-    const [eve, bob] = [await Talk.begin(t, it.url, "e", from("eve", "10.0.0.1")), await Talk.begin(t, it.url, "b", from("bob", "10.0.0.2"))];
-    eve.send({ do: "fetch", doc: "d", rev: 1 });
-    const { reply } = await it.store.next();
-    await pause(5_100); // the store takes so long for it, and that is more than may be taken at once
-    reply(document("d", 1));
-    await until(() => eve.replies.length === 2);
-    eve.send({ do: "fetch", doc: "d", rev: 1 });
-    await until(() => counted(it, `slowed_total\\{limit="${limit}"\\}`) === 1);
-    bob.send({ do: "fetch", doc: "b", rev: 1 });
-    const { message, reply: give } = await it.store.next();
-    assert.equal(message.doc, "b");
-    give(document("b", 1));
-    await until(() => bob.replies.length === 2);
-    assert.equal(await eve.closed(), 4429);
+test("whose reads of older revisions take more than their share of a session's time is read later, then closed, and others' go on", async (t) => {
+  const it = await begun(t, { limits: { userReading: 1, heldSeconds: 1 } });
+  const [eve, bob] = [await Talk.begin(t, it.url, "e", as("eve")), await Talk.begin(t, it.url, "b", as("bob"))];
+  eve.send({ do: "fetch", doc: "d", rev: 1 });
+  const { reply } = await it.store.next();
+  await pause(5_100); // the store takes so long for it, and that is more than may be taken at once
+  reply(document("d", 1));
+  await until(() => eve.replies.length === 2);
+  eve.send({ do: "fetch", doc: "d", rev: 1 });
+  await until(() => counted(it, 'slowed_total\\{limit="userReading"\\}') === 1);
+  bob.send({ do: "fetch", doc: "b", rev: 1 });
+  const { message, reply: give } = await it.store.next();
+  assert.equal(message.doc, "b");
+  give(document("b", 1));
+  await until(() => bob.replies.length === 2);
+  assert.equal(await eve.closed(), 4429);
+  assert.deepEqual([it.store.asked.length, bob.code], [0, null]);
+});
+
+test("the time of a read is its user's and his address's, and they wait for what they owe", async (t) => {
+  const it = await begun(t);
+  const store = it.gateway.stores.get("s1");
+  const held = [];
+  const accounts = ["user", "address"].map((of) => new Account(/** @type {any} */ (of), { ...LIMITS, userReading: 1, addressReading: 1 }));
+  const read = (doc, its) => store.fetch({ do: "fetch", doc, rev: 1 }, 0, () => {}, () => true, { user: doc, accounts: its, hold: (account, limit) => held.push(account.nameOf(limit)) });
+  await until(() => store.isOpen && store.open.reader === 2);
+  for (const { reading } of accounts) reading.take(100_000); // more than may be at once
+  const before = accounts.map(({ reading }) => reading.owed);
+  for (const { reading } of accounts) reading.take(-1_000 * before[1] - 1_000);
+  assert.deepEqual(accounts.map(({ reading }) => reading.owed), [0, 0]);
+  read("d", accounts);
+  const { reply } = await it.store.next();
+  await pause(200);
+  reply(document("d", 1));
+  for (const [index, of] of ["user", "address"].entries()) {
+    const { reading } = accounts[index];
+    reading.take(200_000);
+    const [owes] = [accounts[index]];
+    read("e", [owes]);
+    await until(() => held.includes(`${of}Reading`));
     assert.equal(it.store.asked.length, 0);
-    assert.equal(bob.code, null);
-    await it.close();
+    read("f", []);
+    (await it.store.next(({ doc }) => doc === "f")).reply(document("f", 1));
+    reading.take(-1_000_000);
+    (await it.store.next(({ doc }) => doc === "e")).reply(document("e", 1));
   }
 });
 
