@@ -310,7 +310,7 @@ export class Browser {
     if (this.isGone) return;
     this.sent += PIECE;
     for (const { overhead } of this.#accounts) overhead.take(PIECE);
-    if (this.#accounts.some(({ owesMuch }) => owesMuch)) this.#settleDebt();
+    if (this.user.owesMuch) this.closeAsOver(this.user.nameOf(this.user.debt.limit)); // at once: many come together
   }
 
   // Whose user or address owes isn't read until that is over. Where it takes too long it is closed, or who sends most from that address.
