@@ -355,11 +355,15 @@ export class Browser {
     if (!bytes.includes(10)) this.#charge();
     if (this.isGone) return;
     const isWhole = bytes.includes(10) || this.#unread.length + this.#pieceBytes > MOST_LINE;
-    if (!isWhole && this.#pieces.length < MOST_PIECES) return;
-    this.#unread = this.#unread.length === 0 && this.#pieces.length === 1 ? bytes : Buffer.concat([this.#unread, ...this.#pieces]);
+    if (this.#pieces.length >= MOST_PIECES) this.#gather();
+    if (isWhole && !this.#socket.isPaused) this.#pump(); // while it is paused the rest of what was read before comes still
+  }
+
+  #gather() {
+    if (this.#pieces.length === 0) return;
+    this.#unread = this.#unread.length === 0 && this.#pieces.length === 1 ? this.#pieces[0] : Buffer.concat([this.#unread, ...this.#pieces]);
     this.#pieces = [];
     this.#pieceBytes = 0;
-    if (isWhole) this.#pump();
   }
 
   // Reads lines, sends what may be sent, gives the replies whose turn it is, until none of it does anything.
@@ -387,6 +391,7 @@ export class Browser {
   });
 
   #readLines() {
+    this.#gather();
     while (!this.isGone && !this.#isEnding && this.#slots.length < MOST_WAITING) {
       const at = this.#unread.indexOf(10);
       if (at === -1) break;

@@ -156,7 +156,7 @@ test("a long document isn't older than what its browser has changed", async (t) 
   await until(() => ann.replies.length === 2);
   ann.send(FETCH);
   (await store.next()).reply(document(MIB, 2));
-  await pause(100);
+  await pause(50);
   assert.equal(store.asked.length, 0, "its revision isn't there yet");
   store.newest = 2;
   const since = await asked();
