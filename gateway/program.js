@@ -74,10 +74,11 @@ async function serve(file) {
   const log = (event) => console.error(JSON.stringify(event));
   const gateway = await createGateway({ ...others, ...hooks, log, hidesMetrics: watched !== undefined });
 
-  const server = http.createServer((request, response) => {
+  const server = http.createServer({ connectionsCheckingInterval: PATIENCE / 10 }, (request, response) => {
     if (!gateway.handleRequest(request, response)) response.writeHead(404).end("no such page\n");
   });
   server.headersTimeout = server.requestTimeout = PATIENCE;
+  server.on("connection", (socket) => gateway.handleConnection(socket));
   server.on("upgrade", (request, socket, head) => gateway.handleUpgrade(request, socket, head));
   console.log(`listening ${await listening(server, address)}`);
   const watching = http.createServer((request, response) => {

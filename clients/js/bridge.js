@@ -96,6 +96,7 @@ export async function startBridge({ host, port, listenHost = "127.0.0.1", listen
       response.writeHead(404).end("no such page\n");
     }
   });
+  server.on("connection", (socket) => gateway.handleConnection(socket));
   server.on("upgrade", (request, socket, head) => gateway.handleUpgrade(request, socket, head));
 
   await new Promise((resolve, reject) => {
