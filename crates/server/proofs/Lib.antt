@@ -1,3 +1,4 @@
 mod Fronts
 mod Dumps
 mod Worked
+mod Serving

@@ -1,9 +1,12 @@
 //! The program over its words and its standard streams.
-ghost use Rattle.std.specs.Prelude.{◌≡◌, ◌⊎◌, ◌≤◌, OnOk, OnErr, IfOk};
+ghost use Rattle.std.specs.Prelude.{◌≡◌, ◌⊎◌, ◌≤◌, [], Ok, OnOk, OnErr, IfOk};
 ghost use Rattle.disk.specs.Crash.{history_of};
 ghost use Rattle.disk.specs.Device.{IsSync, IsAtMostOneStep};
 ghost use Rattle.inspection.specs.Matching.{IsSyncedTwice};
-ghost use Rattle.server.specs.Calls.{Asks, Keeps, AreHad, AreKept, IsHad, IsKept, IsClosed, IsRead, WasRead, IsUnwritten, IsServed, ServesBy};
+ghost use Rattle.sockets.specs.Host.{arrivals_of};
+ghost use Rattle.server.specs.Calls as spec;
+ghost use Rattle.server.specs.Calls.{Asks, Keeps, AreHad, AreKept, IsHad, IsKept, IsRead, WasRead, IsUnwritten, IsAny, IsFilled, IsFilledOrMissed, IsListenedFor, IsServedAt, IsServedWell, ServesBy, ServedBy};
+ghost use Rattle.server.specs.Devices.{between, AreGiven, IsOpenedAnew, IsFormatted, WasStreamed};
 
 use crate::calls::{Calls, HostCalls};
 use crate::deltas::print_answer;
@@ -12,6 +15,7 @@ use crate::ended::{LISTENING, ProgramEnd, tell};
 use crate::events::{OpenedStore, milliseconds};
 use crate::files::{disk_for, file_there, make_file, make_for, open_file, open_store, without};
 use crate::inspected::{Printed, check_file, tell_of_store};
+use crate::patient::Ends;
 use crate::standard::NULL_DEVICE;
 use crate::watching::{Alone, OperatorWatch};
 use clap::error::ErrorKind;
@@ -19,10 +23,10 @@ use disk::{Disk, FileDisk, Tried};
 use migration::{Copied, Numbered, Old, has_room_for, shape_of};
 use recovery::{Pick, Shape, Store};
 use refusal::Refusal;
-use server_threads::{serve_on, serve_streams};
-use serving::InputStream;
+use server_threads::{Connected, Streamed, serve_on, serve_streams};
+use serving::{InputStream, ServingError};
 use session::Stream;
-use sockets::Addresses;
+use sockets::{Addresses, HostListener};
 use std::alloc::Global;
 use std::convert::AsStr;
 use std::env::Env;
@@ -43,7 +47,7 @@ use words::{DeltaCommand, Invocation, Lines, Listening, Making, ShapeOptions, gi
 pub fn run<
     R: Files<File = File> + AllocGlobal + Addresses + Threads + Wait + Clock + Sync,
     S: AsStr,
-    I: Read,
+    I: Read + Ends + Send,
     O: Write + Send,
     E: Write + Send,
 >(rt: &R, words: &[S], input: &mut I, output: &mut O, errors: &mut E) -> u8
@@ -51,13 +55,14 @@ pub fn run<
 {
     let parsed = Invocation::parse(rt.alloc(), words);
     let mut calls = HostCalls::new(rt);
-    run_on(rt, &mut calls, parsed, input, output, errors)
+    let (_, status) = run_on(rt, &mut calls, parsed, Streams { input, output }, errors);
+    status
 }
 
 /// Runs the program over the words that the system gives it, as `run` does. Words that aren't UTF-8 can't be used.
 pub fn run_with_args<
     R: Files<File = File> + AllocGlobal + Env + Addresses + Threads + Wait + Clock + Sync,
-    I: Read,
+    I: Read + Ends + Send,
     O: Write + Send,
     E: Write + Send,
 >(rt: &R, input: &mut I, output: &mut O, errors: &mut E) -> u8
@@ -69,45 +74,60 @@ pub fn run_with_args<
     }
 }
 
+// What a command reads and prints. No clause follows a borrow into a value that a generic call gives back, so they go by value, and come back.
+#[derive(Drop)]
+struct Streams<I, O> {
+    input: I,
+    output: O,
+}
+
 // Runs the program over what its words ask for. It asks the system for what that command does, or for nothing, and for nothing where the words
-// can't be used.
+// can't be used. The status is 0 only where the command could be done.
 fn run_on<
     'a,
     R: AllocGlobal + Threads + Wait + Clock + Sync,
     C: Calls,
-    I: Read,
-    O: Write + Send,
+    I: Read + Ends + Send + Drop,
+    O: Write + Send + Drop,
     E: Write + Send,
 >(
     rt: &R,
     calls: &mut C,
     parsed: Result<Invocation<'a>, clap::Error>,
-    input: &mut I,
-    output: &mut O,
+    streams: Streams<I, O>,
     errors: &mut E,
-) -> u8
-    ensures status { result ≤ 2 }
+) -> (Streams<I, O>, u8)
+    ensures status { result.1 ≤ 2 }
     ensures asks { IfOk parsed.entry (λ invocation. (C.made calls.new ≡ C.made calls.old)
-        ⊎ Asks invocation (C.made calls.old) (C.made calls.new)) }
+        ⊎ Asks ⟦<FileDisk as Disk>⟧ invocation (between (I.remaining streams.input)
+        (I.remaining result.0.input) (O.contents streams.output) (O.contents result.0.output)) (C.made calls.old) (C.made calls.new)) }
+    ensures keeps { IfOk parsed.entry (λ invocation. result.1 ≡ 0 → Keeps ⟦<FileDisk as Disk>⟧ invocation
+        (between (I.remaining streams.input) (I.remaining result.0.input) (O.contents streams.output) (O.contents result.0.output))
+        (C.made calls.old) (C.made calls.new)) }
     ensures unusable { OnErr parsed.entry (C.made calls.new ≡ C.made calls.old) }
 {
     let invocation = match parsed {
         Ok(invocation) => invocation,
-        Err(fault) => return show_usage(&fault, output, errors),
+        Err(fault) => {
+            let mut streams = streams;
+            let status = show_usage(&fault, &mut streams.output, errors);
+            return (streams, status);
+        }
     };
     let standard = match calls.complete() {
         Ok(standard) => standard,
         Err(reason) => {
             let ended = without(Tried::Opening, NULL_DEVICE, reason);
-            return tell_end(ended, output, errors);
+            return (streams, tell_end(ended, errors));
         }
     };
-    let status = match invoke(rt, calls, invocation, input, output, errors) {
+    let (streams, done) = invoke(rt, calls, invocation, streams, errors);
+    let status = match done {
         Ok(()) => 0,
-        Err(ended) => tell_end(ended, output, errors),
+        Err(ended) => tell_end(ended, errors),
     };
     drop(standard);
-    status
+    (streams, status)
 }
 
 // Does what the words ask for. It asks the system for those files and that address alone which they name, in this order.
@@ -115,33 +135,33 @@ fn invoke<
     'a,
     R: AllocGlobal + Threads + Wait + Clock + Sync,
     C: Calls,
-    I: Read,
-    O: Write + Send,
+    I: Read + Ends + Send + Drop,
+    O: Write + Send + Drop,
     E: Write + Send,
 >(
     rt: &R,
     calls: &mut C,
     invocation: Invocation<'a>,
-    input: &mut I,
-    output: &mut O,
+    streams: Streams<I, O>,
     errors: &mut E,
-) -> Result<(), ProgramEnd<'a>>
-    ensures asks { Asks invocation.entry (C.made calls.old) (C.made calls.new) }
-    ensures keeps { OnOk result (Keeps invocation.entry (C.made calls.old) (C.made calls.new)) }
+) -> (Streams<I, O>, Result<(), ProgramEnd<'a>>)
+    ensures asks { Asks ⟦<FileDisk as Disk>⟧ invocation.entry (between (I.remaining streams.input)
+        (I.remaining result.0.input) (O.contents streams.output) (O.contents result.0.output)) (C.made calls.old) (C.made calls.new) }
+    ensures keeps { OnOk result.1 (Keeps ⟦<FileDisk as Disk>⟧ invocation.entry (between (I.remaining streams.input)
+        (I.remaining result.0.input) (O.contents streams.output) (O.contents result.0.output))
+        (C.made calls.old) (C.made calls.new)) }
 {
     let alloc = rt.alloc();
+    let mut streams = streams;
     match invocation {
         Invocation::Format {
             path,
             shape,
             reserve,
-        } => format_file(
-            alloc,
-            calls,
-            path,
-            with_numbers(shape, Shape::DEFAULT),
-            reserve,
-        ),
+        } => {
+            let done = format_file(alloc, calls, path, shape, reserve);
+            (streams, done)
+        }
         Invocation::Serve {
             path,
             listening,
@@ -149,18 +169,32 @@ fn invoke<
             older,
         } => {
             let pick = pick_of(older);
-            serve(
-                rt, calls, path, listening, every, pick, input, output, errors,
-            )
+            serve(rt, calls, path, listening, every, pick, streams, errors)
         }
-        Invocation::Dump { path, older } => dump_file(alloc, calls, path, older, output),
-        Invocation::Info { path, documents } => tell_of_store(
-            alloc, calls, path, documents, output,
-        ),
-        Invocation::Check { path } => check_file(alloc, calls, path, output),
-        Invocation::Migrate { old, new } => migrate(alloc, calls, old, new),
-        Invocation::Copy { old, new, shape } => copy(alloc, calls, old, new, shape),
-        Invocation::Delta(command) => make_by(alloc, command, input, output),
+        Invocation::Dump { path, older } => {
+            let done = dump_file(alloc, calls, path, older, &mut streams.output);
+            (streams, done)
+        }
+        Invocation::Info { path, documents } => {
+            let done = tell_of_store(alloc, calls, path, documents, &mut streams.output);
+            (streams, done)
+        }
+        Invocation::Check { path } => {
+            let done = check_file(alloc, calls, path, &mut streams.output);
+            (streams, done)
+        }
+        Invocation::Migrate { old, new } => {
+            let done = migrate(alloc, calls, old, new);
+            (streams, done)
+        }
+        Invocation::Copy { old, new, shape } => {
+            let done = copy(alloc, calls, old, new, shape);
+            (streams, done)
+        }
+        Invocation::Delta(command) => {
+            let done = make_by(alloc, command, &mut streams.input, &mut streams.output);
+            (streams, done)
+        }
     }
 }
 
@@ -218,21 +252,29 @@ fn dump_file<'a, C: Calls, O: Write>(
     dump_store(alloc, disk, pick_of(older), &mut stream).ended(calls, path)
 }
 
-// Makes a store of this shape in a file. Where that is made and room is to be reserved, it is written whole before.
+// Makes a store in a file, with the numbers that the words give. Where the file is made and room is to be reserved, it is written whole before.
 fn format_file<'a, C: Calls>(
     alloc: Global,
     calls: &mut C,
     path: &'a str,
-    shape: Shape,
+    given: ShapeOptions,
     reserve: bool,
 ) -> Result<(), ProgramEnd<'a>>
-    ensures had { IsHad path.now (C.made calls.old) (C.made calls.new) }
-    ensures kept { OnOk result (IsKept path.now (C.made calls.old) (C.made calls.new)) }
+    ensures had { IsFilledOrMissed IsAny path.now (C.made calls.old) (C.made calls.new) }
+    ensures kept { OnOk result (IsFilled (IsFormatted given) path.now (C.made calls.old) (C.made calls.new)) }
 {
+    let shape = with_numbers(given, Shape::DEFAULT);
     let mut disk = disk_for(calls, path, shape, reserve)?;
     match recovery::format_device(alloc, &mut disk, shape) {
-        Ok(()) => Ok(()),
-        Err(refusal) => Err(ProgramEnd::over(path, &disk, refusal)),
+        Ok(()) => {
+            calls.close(path, disk);
+            Ok(())
+        }
+        Err(refusal) => {
+            let ended = ProgramEnd::over(path, &disk, refusal);
+            calls.close(path, disk);
+            Err(ended)
+        }
     }
 }
 
@@ -372,7 +414,9 @@ fn copy_from<'a, C: Calls>(
 }
 
 // The numbers that the words leave out are the other ones.
-fn with_numbers(given: ShapeOptions, others: Shape) -> Shape {
+fn with_numbers(given: ShapeOptions, others: Shape) -> Shape
+    ensures { AreGiven given result }
+{
     Shape {
         slots: given.slots.unwrap_or(others.slots),
         slot: given.slot.unwrap_or(others.slot),
@@ -384,7 +428,9 @@ fn with_numbers(given: ShapeOptions, others: Shape) -> Shape {
 }
 
 // Which milestone of a document its reading begins with.
-fn pick_of(older: bool) -> Pick {
+fn pick_of(older: bool) -> Pick
+    ensures { result ≡ spec.pick_of older }
+{
     if older { Pick::Older } else { Pick::Newer }
 }
 
@@ -393,8 +439,8 @@ fn serve<
     'a,
     R: AllocGlobal + Threads + Wait + Clock + Sync,
     C: Calls,
-    I: Read,
-    O: Write + Send,
+    I: Read + Ends + Send + Drop,
+    O: Write + Send + Drop,
     E: Write + Send,
 >(
     rt: &R,
@@ -403,44 +449,83 @@ fn serve<
     listening: Option<Listening<'a>>,
     every: u32,
     pick: Pick,
-    input: &mut I,
-    output: &mut O,
+    streams: Streams<I, O>,
     errors: &mut E,
-) -> Result<(), ProgramEnd<'a>>
-    ensures { ServesBy path.now listening.entry (C.made calls.old) (C.made calls.new) }
+) -> (Streams<I, O>, Result<(), ProgramEnd<'a>>)
+    ensures serves { ServesBy ⟦<FileDisk as Disk>⟧ pick (between (I.remaining streams.input) (I.remaining result.0.input)
+        (O.contents streams.output) (O.contents result.0.output)) path.now listening.entry (C.made calls.old) (C.made calls.new) }
+    ensures served { OnOk result.1 (ServedBy ⟦<FileDisk as Disk>⟧ pick (between (I.remaining streams.input) (I.remaining result.0.input)
+        (O.contents streams.output) (O.contents result.0.output))
+        path.now listening.entry (C.made calls.old) (C.made calls.new)) }
 {
     match listening {
-        Some(how) => listen(rt, calls, path, how, every, pick, output, errors),
+        Some(how) => {
+            let mut streams = streams;
+            let ended = listen(rt, calls, path, how, every, pick, &mut streams, errors);
+            (streams, ended)
+        }
         None => {
-            let store = open_store(rt.alloc(), calls, path, pick)?;
-            serve_alone(rt, store, path, every, input, output, errors)
+            let store = match open_store(rt.alloc(), calls, path, pick) {
+                Ok(store) => store,
+                Err(ended) => return (streams, Err(ended)),
+            };
+            let (store, (streams, answer)) = serve_alone(rt, store, path, every, streams, errors);
+            calls.close(path, store.close());
+            (streams, as_ended(answer))
         }
     }
 }
 
+// How the program ends, where serving over the streams did so.
+fn as_ended<'a>(answer: Result<(), ServingError>) -> Result<(), ProgramEnd<'a>>
+    ensures { OnOk result (answer ≡ Ok tt) }
+{
+    Ok(answer?)
+}
+
 // Serves one session over the streams, beside a thread that writes.
-fn serve_alone<'a, R: AllocGlobal + Threads + Wait + Sync, I: Read, O: Write, E: Write + Send>(
+fn serve_alone<
+    R: AllocGlobal + Threads + Wait + Sync,
+    I: Read + Drop,
+    O: Write + Drop,
+    E: Write + Send,
+>(
     rt: &R,
     store: Store<FileDisk>,
-    path: &'a str,
+    path: &str,
     every: u32,
-    input: &mut I,
-    output: &mut O,
+    streams: Streams<I, O>,
     errors: &mut E,
-) -> Result<(), ProgramEnd<'a>> {
+) -> (Store<FileDisk>, (Streams<I, O>, Result<(), ServingError>))
+    ensures { WasStreamed ⟦<FileDisk as Disk>⟧ (between (I.remaining streams.input) (I.remaining result.1.0.input)
+        (O.contents streams.output) (O.contents result.1.0.output)) result.1.1 store result.0 }
+{
     let watch = Alone::new(rt, path, errors);
+    let Streams { input, output } = streams;
     let input = InputStream::new(input);
     let output = Stream::new(output);
     let streamed = serve_streams(rt, rt.alloc(), store, input, output, every, &watch);
-    Ok(streamed.served?)
+    let Streamed {
+        store,
+        input,
+        output,
+        served,
+    } = streamed;
+    let streams = Streams {
+        input: input.into_reader(),
+        output: output.into_writer(),
+    };
+    (store, (streams, served))
 }
 
 // Serves a store to those who connect to an address, and tells where it listens once somebody can be served. It ends where the listener
-// can't work any more, and where that is asked for once the store has failed. An address that can't be had is a fault.
+// can't work any more, where that is asked for once the store has failed, and, where that is asked for, at the end of the input: well, if all
+// was served well. An address that can't be had is a fault.
 fn listen<
     'a,
     R: AllocGlobal + Threads + Wait + Clock + Sync,
     C: Calls,
+    I: Ends + Send,
     O: Write + Send,
     E: Write + Send,
 >(
@@ -450,26 +535,68 @@ fn listen<
     how: Listening<'a>,
     every: u32,
     pick: Pick,
-    output: &mut O,
+    streams: &mut Streams<I, O>,
     errors: &mut E,
 ) -> Result<(), ProgramEnd<'a>>
-    ensures { IsServed path.now how.entry.address.now (C.made calls.old) (C.made calls.new) }
+    ensures serves { IsListenedFor ⟦<FileDisk as Disk>⟧ pick path.now how.entry.address.now (C.made calls.old) (C.made calls.new) }
+    ensures served { OnOk result (IsServedWell ⟦<FileDisk as Disk>⟧ pick path.now how.entry.address.now (C.made calls.old) (C.made calls.new)) }
 {
     let before = milliseconds(rt.monotonic());
     let store = open_store(rt.alloc(), calls, path, pick)?;
     let took = milliseconds(rt.monotonic()).saturating_sub(before);
     let (listener, bound) = match calls.listen(how.address) {
         Ok(found) => found,
-        Err(reason) => return Err(ProgramEnd::fault(LISTENING, how.address, reason)),
+        Err(reason) => {
+            calls.close(path, store.close());
+            return Err(ProgramEnd::fault(LISTENING, how.address, reason));
+        }
     };
     let opened = OpenedStore::of(&store, took);
-    let watch = OperatorWatch::new(rt, path, bound, how, opened, output, errors);
-    let connected = serve_on(rt, rt.alloc(), store, listener, every, how.idle, &watch);
-    Err(watch.ended(how, connected.served))
+    let Streams { input, output } = streams;
+    let watch = OperatorWatch::new(rt, path, bound, how, opened, input, output, errors);
+    let served = serve_at(rt, calls, path, how, every, pick, store, listener, &watch);
+    watch.ended(how, served)
 }
 
-fn tell_end<O: Write, E: Write>(ended: ProgramEnd<'_>, output: &mut O, errors: &mut E) -> u8
-    ensures { result ≤ 2 }
+// Serves a store that was opened to those who come by a listener, and closes the listener and the file then.
+fn serve_at<
+    'a,
+    R: AllocGlobal + Threads + Wait + Clock + Sync,
+    C: Calls,
+    I: Ends + Send,
+    O: Write + Send,
+    E: Write + Send,
+>(
+    rt: &R,
+    calls: &mut C,
+    path: &'a str,
+    how: Listening<'a>,
+    every: u32,
+    pick: Pick,
+    store: Store<FileDisk>,
+    listener: HostListener,
+    watch: &OperatorWatch<'a, R, I, O, E>,
+) -> Result<(), Refusal>
+    requires from { IsOpenedAnew ⟦<FileDisk as Disk>⟧ pick store }
+    requires nobody { arrivals_of listener ≡ [] }
+    ensures { IsServedAt ⟦<FileDisk as Disk>⟧ pick path.now how.entry.address.now result (C.made calls.old) (C.made calls.new) }
+{
+    let connected = serve_on(rt, rt.alloc(), store, listener, every, how.idle, watch);
+    let Connected {
+        store,
+        listener,
+        attendance: _attendance,
+        served,
+    } = connected;
+    calls.leave(how.address, listener);
+    let device = store.close();
+    calls.close(path, device);
+    served
+}
+
+fn tell_end<E: Write>(ended: ProgramEnd<'_>, errors: &mut E) -> u8
+    ensures bad { 1 ≤ result }
+    ensures status { result ≤ 2 }
 {
     match ended {
         ProgramEnd::Refused(refusal, cause) => {
@@ -477,23 +604,32 @@ fn tell_end<O: Write, E: Write>(ended: ProgramEnd<'_>, output: &mut O, errors: &
             1
         }
         ProgramEnd::Stream => 1,
-        ProgramEnd::Usage(fault) => show_usage(&fault, output, errors),
+        ProgramEnd::Usage(fault) => show_fault(&fault, errors),
     }
 }
 
 fn show_usage<O: Write, E: Write>(fault: &clap::Error, output: &mut O, errors: &mut E) -> u8
     ensures { result ≤ 2 }
 {
+    if fault.use_stderr() {
+        show_fault(fault, errors)
+    } else if write_out(fault, output) {
+        0
+    } else {
+        1
+    }
+}
+
+// Words that can't be used.
+fn show_fault<E: Write>(fault: &clap::Error, errors: &mut E) -> u8
+    ensures bad { 1 ≤ result }
+    ensures status { result ≤ 2 }
+{
     if fault.kind() == ErrorKind::OutOfMemory {
         tell(Refusal::NoMemory, None, errors);
         return 1;
     }
-    let (shown, status) = if fault.use_stderr() {
-        (write_out(fault, errors), 2)
-    } else {
-        (write_out(fault, output), 0)
-    };
-    if shown { status } else { 1 }
+    if write_out(fault, errors) { 2 } else { 1 }
 }
 
 fn write_out<W: Write>(fault: &clap::Error, stream: &mut W) -> bool {
