@@ -2,3 +2,4 @@ mod Fronts
 mod Dumps
 mod Worked
 mod Serving
+mod Doing

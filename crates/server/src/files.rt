@@ -1,6 +1,6 @@
 //! The files of stores: one is opened, or made, or the program ends with what kept it from that.
 ghost use Rattle.std.specs.Prelude.{◌≡◌, ◌⊎◌, [], ◌∷◌, true, false, Ok, OnOk, OnErr, IfOk, IfSome, IfNone};
-ghost use Rattle.server.specs.Calls.{Found, Missed, Unseen, Opened, FailedOpening, Made, FailedMaking, Removed, IsMade, IsUnmade, IsMissed, IsClosed, IsUnwritten, IsRead, IsHad, IsKept};
+ghost use Rattle.server.specs.Calls.{Found, Missed, Unseen, Opened, FailedOpening, Made, FailedMaking, Removed, IsUnmade, IsMissed, IsClosed, IsUnwritten, IsRead, IsKept};
 ghost use Rattle.server.specs.Devices.{IsOpenedAnew};
 
 use crate::calls::Calls;
@@ -20,7 +20,6 @@ pub(crate) fn disk_for<'a, C: Calls>(
     shape: Shape,
     reserve: bool,
 ) -> Result<FileDisk, ProgramEnd<'a>>
-    ensures had { IsHad path.now (C.made calls.old) (C.made calls.new) }
     ensures kept { OnOk result (IsKept path.now (C.made calls.old) (C.made calls.new)) }
     ensures missed { OnErr result (IsMissed path.now (C.made calls.old) (C.made calls.new)) }
     // A store that is there isn't written to here.
@@ -59,7 +58,6 @@ pub(crate) fn make_for<'a, C: Calls>(
     shape: Shape,
     reserve: bool,
 ) -> Result<FileDisk, ProgramEnd<'a>>
-    ensures made { IsMade path.now (C.made calls.old) (C.made calls.new) }
     ensures kept { OnOk result (C.made calls.new ≡ Made path.now ∷ C.made calls.old) }
     ensures unmade { OnErr result (IsUnmade path.now (C.made calls.old) (C.made calls.new)) }
 {

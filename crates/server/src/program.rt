@@ -1,20 +1,23 @@
 //! The program over its words and its standard streams.
-ghost use Rattle.std.specs.Prelude.{◌≡◌, ◌⊎◌, ◌≤◌, [], Ok, OnOk, OnErr, IfOk};
+ghost use Rattle.std.specs.Prelude.{◌≡◌, ◌⊎◌, ◌≤◌, ◌∷◌, [], Ok, OnOk, OnErr, IfOk, IfSome, IfNone};
 ghost use Rattle.disk.specs.Crash.{history_of};
 ghost use Rattle.disk.specs.Device.{IsSync, IsAtMostOneStep};
+ghost use Rattle.milestone.specs.declared.format.Format.TheVariants.{Two};
+ghost use Rattle.migration.specs.Brought.{IsBrought, IsCopiedFrom};
 ghost use Rattle.inspection.specs.Matching.{IsSyncedTwice};
 ghost use Rattle.sockets.specs.Host.{arrivals_of};
 ghost use Rattle.server.specs.Calls as spec;
-ghost use Rattle.server.specs.Calls.{Asks, Keeps, AreHad, AreKept, IsHad, IsKept, IsRead, WasRead, IsUnwritten, IsAny, IsFilled, IsFilledOrMissed, IsListenedFor, IsServedAt, IsServedWell, ServesBy, ServedBy};
-ghost use Rattle.server.specs.Devices.{between, AreGiven, IsOpenedAnew, IsFormatted, WasStreamed};
+ghost use Rattle.server.specs.Calls.{Found, Opened, Closed, Asks, Keeps, AreHad, AreFilled, IsKept, IsMissed, IsRead, WasRead, ClosesAs, IsFilled};
+ghost use Rattle.server.specs.Calls.{IsFilledOrMissed, IsUnwritten, IsListenedFor, IsServedAt, IsServedWell, ServesBy, ServedBy};
+ghost use Rattle.server.specs.Devices.{between, AreGiven, IsOpenedAnew, WasDone, WasStreamed, IsPrintedOf, dump_text, Spares, IsEmptied, IsMigratedTo, IsCopiedTo};
 
 use crate::calls::{Calls, HostCalls};
 use crate::deltas::print_answer;
 use crate::documents::dump_store;
-use crate::ended::{LISTENING, ProgramEnd, tell};
+use crate::ended::{LISTENING, ProgramEnd, as_ended, brought, tell};
 use crate::events::{OpenedStore, milliseconds};
 use crate::files::{disk_for, file_there, make_file, make_for, open_file, open_store, without};
-use crate::inspected::{Printed, check_file, tell_of_store};
+use crate::inspected::{check_file, tell_of_store};
 use crate::patient::Ends;
 use crate::standard::NULL_DEVICE;
 use crate::watching::{Alone, OperatorWatch};
@@ -152,7 +155,6 @@ fn invoke<
         (C.made calls.old) (C.made calls.new)) }
 {
     let alloc = rt.alloc();
-    let mut streams = streams;
     match invocation {
         Invocation::Format {
             path,
@@ -172,16 +174,19 @@ fn invoke<
             serve(rt, calls, path, listening, every, pick, streams, errors)
         }
         Invocation::Dump { path, older } => {
-            let done = dump_file(alloc, calls, path, older, &mut streams.output);
-            (streams, done)
+            let Streams { input, output } = streams;
+            let (output, done) = dump_file(alloc, calls, path, pick_of(older), output);
+            (Streams { input, output }, done)
         }
         Invocation::Info { path, documents } => {
-            let done = tell_of_store(alloc, calls, path, documents, &mut streams.output);
-            (streams, done)
+            let Streams { input, output } = streams;
+            let (output, done) = tell_of_store(alloc, calls, path, documents, output);
+            (Streams { input, output }, done)
         }
         Invocation::Check { path } => {
-            let done = check_file(alloc, calls, path, &mut streams.output);
-            (streams, done)
+            let Streams { input, output } = streams;
+            let (output, done) = check_file(alloc, calls, path, output);
+            (Streams { input, output }, done)
         }
         Invocation::Migrate { old, new } => {
             let done = migrate(alloc, calls, old, new);
@@ -192,6 +197,7 @@ fn invoke<
             (streams, done)
         }
         Invocation::Delta(command) => {
+            let mut streams = streams;
             let done = make_by(alloc, command, &mut streams.input, &mut streams.output);
             (streams, done)
         }
@@ -236,20 +242,26 @@ fn make<'a, O: Write>(
     Ok(print_answer(alloc, making.task(first, second), &mut stream)?)
 }
 
-// Prints the documents of the store in a file.
-fn dump_file<'a, C: Calls, O: Write>(
+// Prints the documents of the store in a file. The output comes back.
+fn dump_file<'a, C: Calls, O: Write + Drop>(
     alloc: Global,
     calls: &mut C,
     path: &'a str,
-    older: bool,
-    output: &mut O,
-) -> Result<(), ProgramEnd<'a>>
+    pick: Pick,
+    output: O,
+) -> (O, Result<(), ProgramEnd<'a>>)
     ensures read { IsRead IsUnwritten path.now (C.made calls.old) (C.made calls.new) }
-    ensures kept { OnOk result (WasRead IsUnwritten path.now (C.made calls.old) (C.made calls.new)) }
+    ensures kept { OnOk result.1 (WasRead (WasDone ⟦<FileDisk as Disk>⟧ (IsPrintedOf ⟦<FileDisk as Disk>⟧ pick
+        (dump_text ⟦<FileDisk as Disk>⟧) (O.contents output) (O.contents result.0))) path.now (C.made calls.old) (C.made calls.new)) }
 {
-    let disk = open_file(calls, path)?;
+    let disk = match open_file(calls, path) {
+        Ok(disk) => disk,
+        Err(ended) => return (output, Err(ended)),
+    };
     let mut stream = Stream::new(output);
-    dump_store(alloc, disk, pick_of(older), &mut stream).ended(calls, path)
+    let printed = dump_store(alloc, disk, pick, &mut stream);
+    let done = printed.ended(calls, path);
+    (stream.into_writer(), done)
 }
 
 // Makes a store in a file, with the numbers that the words give. Where the file is made and room is to be reserved, it is written whole before.
@@ -260,8 +272,9 @@ fn format_file<'a, C: Calls>(
     given: ShapeOptions,
     reserve: bool,
 ) -> Result<(), ProgramEnd<'a>>
-    ensures had { IsFilledOrMissed IsAny path.now (C.made calls.old) (C.made calls.new) }
-    ensures kept { OnOk result (IsFilled (IsFormatted given) path.now (C.made calls.old) (C.made calls.new)) }
+    ensures had { IsFilledOrMissed ⟦<FileDisk as Disk>⟧ (Spares ⟦<FileDisk as Disk>⟧) path.now (C.made calls.old) (C.made calls.new) }
+    ensures kept { OnOk result (IsFilled ⟦<FileDisk as Disk>⟧ (IsEmptied ⟦<FileDisk as Disk>⟧ given)
+        path.now (C.made calls.old) (C.made calls.new)) }
 {
     let shape = with_numbers(given, Shape::DEFAULT);
     let mut disk = disk_for(calls, path, shape, reserve)?;
@@ -285,8 +298,9 @@ fn migrate<'a, C: Calls>(
     old: &'a str,
     new: &'a str,
 ) -> Result<(), ProgramEnd<'a>>
-    ensures had { AreHad old.now new.now (C.made calls.old) (C.made calls.new) }
-    ensures kept { OnOk result (AreKept old.now new.now (C.made calls.old) (C.made calls.new)) }
+    ensures had { AreHad ⟦<FileDisk as Disk>⟧ old.now new.now (C.made calls.old) (C.made calls.new) }
+    ensures kept { OnOk result (AreFilled ⟦<FileDisk as Disk>⟧ (IsMigratedTo ⟦<FileDisk as Disk>⟧)
+        old.now new.now (C.made calls.old) (C.made calls.new)) }
 {
     let mut from = open_file(calls, old)?;
     let migrated = migrate_from(alloc, calls, &mut from, old, new);
@@ -302,14 +316,22 @@ fn migrate_from<'a, C: Calls>(
     old: &'a str,
     new: &'a str,
 ) -> Result<(), ProgramEnd<'a>>
-    ensures had { IsHad new.now (C.made calls.old) (C.made calls.new) }
-    ensures kept { OnOk result (IsKept new.now (C.made calls.old) (C.made calls.new)) }
+    ensures had { IsFilledOrMissed ⟦<FileDisk as Disk>⟧ (Spares ⟦<FileDisk as Disk>⟧) new.now (C.made calls.old) (C.made calls.new) }
+    ensures kept { OnOk result (IsFilled ⟦<FileDisk as Disk>⟧ (IsMigratedTo ⟦<FileDisk as Disk>⟧ from.old from.new)
+        new.now (C.made calls.old) (C.made calls.new)) }
     ensures unwritten { IsSyncedTwice (history_of ⟦<FileDisk as Disk>⟧ from.old) (history_of ⟦<FileDisk as Disk>⟧ from.new) }
 {
     let mut to = new_for(alloc, calls, from, old, new)?;
     match migration::migrate(alloc, from, &mut to) {
-        Ok(()) => Ok(()),
-        Err(refusal) => Err(ProgramEnd::over_two((old, from), (new, &to), refusal)),
+        Ok(()) => {
+            calls.close(new, to);
+            Ok(())
+        }
+        Err(refusal) => {
+            let ended = ProgramEnd::over_two((old, from), (new, &to), refusal);
+            calls.close(new, to);
+            Err(ended)
+        }
     }
 }
 
@@ -321,10 +343,13 @@ fn new_for<'a, C: Calls>(
     old: &'a str,
     new: &'a str,
 ) -> Result<FileDisk, ProgramEnd<'a>>
-    ensures had { IsHad new.now (C.made calls.old) (C.made calls.new) }
     ensures kept { OnOk result (IsKept new.now (C.made calls.old) (C.made calls.new)) }
+    ensures missed { OnErr result (IsMissed new.now (C.made calls.old) (C.made calls.new)) }
+    ensures untouched { IfOk result (λ disk. C.made calls.new ≡ Opened new.now ∷ Found new.now ∷ C.made calls.old
+        → ⟦<FileDisk as Disk>⟧.past disk ≡ []) }
     ensures unwritten { IsAtMostOneStep IsSync (history_of ⟦<FileDisk as Disk>⟧ from.old)
         (history_of ⟦<FileDisk as Disk>⟧ from.new) }
+    ensures seen { ⟦<FileDisk as Disk>⟧.seen from.new ≡ ⟦<FileDisk as Disk>⟧.seen from.old }
 {
     match file_there(calls, new)? {
         Some(disk) => Ok(disk),
@@ -343,8 +368,9 @@ fn copy<'a, C: Calls>(
     new: &'a str,
     given: ShapeOptions,
 ) -> Result<(), ProgramEnd<'a>>
-    ensures had { AreHad old.now new.now (C.made calls.old) (C.made calls.new) }
-    ensures kept { OnOk result (AreKept old.now new.now (C.made calls.old) (C.made calls.new)) }
+    ensures had { AreHad ⟦<FileDisk as Disk>⟧ old.now new.now (C.made calls.old) (C.made calls.new) }
+    ensures kept { OnOk result (AreFilled ⟦<FileDisk as Disk>⟧ (IsCopiedTo ⟦<FileDisk as Disk>⟧ given)
+        old.now new.now (C.made calls.old) (C.made calls.new)) }
 {
     let from = open_file(calls, old)?;
     let Brought { from, done } = copy_from(alloc, calls, from, old, new, given);
@@ -368,8 +394,9 @@ fn copy_from<'a, C: Calls>(
     new: &'a str,
     given: ShapeOptions,
 ) -> Brought<'a>
-    ensures had { IsHad new.now (C.made calls.old) (C.made calls.new) }
-    ensures kept { OnOk result.done (IsKept new.now (C.made calls.old) (C.made calls.new)) }
+    ensures had { IsFilledOrMissed ⟦<FileDisk as Disk>⟧ (Spares ⟦<FileDisk as Disk>⟧) new.now (C.made calls.old) (C.made calls.new) }
+    ensures kept { OnOk result.done (IsFilled ⟦<FileDisk as Disk>⟧ (IsCopiedTo ⟦<FileDisk as Disk>⟧ given from result.from)
+        new.now (C.made calls.old) (C.made calls.new)) }
     ensures unwritten { IsSyncedTwice (history_of ⟦<FileDisk as Disk>⟧ from) (history_of ⟦<FileDisk as Disk>⟧ result.from) }
 {
     let there = match file_there(calls, new) {
@@ -387,29 +414,57 @@ fn copy_from<'a, C: Calls>(
         Ok(numbers) => numbers,
         Err(refusal) => {
             let done = Err(ProgramEnd::over(old, &from, refusal));
+            close_there(calls, new, there);
             return Brought { from, done };
         }
     };
     let shape = with_numbers(given, numbers);
-    let mut to = match there {
-        Some(disk) => disk,
+    match there {
+        Some(to) => copy_to(alloc, calls, (old, from), (new, to), shape),
         None if has_room_for(&numbers, &shape) => match make_for(calls, new, shape, false) {
-            Ok(disk) => disk,
+            Ok(to) => copy_to(alloc, calls, (old, from), (new, to), shape),
             Err(ended) => {
                 let done = Err(ended);
-                return Brought { from, done };
+                Brought { from, done }
             }
         },
         None => {
             let done = Err(ProgramEnd::Refused(Refusal::BadShape, None));
-            return Brought { from, done };
+            Brought { from, done }
         }
-    };
+    }
+}
+
+// Closes a file, where it was opened.
+fn close_there<C: Calls>(calls: &mut C, path: &str, there: Option<FileDisk>)
+    ensures closed { IfSome there (λ disk. C.made calls.new ≡ Closed path.now (history_of ⟦<FileDisk as Disk>⟧ disk) ∷ C.made calls.old) }
+    ensures none { IfNone there (C.made calls.new ≡ C.made calls.old) }
+{
+    if let Some(disk) = there {
+        calls.close(path, disk);
+    }
+}
+
+// Copies the store on a device to a device for one of this shape, and closes that.
+fn copy_to<'a, C: Calls>(
+    alloc: Global,
+    calls: &mut C,
+    old: (&'a str, FileDisk),
+    new: (&'a str, FileDisk),
+    shape: Shape,
+) -> Brought<'a>
+    ensures spared { ClosesAs ⟦<FileDisk as Disk>⟧ (Spares ⟦<FileDisk as Disk>⟧ new.entry.1) new.entry.0.now
+        (C.made calls.old) (C.made calls.new) }
+    ensures brought { OnOk result.done (ClosesAs ⟦<FileDisk as Disk>⟧ (IsBrought ⟦<FileDisk as Disk>⟧ ⟦<FileDisk as Disk>⟧ Two
+        (IsCopiedFrom ⟦<FileDisk as Disk>⟧ shape old.entry.1 result.from) old.entry.1 result.from new.entry.1)
+        new.entry.0.now (C.made calls.old) (C.made calls.new)) }
+    ensures unwritten { IsAtMostOneStep IsSync (history_of ⟦<FileDisk as Disk>⟧ old.entry.1) (history_of ⟦<FileDisk as Disk>⟧ result.from) }
+{
+    let (from_path, from) = old;
+    let (to_path, mut to) = new;
     let Copied { old: from, made } = migration::copy(alloc, from, &mut to, shape);
-    let done = match made {
-        Ok(()) => Ok(()),
-        Err(refusal) => Err(ProgramEnd::over_two((old, &from), (new, &to), refusal)),
-    };
+    let done = brought((from_path, &from), (to_path, &to), made);
+    calls.close(to_path, to);
     Brought { from, done }
 }
 
@@ -474,13 +529,6 @@ fn serve<
             (streams, as_ended(answer))
         }
     }
-}
-
-// How the program ends, where serving over the streams did so.
-fn as_ended<'a>(answer: Result<(), ServingError>) -> Result<(), ProgramEnd<'a>>
-    ensures { OnOk result (answer ≡ Ok tt) }
-{
-    Ok(answer?)
 }
 
 // Serves one session over the streams, beside a thread that writes.
