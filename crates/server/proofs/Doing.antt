@@ -5,10 +5,11 @@ use Rattle.std.specs.Io.KnownBytes.{Appends}
 use Rattle.disk.specs.declared.device.Disk.{Ghosts}
 use Rattle.disk.specs.Crash.{history_of}
 use Rattle.disk.specs.Device.{NoStep}
+use Rattle.inspection.specs.Matching.{IsSyncedTwice}
 use Rattle.history.specs.declared.pick.Pick.{Pick}
 use Rattle.recovery.specs.declared.store.Store.{Store}
 use Rattle.serving.specs.declared.failure.ServingError.{ServingError}
-use Rattle.server.specs.Calls.{Call, Found, Missed, Opened, Closed, IsKept, IsMissed, WasRead, ClosesAs, IsFilled, IsFilledOrMissed, AreFilled}
+use Rattle.server.specs.Calls.{Call, Found, Missed, Opened, Closed, IsKept, IsMissed, WasRead, ClosesAs, IsFilled, IsFilledOrMissed, AreHad, AreFilled}
 use Rattle.server.specs.Devices.{WasDone, IsPrintedOf, Spares}
 
 -- what holds where a call was answered so, which it was
@@ -48,6 +49,25 @@ module _ {D : Type 0} {disk : Ghosts D} where
       → (mid ≡ Opened path ∷ Found path ∷ old → disk.past had ≡ []) → ClosesAs disk (Became had) path mid new → IsFilled disk Became path old new
   filled-by {had = had} {mid = mid} is_kept is_new closes =
       record { between = mid; had = had; left = closes.0; is_kept = is_kept; is_new = is_new; became = closes.1; closed = closes.2 }
+
+  -- a file was opened, a second one was had, and the first one was closed
+  pub are-had : {first second : List ℕ} {opened left : D} {old mid between new : List Call} → mid ≡ Opened first ∷ old → disk.past opened ≡ []
+      → IsFilledOrMissed disk (Spares disk) second mid between → IsSyncedTwice (history_of disk opened) (history_of disk left)
+      → new ≡ Closed first (history_of disk left) ∷ between → AreHad disk first second old new
+  are-had {opened = opened} {left = left} {between = between} begin is_new had unwritten end =
+      inr (between, had-from begin had, (history_of disk left, (history_of disk opened, is_new, unwritten), end))
+
+  pub are-filled : {Became : D → D → D → D → Type 0} {first second : List ℕ} {opened left : D} {old mid between new : List Call}
+      → mid ≡ Opened first ∷ old → disk.past opened ≡ [] → IsFilled disk (Became opened left) second mid between
+      → new ≡ Closed first (history_of disk left) ∷ between → AreFilled disk Became first second old new
+  are-filled {Became = Became} {opened = opened} {left = left} {between = between} begin is_new filled end = record {
+    between = between;
+    opened = opened;
+    left = left;
+    is_new = is_new;
+    filled = filled-from {Became = Became opened left} begin filled;
+    closed = end;
+  }
 
   -- a device that nothing was asked of spares what it has
   pub spares-itself : (d : D) → Spares disk d d
