@@ -62,13 +62,13 @@ module _ {D : Type 0} (disk : Ghosts D) where
     pub now : device ≡ history_of disk left
 
   -- A store was opened by a pick on this device, which was just opened.
-  pub record IsOpenedOn (pick : Pick) (file : D) (store : Store D disk) : Type 0 where
+  pub record IsOpenedOnFile (pick : Pick) (file : D) (store : Store D disk) : Type 0 where
     pub new : disk.past file ≡ []
     pub opens : IsOpenedStore (disk.seen file) pick store
     pub device : IsReadDevice disk file (device_of store)
 
   abbrev pub IsOpenedAnew : Pick → Store D disk → Type 0
-  IsOpenedAnew pick store = (file : D) × IsOpenedOn pick file store
+  IsOpenedAnew pick store = (file : D) × IsOpenedOnFile pick file store
 
   -- A store was so opened, this became of it, and the device of what is left has this history.
   abbrev pub WasOver : Pick → (Store D disk → Store D disk → Type 0) → History → Type 0

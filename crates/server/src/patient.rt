@@ -72,18 +72,18 @@ impl<R: Net + AllocGlobal, W: Write + AsRawFd> Write for Patient<'_, R, W> {
 }
 
 /// A stream that can be asked whether it has ended.
-pub trait Ends {
+pub trait EndingInput {
     /// Whether it has ended, or failed. It waits for nobody, and what stands before the end is dropped.
     fn has_ended(&mut self) -> bool;
 }
 
-impl<I: Ends> Ends for &mut I {
+impl<I: EndingInput> EndingInput for &mut I {
     fn has_ended(&mut self) -> bool {
         (**self).has_ended()
     }
 }
 
-impl Ends for &[u8] {
+impl EndingInput for &[u8] {
     fn has_ended(&mut self) -> bool {
         *self = &[];
         true
@@ -110,7 +110,7 @@ impl<R, I: Read> Read for PatientInput<'_, R, I> {
     }
 }
 
-impl<R: Net + AllocGlobal, I: Read + AsRawFd> Ends for PatientInput<'_, R, I> {
+impl<R: Net + AllocGlobal, I: Read + AsRawFd> EndingInput for PatientInput<'_, R, I> {
     // One piece at most is read at a time. A stream about which the system tells nothing is read at once.
     fn has_ended(&mut self) -> bool {
         if !is_ready(self.rt, self.stream.as_raw_fd(), Interest::READABLE, 0).unwrap_or(true) {

@@ -18,7 +18,7 @@ use crate::ended::{LISTENING, ProgramEnd, as_ended, brought, tell};
 use crate::events::{OpenedStore, milliseconds};
 use crate::files::{disk_for, file_there, make_file, make_for, open_file, open_store, without};
 use crate::inspected::{check_file, tell_of_store};
-use crate::patient::Ends;
+use crate::patient::EndingInput;
 use crate::standard::NULL_DEVICE;
 use crate::watching::{Alone, OperatorWatch};
 use clap::error::ErrorKind;
@@ -50,7 +50,7 @@ use words::{DeltaCommand, Invocation, Lines, Listening, Making, ShapeOptions, gi
 pub fn run<
     R: Files<File = File> + AllocGlobal + Addresses + Threads + Wait + Clock + Sync,
     S: AsStr,
-    I: Read + Ends + Send,
+    I: Read + EndingInput + Send,
     O: Write + Send,
     E: Write + Send,
 >(rt: &R, words: &[S], input: &mut I, output: &mut O, errors: &mut E) -> u8
@@ -65,7 +65,7 @@ pub fn run<
 /// Runs the program over the words that the system gives it, as `run` does. Words that aren't UTF-8 can't be used.
 pub fn run_with_args<
     R: Files<File = File> + AllocGlobal + Env + Addresses + Threads + Wait + Clock + Sync,
-    I: Read + Ends + Send,
+    I: Read + EndingInput + Send,
     O: Write + Send,
     E: Write + Send,
 >(rt: &R, input: &mut I, output: &mut O, errors: &mut E) -> u8
@@ -90,7 +90,7 @@ fn run_on<
     'a,
     R: AllocGlobal + Threads + Wait + Clock + Sync,
     C: Calls,
-    I: Read + Ends + Send + Drop,
+    I: Read + EndingInput + Send + Drop,
     O: Write + Send + Drop,
     E: Write + Send,
 >(
@@ -138,7 +138,7 @@ fn invoke<
     'a,
     R: AllocGlobal + Threads + Wait + Clock + Sync,
     C: Calls,
-    I: Read + Ends + Send + Drop,
+    I: Read + EndingInput + Send + Drop,
     O: Write + Send + Drop,
     E: Write + Send,
 >(
@@ -494,7 +494,7 @@ fn serve<
     'a,
     R: AllocGlobal + Threads + Wait + Clock + Sync,
     C: Calls,
-    I: Read + Ends + Send + Drop,
+    I: Read + EndingInput + Send + Drop,
     O: Write + Send + Drop,
     E: Write + Send,
 >(
@@ -573,7 +573,7 @@ fn listen<
     'a,
     R: AllocGlobal + Threads + Wait + Clock + Sync,
     C: Calls,
-    I: Ends + Send,
+    I: EndingInput + Send,
     O: Write + Send,
     E: Write + Send,
 >(
@@ -611,7 +611,7 @@ fn serve_at<
     'a,
     R: AllocGlobal + Threads + Wait + Clock + Sync,
     C: Calls,
-    I: Ends + Send,
+    I: EndingInput + Send,
     O: Write + Send,
     E: Write + Send,
 >(

@@ -3,7 +3,7 @@ ghost use Rattle.std.specs.Prelude.{◌≡◌, Ok, OnOk};
 
 use crate::ended::{LISTENING, ProgramEnd, cause_of, tell};
 use crate::events::{OpenedStore, OperatorEvent, WrittenBatches, milliseconds, tell_event};
-use crate::patient::Ends;
+use crate::patient::EndingInput;
 use disk::FileDisk;
 use refusal::Refusal;
 use server_threads::{Counters, Moment, Peers, Watch};
@@ -59,7 +59,13 @@ struct OperatorStreams<'a, I, O, E> {
     stats_at: u64,
 }
 
-impl<'a, R: AllocGlobal + Clock + Wait, I: Ends, O: Write, E: Write> OperatorWatch<'a, R, I, O, E> {
+impl<'a, R: AllocGlobal + Clock + Wait, I: EndingInput, O: Write, E: Write> OperatorWatch<
+    'a,
+    R,
+    I,
+    O,
+    E,
+> {
     /// Of the store in this file, at this address.
     pub(crate) fn new(
         rt: &'a R,
@@ -201,7 +207,7 @@ fn refusal_of(ended: &Result<(), ProgramEnd<'_>>) -> Option<Refusal> {
     }
 }
 
-impl<'a, I: Ends, O, E> OperatorStreams<'a, I, O, E> {
+impl<'a, I: EndingInput, O, E> OperatorStreams<'a, I, O, E> {
     fn new(input: &'a mut I, output: &'a mut O, errors: &'a mut E) -> OperatorStreams<'a, I, O, E> {
         OperatorStreams {
             input,
@@ -256,9 +262,12 @@ impl<'a, I: Ends, O, E> OperatorStreams<'a, I, O, E> {
     }
 }
 
-impl<R: AllocGlobal + Clock + Wait + Sync, I: Ends + Send, O: Write + Send, E: Write + Send> Watch<
-    FileDisk,
-> for OperatorWatch<'_, R, I, O, E> {
+impl<
+    R: AllocGlobal + Clock + Wait + Sync,
+    I: EndingInput + Send,
+    O: Write + Send,
+    E: Write + Send,
+> Watch<FileDisk> for OperatorWatch<'_, R, I, O, E> {
     fn begun(&self, sessions: usize, seats: usize) -> bool {
         let mut streams = self.streams.lock(self.rt);
         if sessions < seats {

@@ -1,5 +1,5 @@
 //! A stream that is written where it has room, and one that tells whether it has ended.
-use server::{Ends, Patient, PatientInput};
+use server::{EndingInput, Patient, PatientInput};
 use std::io::{self, Read, Write};
 use std::net::Net;
 use std::os::fd::AsRawFd;

@@ -1,5 +1,5 @@
 //! One run of the program over streams in memory.
-use server::{Ends, run};
+use server::{EndingInput, run};
 use std::alloc::{AllocError, Global};
 use std::fs::File;
 use std::io::{self, ErrorKind, Read, Write};
@@ -55,7 +55,7 @@ impl Read for Pieces<'_> {
     }
 }
 
-impl Ends for Pieces<'_> {
+impl EndingInput for Pieces<'_> {
     fn has_ended(&mut self) -> bool {
         self.rest = &[];
         true

@@ -1,7 +1,7 @@
 //! Two sessions of one server, each over a connection of its own.
 use crate::runs::Ended;
 use crate::shown::{Shown, show};
-use server::{Ends, run};
+use server::{EndingInput, run};
 use std::alloc::{AllocError, Global};
 use std::fs::File;
 use std::io::{self, Read, Write};
@@ -48,7 +48,7 @@ impl<R: Wait> Read for Silent<'_, R> {
     }
 }
 
-impl<R: Wait> Ends for Silent<'_, R> {
+impl<R: Wait> EndingInput for Silent<'_, R> {
     fn has_ended(&mut self) -> bool {
         *self.is_over.lock(self.rt)
     }
