@@ -17,7 +17,6 @@ returns g c =
     let s = c.serve_on-connected in
     served-at c.requires.from (
       s.result.attendance,
-      s.result.served,
       record {
         life = s.ensures.served;
         attended = subst (λ came. IsAttended came (arrivals_of s.result.listener) s.result.attendance) c.requires.nobody s.ensures.attended;
