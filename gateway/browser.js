@@ -60,6 +60,7 @@ export class Browser {
   /** @type {Buffer[]} what has come since, of a line that isn't whole */
   #pieces = [];
   #pieceBytes = 0;
+  #begun = 0; // bytes that have come of a line that isn't whole
   #skips = false; // the rest of a line that is too long
   /** @type {Slot[]} */
   #slots = [];
@@ -315,6 +316,7 @@ export class Browser {
 
   // Whose user or address owes isn't read until that is over. Where it takes too long it is closed, or who sends most from that address.
   #settleDebt = this.#guarded(() => {
+    if (!this.isGone) this.#pump(); // what has come already
     if (this.isGone) return;
     const debts = this.#accounts.map((account) => ({ account, ...account.debt }));
     const { account, limit, seconds } = debts.reduce((one, other) => (other.seconds > one.seconds ? other : one));
@@ -352,11 +354,24 @@ export class Browser {
     if (this.isGone) return;
     this.#pieces.push(bytes);
     this.#pieceBytes += bytes.length;
-    if (!bytes.includes(10)) this.#charge();
+    const end = bytes.lastIndexOf(10);
+    if (end !== -1) this.#giveBack(bytes, end);
+    else {
+      this.#begun += bytes.length;
+      this.#charge();
+    }
     if (this.isGone) return;
-    const isWhole = bytes.includes(10) || this.#unread.length + this.#pieceBytes > MOST_LINE;
+    const isWhole = end !== -1 || this.#unread.length + this.#pieceBytes > MOST_LINE;
     if (this.#pieces.length >= MOST_PIECES) this.#gather();
     if (isWhole && !this.#socket.isPaused) this.#pump(); // while it is paused the rest of what was read before comes still
+  }
+
+  // Bytes of whole lines, as far as those may be long, and of their frame, are none of what is no line.
+  #giveBack(bytes, end) {
+    const first = bytes.indexOf(10);
+    const lines = Math.min(this.#begun + first, MOST_LINE) + end - first + FRAME;
+    for (const { overhead } of this.#accounts) overhead.take(-lines);
+    this.#begun = bytes.length - end - 1;
   }
 
   #gather() {
@@ -402,10 +417,7 @@ export class Browser {
       }
       const line = this.#unread.subarray(0, at);
       this.sent += PIECE;
-      for (const { messages, overhead } of this.#accounts) {
-        messages.take(1);
-        overhead.take(-Math.min(line.length, MOST_LINE) - FRAME);
-      }
+      for (const { messages } of this.#accounts) messages.take(1);
       this.#unread = this.#unread.subarray(at + 1);
       if (this.#skips) this.#skips = false;
       else if (line.length > MOST_LINE) this.#refuse(REFUSAL.LineTooLong);

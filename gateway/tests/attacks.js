@@ -18,6 +18,7 @@ const PROGRAM = process.env.GATEWAY ?? path.join(ROOT, "gateway/program.js");
 const DOCUMENTS = 20;
 const MOST_HARMLESS = 900_000; // bytes a second, of whoever keeps to the limits
 const STORE = ["--cell", "1048576", "--slot", "1048576", "--slots", "16", "--docs", "256", "--sources", "512"];
+const LARGE_STORE = ["--cell", "4194304", "--slot", "4194304", "--slots", "8", "--docs", "64", "--sources", "512"];
 const as = (user) => ({ headers: { "x-user": user }, perMessageDeflate: false });
 const random = () => Math.random().toString(36).slice(2);
 const megabytes = (kilobytes) => Math.round(kilobytes / 1_024);
@@ -45,8 +46,8 @@ class Scene {
     this.endings.push(ending);
   }
 
-  async begin({ settings = () => ({}), command = [], data } = {}) {
-    this.store = new Richd(this, ...STORE);
+  async begin({ settings = () => ({}), command = [], data, shape = STORE } = {}) {
+    this.store = new Richd(this, ...shape);
     await this.store.serve();
     this.data = data ?? path.join(folderFor(this), "data");
     this.rights = path.join(folderFor(this), "rights.mjs");
@@ -187,6 +188,27 @@ const ATTACKS = {
     for (const { socket } of readers) for (const what of ["subscribe", "since"]) socket.send(`{"do":"${what}","doc":"d","rev":${Math.max(26, rev - 900)}}\n`);
     await until(() => waiting.replies.length === 3 || waiting.code !== null, "the replies of one that reads", 60_000);
     return { said: `${rev} revisions` };
+  },
+
+  "G1 long documents, in pieces, that are asked for and not taken": {
+    begin: (scene) => scene.begin({ shape: LARGE_STORE, settings: () => ({ limits: { lineBytes: 1 << 17, newsBytes: 1 << 17 } }) }),
+    async act(scene) {
+      const eve = await scene.talk("eve");
+      await eve.ask({ do: "create", doc: "long", n: 1, ops: [] });
+      for (let n = 2; n < 7; n += 1) await eve.ask({ do: "edit", doc: "long", n, base: n - 1, ops: [{ insert: "x".repeat(60_000) }] });
+      const silent = await talksOf(scene, "eve", 20);
+      for (const { socket } of silent) socket.pause();
+      for (const talk of silent) talk.send(...Array(20).fill({ do: "fetch", doc: "long" }));
+      const bob = await scene.talk("bob");
+      const began = performance.now();
+      let count = 0;
+      for (const end = began + 1_000 * seconds; performance.now() < end && bob.code === null; count += 1) {
+        bob.send({ do: "fetch", doc: "long" });
+        await until(() => bob.replies.length === count + 2 || bob.code !== null, "a long document");
+        if (bob.replies.at(-1).ops?.[0].insert.length !== 300_000) break;
+      }
+      return { said: `another user has it ${count} times within ${Math.round(performance.now() - began)} ms`, isGood: count > 0 };
+    },
   },
 
   async "G2 a user asks for all names"(scene) {

@@ -33,10 +33,11 @@ export async function gatewayFor(test, settings) {
 export class Talk {
   lines = [];
   code = null; // by which it was closed
+  #parts = []; // of a line that isn't whole
 
   constructor(url, options) {
     this.socket = new WebSocket(url, options);
-    this.socket.on("message", (bytes) => this.lines.push(...bytes.toString().split("\n").slice(0, -1).map((line) => JSON.parse(line))));
+    this.socket.on("message", (bytes) => this.#take(bytes));
     this.socket.on("close", (code) => (this.code = code));
     this.socket.on("error", (error) => (this.error = error));
   }
@@ -52,6 +53,19 @@ export class Talk {
 
   send(...messages) {
     this.socket.send(messages.map((message) => (typeof message === "string" ? message : JSON.stringify(message)) + "\n").join(""));
+  }
+
+  #take(bytes) {
+    this.#parts.push(bytes);
+    if (!bytes.includes(10)) return;
+    const lines = Buffer.concat(this.#parts).toString().split("\n");
+    this.#parts = [Buffer.from(lines.pop())];
+    this.lines.push(...lines.map((line) => JSON.parse(line)));
+  }
+
+  /** Bytes of a line that isn't whole. */
+  get begun() {
+    return this.#parts.reduce((sum, { length }) => sum + length, 0);
   }
 
   get replies() {
