@@ -26,10 +26,10 @@ module _ {D : Type 0} {disk : Ghosts D} where
       (subst (λ x. IsPrintedOf disk pick text before x old new) a (at-ok {P = IsPrintedOf disk pick text before after old new} well is))
 
   -- a file was opened, and closed after this
-  pub was-done : {Became : D → D → Type 0} {path : List ℕ} {opened left : D} {old mid new : List Call}
+  pub was-done : {Became : D → D → Type 0} {path : List ℕ} (opened left : D) {old mid new : List Call}
       → disk.past opened ≡ [] → mid ≡ Opened path ∷ old → Became opened left → new ≡ Closed path (history_of disk left) ∷ mid
       → WasRead (WasDone disk Became) path old new
-  was-done {path = path} {opened = opened} {left = left} is_new begin became end = (
+  was-done {path = path} opened left is_new begin became end = (
     history_of disk left,
     record { opened = opened; left = left; is_new = is_new; became = became; now = refl },
     end ∙ ap (λ (calls : List Call). Closed path (history_of disk left) ∷ calls) begin,
@@ -45,22 +45,22 @@ module _ {D : Type 0} {disk : Ghosts D} where
   had-from {Became = Became} {path = path} {new = new} is had = subst (λ (calls : List Call). IsFilledOrMissed disk Became path calls new) is had
 
   -- a file was closed after this, which was had
-  pub filled-by : {Became : D → D → Type 0} {path : List ℕ} {had : D} {old mid new : List Call} → IsKept path old mid
+  pub filled-by : {Became : D → D → Type 0} {path : List ℕ} (had : D) {old mid new : List Call} → IsKept path old mid
       → (mid ≡ Opened path ∷ Found path ∷ old → disk.past had ≡ []) → ClosesAs disk (Became had) path mid new → IsFilled disk Became path old new
-  filled-by {had = had} {mid = mid} is_kept is_new closes =
+  filled-by had {mid = mid} is_kept is_new closes =
       record { between = mid; had = had; left = closes.0; is_kept = is_kept; is_new = is_new; became = closes.1; closed = closes.2 }
 
   -- a file was opened, a second one was had, and the first one was closed
-  pub are-had : {first second : List ℕ} {opened left : D} {old mid between new : List Call} → mid ≡ Opened first ∷ old → disk.past opened ≡ []
+  pub are-had : {first second : List ℕ} (opened left : D) {old mid between new : List Call} → mid ≡ Opened first ∷ old → disk.past opened ≡ []
       → IsFilledOrMissed disk (Spares disk) second mid between → IsSyncedTwice (history_of disk opened) (history_of disk left)
       → new ≡ Closed first (history_of disk left) ∷ between → AreHad disk first second old new
-  are-had {opened = opened} {left = left} {between = between} begin is_new had unwritten end =
+  are-had opened left {between = between} begin is_new had unwritten end =
       inr (between, had-from begin had, (history_of disk left, (history_of disk opened, is_new, unwritten), end))
 
-  pub are-filled : {Became : D → D → D → D → Type 0} {first second : List ℕ} {opened left : D} {old mid between new : List Call}
+  pub are-filled : {Became : D → D → D → D → Type 0} {first second : List ℕ} (opened left : D) {old mid between new : List Call}
       → mid ≡ Opened first ∷ old → disk.past opened ≡ [] → IsFilled disk (Became opened left) second mid between
       → new ≡ Closed first (history_of disk left) ∷ between → AreFilled disk Became first second old new
-  are-filled {Became = Became} {opened = opened} {left = left} {between = between} begin is_new filled end = record {
+  are-filled {Became = Became} opened left {between = between} begin is_new filled end = record {
     between = between;
     opened = opened;
     left = left;
@@ -74,9 +74,9 @@ module _ {D : Type 0} {disk : Ghosts D} where
   spares-itself d = λ _ _. record { seen = refl; time = NoStep refl }
 
   -- A file that was looked for is closed where it was opened, and nothing was asked of it.
-  pub closed-there : (there : Option D) {path : List ℕ} {old mid new : List Call} → IfSome there (λ _. mid ≡ Opened path ∷ Found path ∷ old)
+  pub closed-there : (there : Option D) (mid : List Call) {path : List ℕ} {old new : List Call} → IfSome there (λ _. mid ≡ Opened path ∷ Found path ∷ old)
       → IfNone there (mid ≡ Missed path ∷ old) → IfSome there (λ d. disk.past d ≡ [])
       → IfSome there (λ d. new ≡ Closed path (history_of disk d) ∷ mid) → IfNone there (new ≡ mid) → IsFilledOrMissed disk (Spares disk) path old new
-  closed-there None found missed is_new closed none = inl (inr (inr (inl (none ∙ missed))))
-  closed-there (Some d) found missed is_new closed none =
-      inr (filled-by {Became = Spares disk} {had = d} (inl found) (λ _. is_new) (d, spares-itself d, closed))
+  closed-there None mid found missed is_new closed none = inl (inr (inr (inl (none ∙ missed))))
+  closed-there (Some d) mid found missed is_new closed none =
+      inr (filled-by {Became = Spares disk} d (inl found) (λ _. is_new) (d, spares-itself d, closed))
