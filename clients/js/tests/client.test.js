@@ -268,6 +268,7 @@ test("a call ends by its time or its signal, and what was sent keeps its number"
   aborting.abort(new Error("enough"));
   await assert.rejects(aborted, { message: "enough" });
   const next = client.edit("d", [], 1);
+  await until(() => held.length === 16);
   held.shift()();
   await until(() => lines.length === 17);
   for (const answer of held.splice(0)) answer();
