@@ -9,8 +9,11 @@ use Rattle.inspection.specs.Matching.{IsSyncedTwice}
 use Rattle.history.specs.declared.pick.Pick.{Pick}
 use Rattle.recovery.specs.declared.store.Store.{Store}
 use Rattle.serving.specs.declared.failure.ServingError.{ServingError}
-use Rattle.server.specs.Calls.{Call, Found, Missed, Opened, Closed, IsKept, IsMissed, WasRead, ClosesAs, IsFilled, IsFilledOrMissed, AreHad, AreFilled}
-use Rattle.server.specs.Devices.{WasDone, IsPrintedOf, Spares}
+use Rattle.server.specs.Calls.{Call, Found, Missed, Opened, Made, Closed, IsKept, IsMissed, WasRead, ClosesAs, IsFilled, IsFilledOrMissed, AreHad, AreFilled}
+use Rattle.inspection.specs.declared.checking.Checked.{Checked}
+use Rattle.inspection.specs.Checking.{IsFoundSound}
+use Rattle.server.specs.Checked.{checked_line}
+use Rattle.server.specs.Devices.{WasDone, IsPrintedOf, IsCheckedBy, Spares}
 
 -- what holds where a call was answered so, which it was
 pub at-ok : {A E : Type 0} {P : Type 0} {r : Result A E} {a : A} → r ≡ Ok a → OnOk r P → P
@@ -24,6 +27,19 @@ module _ {D : Type 0} {disk : Ghosts D} where
   printed-at {pick = pick} {text = text} {before = before} {before' = before'} {after = after} {after' = after'} {old = old} {new = new} well b a is =
       subst (λ x. IsPrintedOf disk pick text x after' old new) b
       (subst (λ x. IsPrintedOf disk pick text before x old new) a (at-ok {P = IsPrintedOf disk pick text before after old new} well is))
+
+  -- a store was found to be sound, and its numbers were printed to a stream that stands behind another
+  pub checked-by : {before before' after after' : Option (List ℕ)} {old : D} (checked : Checked D) {r : Result (Unit {0}) ServingError} → r ≡ Ok tt
+      → before ≡ before' → after ≡ after' → IsFoundSound disk checked old → IsSyncedTwice (history_of disk old) (history_of disk checked.disk)
+      → OnOk r (Appends before after (checked_line checked.documents checked.changes)) → IsCheckedBy disk before' after' old checked.disk
+  checked-by {before = before} {after' = after'} checked well b a sound unwritten printed = record {
+    checked = checked;
+    sound = sound;
+    closes = refl;
+    unwritten = unwritten;
+    printed = subst (λ x. Appends x after' (checked_line checked.documents checked.changes)) b
+        (subst (λ x. Appends before x (checked_line checked.documents checked.changes)) a (at-ok well printed));
+  }
 
   -- a file was opened, and closed after this
   pub was-done : {Became : D → D → Type 0} {path : List ℕ} (opened left : D) {old mid new : List Call}
@@ -69,9 +85,22 @@ module _ {D : Type 0} {disk : Ghosts D} where
     closed = end;
   }
 
-  -- a device that nothing was asked of spares what it has
-  pub spares-itself : (d : D) → Spares disk d d
-  spares-itself d = λ _ _. record { seen = refl; time = NoStep refl }
+  -- a file that was looked for was opened, and closed after this
+  pub filled-there : {Became : D → D → Type 0} {path : List ℕ} (there : Option D) (had : D) (mid : List Call) {old new : List Call} → there ≡ Some had
+      → IfSome there (λ _. mid ≡ Opened path ∷ Found path ∷ old) → IfSome there (λ d. disk.past d ≡ []) → ClosesAs disk (Became had) path mid new
+      → IsFilled disk Became path old new
+  filled-there {path = path} there had mid {old = old} is found untouched closes =
+      filled-by had (inl (subst (λ (o : Option D). IfSome o (λ _. mid ≡ Opened path ∷ Found path ∷ old)) is found))
+      (λ _. subst (λ (o : Option D). IfSome o (λ d. disk.past d ≡ [])) is untouched) closes
+
+  -- one that wasn't there was made, and closed after this
+  pub filled-new : {Became : D → D → Type 0} {path : List ℕ} (there : Option D) (had : D) (before mid : List Call) {old new : List Call} → there ≡ None
+      → IfNone there (before ≡ Missed path ∷ old) → mid ≡ Made path ∷ before → ClosesAs disk (Became had) path mid new
+      → IsFilled disk Became path old new
+  filled-new {path = path} there had before mid {old = old} is missed made closes =
+      let gone : before ≡ Missed path ∷ old = subst (λ (o : Option D). IfNone o (before ≡ Missed path ∷ old)) is missed in
+      let new_file : mid ≡ Made path ∷ Missed path ∷ old = made ∙ ap (λ (calls : List Call). Made path ∷ calls) gone in
+      filled-by had (inr new_file) (λ there. let two : Made path ∷ Missed path ∷ old ≡ Opened path ∷ Found path ∷ old = sym new_file ∙ there in cc) closes
 
   -- A file that was looked for is closed where it was opened, and nothing was asked of it.
   pub closed-there : (there : Option D) (mid : List Call) {path : List ℕ} {old new : List Call} → IfSome there (λ _. mid ≡ Opened path ∷ Found path ∷ old)
@@ -79,4 +108,4 @@ module _ {D : Type 0} {disk : Ghosts D} where
       → IfSome there (λ d. new ≡ Closed path (history_of disk d) ∷ mid) → IfNone there (new ≡ mid) → IsFilledOrMissed disk (Spares disk) path old new
   closed-there None mid found missed is_new closed none = inl (inr (inr (inl (none ∙ missed))))
   closed-there (Some d) mid found missed is_new closed none =
-      inr (filled-by {Became = Spares disk} d (inl found) (λ _. is_new) (d, spares-itself d, closed))
+      inr (filled-by {Became = Spares disk} d (inl found) (λ _. is_new) (d, (λ _ _. record { seen = refl; time = NoStep refl }), closed))

@@ -146,13 +146,12 @@ pub(crate) fn check_file<'a, C: Calls, O: Write + Drop>(
         Err(ended) => return (output, Err(ended)),
     };
     match check(alloc, disk) {
-        Ok(
-            Checked {
+        Ok(checked) => {
+            let Checked {
                 disk,
                 documents,
                 changes,
-            },
-        ) => {
+            } = checked;
             calls.close(path, disk);
             let mut stream = Stream::new(output);
             let printed = print_counts(alloc, documents, changes, &mut stream);

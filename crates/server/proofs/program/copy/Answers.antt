@@ -4,11 +4,11 @@ use Rattle.server.proofs.program.copy.Goals as goal
 
 pub returns-clause-had : goal.returns-clause-had
 returns-clause-had g c =
-    are-had c.in_ok-from.from c.copy_from.result.from c.in_ok-from.ensures.good c.in_ok-from.ensures.untouched c.copy_from.ensures.had c.copy_from.ensures.unwritten
+    are-had c.in_ok-from.from c.copy_from-from.result.from c.in_ok-from.ensures.good c.in_ok-from.ensures.untouched c.copy_from-from.ensures.had c.copy_from-from.ensures.unwritten
     c.close.ensures
 
 pub returns-clause-kept : goal.returns-clause-kept
 returns-clause-kept g c =
-    on_ok_weaker c.copy_from.result.done
-    (λ filled. are-filled c.in_ok-from.from c.copy_from.result.from c.in_ok-from.ensures.good c.in_ok-from.ensures.untouched filled c.close.ensures)
-    c.copy_from.ensures.kept
+    on_ok_weaker c.copy_from-from.result.done
+    (λ filled. are-filled c.in_ok-from.from c.copy_from-from.result.from c.in_ok-from.ensures.good c.in_ok-from.ensures.untouched filled c.close.ensures)
+    c.copy_from-from.ensures.kept

@@ -24,7 +24,7 @@ returns-in-Err-clause-had g c =
       is_kept = c.in_ok-disk.ensures.kept;
       is_new = c.in_ok-disk.ensures.untouched;
       became = c.in-Err.ensures.kept;
-      closed = c.close.ensures;
+      closed = c.close-in-Err.ensures;
     })
 
 pub returns-in-Ok-clause-kept : goal.returns-in-Ok-clause-kept

@@ -24,7 +24,7 @@ returns-in-Err-clause-had g c =
       is_kept = c.in_ok-to.ensures.kept;
       is_new = c.in_ok-to.ensures.untouched;
       became = c.in-Err.ensures.any_moment.kept;
-      closed = c.close.ensures;
+      closed = c.close-in-Err.ensures;
     })
 
 -- the old device was read before where the new file was made
@@ -36,7 +36,7 @@ returns-in-Ok-clause-kept g c = record {
   is_kept = c.in_ok-to.ensures.kept;
   is_new = c.in_ok-to.ensures.untouched;
   became = record {
-    read = c.new_for-to.new.from;
+    read = c.new_for.new.from;
     first = c.in_ok-to.ensures.unwritten;
     seen = c.in_ok-to.ensures.seen;
     brought = c.in-Ok.ensures.brought;
