@@ -193,6 +193,7 @@ fn reply_to(
 
 /// Serves the store until this ends that. Its output is shared with those who look for the address.
 fn served<
+    'a,
     R: Files<File = File>
         + AllocGlobal
         + Net<Listener = TcpListener, Stream = TcpStream>
@@ -201,10 +202,10 @@ fn served<
         + Clock
         + Sync,
 >(
-    rt: &R,
+    rt: &'a R,
     path: &str,
-    told: &Mutex<String>,
-    is_over: &Mutex<bool>,
+    told: &'a Mutex<String>,
+    is_over: &'a Mutex<bool>,
     ending: Ending,
 ) -> Result<Ended, AllocError> {
     let words = [
