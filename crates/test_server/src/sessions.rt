@@ -191,7 +191,7 @@ fn reply_to(
     Ok(format!(in alloc; "b {reply}")?)
 }
 
-/// Serves the store until this ends that. Its output is shared with those who look for the address.
+/// Serves the store until what the option names ends that. Its output is shared with those who look for the address.
 fn served<
     'a,
     R: Files<File = File>
@@ -203,19 +203,12 @@ fn served<
         + Sync,
 >(
     rt: &'a R,
-    path: &str,
+    path: &'a str,
     told: &'a Mutex<String>,
     is_over: &'a Mutex<bool>,
-    ending: Ending,
+    option: &'a str,
 ) -> Result<Ended, AllocError> {
-    let words = [
-        "richd",
-        "serve",
-        path,
-        "--listen",
-        "127.0.0.1:0",
-        ending.option(),
-    ];
+    let words = ["richd", "serve", path, "--listen", "127.0.0.1:0", option];
     let mut input = Silent { rt, is_over };
     let mut output = Written { rt, text: told };
     let mut errors = Vec::new(rt.alloc());
@@ -244,7 +237,7 @@ pub fn beside<
     let (replies, ended) = thread::join(
         rt,
         || converse_to_the_end(rt, &told, &is_over, lines, ending),
-        || served(rt, path, &told, &is_over, ending),
+        || served(rt, path, &told, &is_over, ending.option()),
     );
     let replies = replies?;
     let ended = ended?;
