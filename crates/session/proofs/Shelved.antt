@@ -1,11 +1,11 @@
 -- What the shelf keeps, as documents are found on it and put there.
-use Rattle.std.proofs.Common.{◌≡◌, ◌⊎◌, inl, inr, ℕ, Bool, true, false, cond, List, [], ◌∷◌, map, Option, Some, None, refl, sym, ap, subst, ◌∙◌}
+use Rattle.std.proofs.Common.{◌≡◌, ◌⊎◌, inl, inr, ℕ, Bool, true, false, cond, List, [], ◌∷◌, map, take, Option, Some, None, refl, sym, ap, subst, ◌∙◌}
 use Rattle.std.specs.Prelude.{not, All, Contains, IfSome, IfOk, option_map, Result, Ok, Err, OnOk, OnErr, bytes_eq, nat_eq, nat_lt}
 use Rattle.std.specs.Map.{lookup}
 use Rattle.std.specs.Option.{ForSome}
 use Rattle.std.specs.String.{string_bytes}
 use Rattle.std.proofs.lemmas.Bool.{and_parts, eqb-true}
-use Rattle.std.proofs.lemmas.List.Elements.{All-weaker, All-contains, All-contains_itself, All-map, All-from_recursion, recursion_from_All}
+use Rattle.std.proofs.lemmas.List.Elements.{All-weaker, All-contains, All-contains_itself, All-map, All-take, All-from_recursion, recursion_from_All}
 use Rattle.std.proofs.lemmas.Slice.Eq.{bytes_eq-Decides}
 use Rattle.std.specs.List.{AllByRecursion}
 use Rattle.lru.specs.LruCache.{LruCache, lru_cache, promoted, put_entries}
@@ -112,6 +112,12 @@ noted-fits state old new (Ok a) k units fits given put same_cache =
     subst (λ (cache : LruCache Key (List Element)). Fits state (map kept_of cache.entries)) (sym put) (put-fits state old k units fits given)
 noted-fits state old new (Err b) k units fits given put same_cache =
     subst (λ (cache : LruCache Key (List Element)). Fits state (map kept_of cache.entries)) (sym same_cache) fits
+
+-- what is left once the last entry is let go is given
+pub popped-fits : (state : State) (old new : LruCache Key (List Element)) (count : ℕ) → Fits state (map kept_of old.entries)
+    → new ≡ lru_cache (take count old.entries) old.cap → Fits state (map kept_of new.entries)
+popped-fits state old new count fits is = subst (λ (cache : LruCache Key (List Element)). Fits state (map kept_of cache.entries)) (sym is)
+    (All-map (IsGiven state) kept_of (take count old.entries) (All-take (Given state) count old.entries (each state old.entries fits)))
 
 module _ (state : State) (name : List ℕ) (revision : ℕ) (past : Past) (held : past_at state name revision ≡ Ok past) where
   -- what stands in a document at a revision that the state holds

@@ -16,8 +16,14 @@ use std::alloc::{AllocError, Global};
 use std::marker::Model;
 use std::num::NonZeroUsize;
 
-/// How many documents are kept.
+/// How many documents are kept at most.
 const PLACES: usize = 64;
+
+/// How many bytes those that are kept have together at most, where they are more than one.
+const ROOM: u64 = 16 << 20;
+
+/// How many bytes a run of a document takes beside its letters, at most.
+const RUN: u64 = 450;
 
 /// The name of a document, and a revision of it.
 #[derive(PartialEq, Eq, Hash, Drop)]
@@ -36,7 +42,8 @@ impl Key {
     }
 }
 
-/// The 64 documents at older revisions that were last asked for, each under its name and its revision.
+/// The documents at older revisions that were last asked for, each under its name and its revision: 64 at most, and no more than have 16 MiB
+/// together, or one that is larger.
 #[derive(Drop)]
 pub struct Shelf {
     documents: LruCache<Key, Document>,
@@ -133,19 +140,60 @@ impl Shelf {
         ))
     }
 
-    /// Notes a look. A document that was made is kept, if there is memory for it, and the one that nobody asked for longest gives
-    /// way to it.
+    /// Notes a look. A document that was made is kept, if there is memory for it, and those that nobody asked for longest give way to it.
     pub fn note(&mut self, look: Look)
         ensures { (state : spec.State) → Fits state self.old → IfSome look (IsGiven state) → Fits state self.new }
     {
         let Look { key, made } = look;
         match made {
-            Some(document) => drop(self.documents.put(key, document)),
+            Some(document) => self.keep(key, document),
             None => {
                 self.documents.promote(&key);
             }
         }
     }
+
+    // Keeps a document, if there is memory for it, and lets others go for it.
+    fn keep(&mut self, key: Key, document: Document)
+        ensures { (state : spec.State) → Fits state self.old
+            → IsGiven state (record { name = string_bytes key.name; revision = key.revision; units = document }) → Fits state self.new }
+    {
+        drop(self.documents.put(key, document));
+        self.let_go();
+    }
+
+    // Lets those go that nobody asked for longest, until the others have room together or one is left.
+    fn let_go(&mut self)
+        ensures { (state : spec.State) → Fits state self.old → Fits state self.new }
+    {
+        let mut size = self.size();
+        for _ in 1..self.documents.len() {
+            if size <= ROOM {
+                return;
+            }
+            if let Some((_, document)) = self.documents.pop_lru() {
+                size = size.saturating_sub(size_of(&document));
+            }
+        }
+    }
+
+    // How many bytes those that are kept have together.
+    fn size(&self) -> u64 {
+        let mut size: u64 = 0;
+        for (_, document) in self.documents.iter() {
+            size = size.saturating_add(size_of(document));
+        }
+        size
+    }
+}
+
+// How many bytes a document has in memory, at most where its letters are of one byte each.
+fn size_of(document: &Document) -> u64 {
+    let mut runs: u64 = 0;
+    for chunk in document.chunks() {
+        runs = runs.saturating_add(chunk.runs().len() as u64);
+    }
+    document.len16().saturating_add(runs.saturating_mul(RUN))
 }
 
 // The document of a name, where it isn't deleted and holds a revision.
