@@ -26,6 +26,7 @@ mod source_table;
 mod sources;
 mod state;
 mod undoing;
+mod way;
 
 use crate::rule::{Name, Taker, edits};
 use crate::step::Step;
@@ -40,6 +41,7 @@ pub(crate) use sources::{Found, window_in};
 pub use state::{PrepareError, PreparedState, State};
 use std::alloc::{AllocError, Global};
 use std::marker::Model;
+pub use way::Way;
 
 /// The lowest revision that is held, the floor, with the document and the sources there, and the changes of the revisions after
 /// it. The first document that is kept may be older: what is seen is computed from it, so that the floor rises without a copy. Further

@@ -23,6 +23,7 @@ use super::noting::{Change, after_taken, change_on, note, note_on};
 use super::replaying::Replay;
 use super::source_table::SourceTable;
 use super::sources::{Found, Sources};
+use super::way::Way;
 use crate::rule::{Limits, Name, Taken, Window};
 use delta::Delta;
 use document::Document;
@@ -350,6 +351,19 @@ impl DocState {
         ensures document { IfOk result (λ document. document ≡ (content_at self.now.past.past revision).units) }
     {
         self.past.document_at(alloc, revision)
+    }
+
+    /// The way to what stood in it at a revision that is held. It applies no delta; to the newest revision no delta leads. Refused as out of
+    /// memory alone.
+    pub fn way_to(&self, alloc: Global, revision: u64) -> Result<Way, AllocError>
+        requires held { self.now.past.past.floor ≤ revision }
+        requires there { revision ≤ newest self.now.past.past }
+        ensures way { IfOk result (λ way. way ≡ (content_at self.now.past.past revision).units) }
+    {
+        if revision == self.revision() {
+            return Ok(Way::here(alloc, self.document().copy(alloc)?));
+        }
+        self.past.way_to(alloc, revision)
     }
 
     /// What a revision that is held is made of: the nearest document that is at hand, the deltas from there in turn, and the sources at

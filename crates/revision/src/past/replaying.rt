@@ -12,6 +12,7 @@ use super::Past;
 use super::copying::copies_of_deltas;
 use super::kept_document::Kept;
 use super::sources::Sources;
+use super::way::Way;
 use crate::rule::Taker;
 use delta::Delta;
 use document::Document;
@@ -36,6 +37,20 @@ impl Past {
         let (from, base) = beginning(self.start, &self.document, self.kept.as_slice(), revision);
         let deltas = &self.deltas.as_slice()[(from - self.start) as usize..];
         document_after(alloc, base, deltas, (revision - from) as usize)
+    }
+
+    /// The way to the document at a revision that is held, from the last document that is kept. It applies no delta. Refused as out of
+    /// memory alone.
+    pub fn way_to(&self, alloc: Global, revision: u64) -> Result<Way, AllocError>
+        requires held { self.now.past.floor ≤ revision }
+        requires there { revision ≤ newest self.now.past }
+        ensures way { IfOk result (λ way. way ≡ (content_at self.now.past revision).units) }
+    {
+        let (from, base) = beginning(self.start, &self.document, self.kept.as_slice(), revision);
+        let deltas = &self.deltas.as_slice()[(from - self.start) as usize..];
+        let document = base.copy(alloc)?;
+        let taken = copies_of_deltas(alloc, &deltas[..(revision - from) as usize])?;
+        Ok(Way::new(document, taken))
     }
 
     /// What a revision that is held is made of: a copy of the nearest document that is at hand, of the deltas from there, and of the
