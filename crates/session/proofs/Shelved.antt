@@ -1,6 +1,6 @@
 -- What the shelf keeps, as documents are found on it and put there.
 use Rattle.std.proofs.Common.{◌≡◌, ◌⊎◌, inl, inr, ℕ, Bool, true, false, cond, List, [], ◌∷◌, map, take, Option, Some, None, refl, sym, ap, subst, ◌∙◌}
-use Rattle.std.specs.Prelude.{not, All, Contains, IfSome, IfOk, option_map, Result, Ok, Err, OnOk, OnErr, bytes_eq, nat_eq, nat_lt}
+use Rattle.std.specs.Prelude.{not, All, Contains, IfOk, Result, Ok, Err, OnOk, OnErr, bytes_eq, nat_eq, nat_lt}
 use Rattle.std.specs.Map.{lookup}
 use Rattle.std.specs.Option.{ForSome}
 use Rattle.std.specs.String.{string_bytes}
@@ -8,8 +8,8 @@ use Rattle.std.proofs.lemmas.Bool.{and_parts, eqb-true}
 use Rattle.std.proofs.lemmas.List.Elements.{All-weaker, All-contains, All-contains_itself, All-map, All-take, All-from_recursion, recursion_from_All}
 use Rattle.std.proofs.lemmas.Slice.Eq.{bytes_eq-Decides}
 use Rattle.std.specs.List.{AllByRecursion}
-use Rattle.lru.specs.LruCache.{LruCache, lru_cache, promoted, put_entries}
-use Rattle.lru.proofs.CallerLemmas.{Contains-promoted, Contains-put_entries, Contains-lookup, IsPut}
+use Rattle.lru.specs.LruCache.{LruCache, lru_cache, put_entries}
+use Rattle.lru.proofs.CallerLemmas.{Contains-put_entries, Contains-lookup, IsPut}
 use Rattle.refusal.specs.declared.Refusal.{Refusal}
 use Rattle.refusal.specs.declared.Refusal.TheVariants.{Deleted, Future, TooOld}
 use Rattle.delta.specs.Element.{Element}
@@ -61,17 +61,6 @@ module _ (state : State) where
       (subst (λ (r : ℕ). IsGiven state (record { name = string_bytes there.0.name; revision = r; units = units })) (sym parts.1)
       (All-contains Given entries (there.0, units) (each entries fits) there.1))
 
-  -- a look-up changes only the order
-  promoted-fits : (entries : List (Key × List Element)) (k : Key) → Fits state (map kept_of entries)
-      → Fits state (map kept_of (promoted (same k) entries))
-  promoted-fits entries k fits =
-      from_each (promoted (same k) entries) (λ entry there. All-contains Given entries entry (each entries fits) (Contains-promoted (same k) entries entry there))
-
-  pub looked_up-fits : (old new : LruCache Key (List Element)) (k : Key) → Fits state (map kept_of old.entries)
-      → new ≡ lru_cache (promoted (same k) old.entries) old.cap → Fits state (map kept_of new.entries)
-  looked_up-fits old new k fits is =
-      subst (λ (cache : LruCache Key (List Element)). Fits state (map kept_of cache.entries)) (sym is) (promoted-fits old.entries k fits)
-
   -- a document that is given may be put there
   pub put-fits : (cache : LruCache Key (List Element)) (k : Key) (units : List Element) → Fits state (map kept_of cache.entries)
       → IsGiven state (kept_of (k, units)) → Fits state (map kept_of (put_entries same cache k units))
@@ -97,11 +86,6 @@ read_held {X} ask revision (Some found) past is = by_tests (is_live found.1) (na
   by_tests true true old e = cc
   by_tests true false true e = cc
   by_tests true false false e = let same_past : found.1.past ≡ past = cc in ap (λ p. Ok (ask p)) same_past
-
--- the document that a look has made is given where the look is
-pub made_given : (state : State) (k : Key) (made : Option (List Element)) (units : List Element) → made ≡ Some units
-    → IfSome (option_map (λ u. kept_of (k, u)) made) (IsGiven state) → IsGiven state (kept_of (k, units))
-made_given state k made units is given = subst (λ (m : Option (List Element)). IfSome (option_map (λ u. kept_of (k, u)) m) (IsGiven state)) is given
 
 -- a document that is given, put there or, out of memory, not
 pub noted-fits : (state : State) (old new : LruCache Key (List Element)) {A B : Type 0} (result : Result A B) (k : Key) (units : List Element)
@@ -158,8 +142,3 @@ read_made reads made (Some state) (Ok answer) now read is gives = gives answer (
 read_made reads made (Some state) (Err refusal) now read is gives = tt
 read_made reads made None (Ok answer) now read is gives = absurd read
 read_made reads made None (Err refusal) now read is gives = tt
-
--- what a look has made, if anything
-pub look_made : {X : Type 0} (P : X → Type 0) (made : Option X) → ForSome made P → IfSome made P
-look_made P None each = tt
-look_made P (Some one) each = each one refl

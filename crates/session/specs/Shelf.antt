@@ -1,6 +1,5 @@
 -- Documents at older revisions, kept for the next one who asks for them; and when they are right of a state.
-use Rattle.std.specs.Prelude.{◌≡◌, ◌⊎◌, ◌≤◌, true, Some, ℕ, List, All, Option, Result, Ok, Err}
-use Rattle.std.specs.Option.{ForSome}
+use Rattle.std.specs.Prelude.{◌≡◌, ◌⊎◌, ◌≤◌, true, Some, ℕ, List, All, Result, Ok, Err}
 use Rattle.refusal.specs.declared.Refusal.{Refusal}
 use Rattle.refusal.specs.declared.Refusal.TheVariants.{Deleted, TooOld, NoMemory}
 use Rattle.delta.specs.Element.{Element}
@@ -39,10 +38,6 @@ IsLater old new = (commands : List Taken) × (all_grow old commands ≡ true) ×
 -- what fits a state fits each later one
 abbrev pub FitsLater : Type 0
 FitsLater = (old new : State) (shelf : List Kept) → IsLater old new → Fits old shelf → Fits new shelf
-
--- what a look has made, if anything, is right of the state
-abbrev pub IsGivenLook : State → Option (Option Kept) → Type 0
-IsGivenLook state look = ForSome look (λ made. ForSome made (IsGiven state))
 
 -- what is shown of a document that is read, or why it isn't, or memory ran out
 abbrev pub IsShown : {X : Type 0} → (List Element → X → Type 0) → Result (List Element) Refusal → Result X Refusal → Type 0

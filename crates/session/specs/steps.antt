@@ -3,4 +3,5 @@ pub mod Changes
 pub mod DueText
 pub mod MessageView
 pub mod Printing
+pub mod Told
 pub mod Tokened

@@ -6,8 +6,9 @@ ghost use Rattle.revision.specs.Pending.{record_of};
 ghost use Rattle.session.specs.declared.question.Question.TheVariants.{Newest, At, Since};
 ghost use Rattle.session.specs.Reads.{told, line_told, read_line};
 ghost use Rattle.session.specs.Reply.{refusal_line};
-ghost use Rattle.session.specs.Shelf.{Fits, IsGivenLook};
+ghost use Rattle.session.specs.Shelf.{Fits};
 ghost use Rattle.session.specs.steps.DueText.{due_text};
+ghost use Rattle.session.specs.steps.Told.{IsTold};
 
 use crate::due::Due;
 use crate::question::Question;
@@ -17,29 +18,24 @@ use refusal::Refusal;
 use revision::{DocState, Name, State};
 use std::alloc::{AllocError, Global};
 
-/// The reply to a question of a document, and the look at the shelf that is to be noted, if there was one.
+/// What comes of a question of a document, inside the view.
 #[derive(Drop)]
-pub struct Told {
-    pub reply: Result<Due, AllocError>,
-    pub look: Option<Look>,
+pub enum Told {
+    /// The reply.
+    Reply(Result<Due, AllocError>),
+    /// A document at an older revision was looked for: the reply is what stands in it, and is made outside of the view.
+    Look(Look),
 }
 
-/// What is told to a question of a document, before it is printed. No text of a document or of a shared delta is copied.
+/// What is told to a question of a document, before it is printed. No text of a document or of a shared delta is copied, and no document is
+/// made.
 pub fn read(alloc: Global, state: &State, shelf: &Shelf, name: &Name, question: Question) -> Told
-    ensures reply { Fits state.now shelf.now
-        → IfOk result.reply (λ due. due_text due ≡ read_line name.now question state.now) }
-    ensures look { IsGivenLook state.now result.look }
+    ensures { Fits state.now shelf.now → IsTold name.now question state.now result }
 {
     match question {
-        Question::Newest => Told {
-            reply: read_newest(alloc, state, name),
-            look: None,
-        },
-        Question::At { rev } => read_at(alloc, state, shelf, name, rev),
-        Question::Since { rev } => Told {
-            reply: read_since(alloc, state, name, rev),
-            look: None,
-        },
+        Question::Newest => Told::Reply(read_newest(alloc, state, name)),
+        Question::At { rev } => look_at(alloc, state, shelf, name, rev),
+        Question::Since { rev } => Told::Reply(read_since(alloc, state, name, rev)),
     }
 }
 
@@ -62,23 +58,12 @@ fn newest_of(alloc: Global, name: &Name, found: &DocState) -> Result<Due, AllocE
     refusal_reply(alloc, Refusal::Deleted)
 }
 
-fn read_at(alloc: Global, state: &State, shelf: &Shelf, name: &Name, rev: u64) -> Told
-    ensures reply { Fits state.now shelf.now
-        → IfOk result.reply (λ due. due_text due ≡ read_line name.now (At rev) state.now) }
-    ensures look { IsGivenLook state.now result.look }
+fn look_at(alloc: Global, state: &State, shelf: &Shelf, name: &Name, rev: u64) -> Told
+    ensures { Fits state.now shelf.now → IsTold name.now (At rev) state.now result }
 {
-    match shelf.show(
-        alloc,
-        state,
-        name,
-        rev,
-        |document| document_reply(alloc, name, document, rev),
-    ) {
-        Ok((reply, look)) => Told { reply, look },
-        Err(refusal) => Told {
-            reply: reply_of_unshown(alloc, refusal),
-            look: None,
-        },
+    match shelf.look(alloc, state, name, rev) {
+        Ok(look) => Told::Look(look),
+        Err(refusal) => Told::Reply(reply_of_unshown(alloc, refusal)),
     }
 }
 

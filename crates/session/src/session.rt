@@ -8,13 +8,14 @@ ghost use Rattle.optext.specs.Answer.{IsAnswer};
 ghost use Rattle.session.specs.Line.{with_byte, TakesText};
 ghost use Rattle.session.specs.Request.{request_of, GreetsSource};
 ghost use Rattle.revision.specs.State as state;
-ghost use Rattle.session.specs.Reply.{greeting as spec_greeting, subscribed_line, unsubscribed_reply as spec_unsubscribed, line_of};
-ghost use Rattle.session.specs.Reads.{read_line, shown_line};
-ghost use Rattle.session.specs.Shelf.{Fits, IsLater, IsGivenLook};
+ghost use Rattle.session.specs.Reply.{document_reply as document_told, greeting as spec_greeting, subscribed_line, unsubscribed_reply as spec_unsubscribed, line_of};
+ghost use Rattle.session.specs.Reads.{shown_line};
+ghost use Rattle.session.specs.Shelf.{Fits, IsGiven, IsLater};
 ghost use Rattle.session.specs.Exchange.{Exchange, Shown, IsReadOf};
 ghost use Rattle.session.specs.Output.{AppendsFront};
 ghost use Rattle.session.specs.Page.{Spells};
 ghost use Rattle.session.specs.steps.DueText.{due_text};
+ghost use Rattle.session.specs.steps.Told.{IsTold};
 ghost use Rattle.session.specs.Subscriptions.{may_follow_shown, subscribed, without_subscription};
 ghost use Rattle.session.specs.News.{AreNews, AreNone, MayBeMissed, going_on};
 ghost use Rattle.session.specs.Calls.{Passes, TellsNews, StopsNews, call_of, with_subscriptions};
@@ -30,11 +31,11 @@ use crate::page::Page;
 use crate::question::Question;
 use crate::reads::{Told, check_held, read};
 use crate::reply::{
-    acknowledgement, greeting, refusal_reply, subscribed_reply, unsubscribed_reply,
+    acknowledgement, document_reply, greeting, refusal_reply, subscribed_reply, unsubscribed_reply,
 };
 use crate::request::Request;
 use crate::sent::Sent;
-use crate::shelf::Shelf;
+use crate::shelf::{Look, Shelf};
 use crate::subscriptions::Subscriptions;
 use json::Scratch;
 use refusal::Refusal;
@@ -495,14 +496,20 @@ fn answer<D: Desk>(
         × IsLine (shown_line name.now question shown) (text_told (λ t. due_text t) result) }
 {
     match view(alloc, desk, shelf, name, question) {
-        Ok(Told { reply, look }) => {
-            if let Some(look) = look {
-                shelf.note(look);
-            }
-            reply
-        }
+        Ok(Told::Reply(reply)) => reply,
+        Ok(Told::Look(look)) => tell_made(alloc, shelf, name, look),
         Err(refusal) => refusal_reply(alloc, refusal),
     }
+}
+
+// Makes the document that was looked for, outside of the view, and tells what stands in it.
+fn tell_made(alloc: Global, shelf: &mut Shelf, name: &Name, look: Look) -> Result<Due, AllocError>
+    ensures told { IfOk result (λ due. due_text due ≡ line_of (document_told name.now look.units look.revision)) }
+    ensures fits { (state : state.State) → Fits state shelf.old → IsGiven state look → Fits state shelf.new }
+{
+    let rev = look.revision();
+    let document = shelf.take(alloc, look)?;
+    document_reply(alloc, name, &document, rev)
 }
 
 // Has the desk show its state once, and reads what is asked of the document of this name.
@@ -516,15 +523,12 @@ fn view<D: Desk>(
     requires fits { Fits (D.reached desk.old) shelf.now }
     ensures fits { Fits (D.reached desk.new) shelf.now }
     ensures told { (shown : Option state.State) × D.does desk.old (Shown shown) desk.new
-        × IsReadOf (λ state answer. IfOk answer.reply (λ due. due_text due
-        ≡ read_line name.now question state)) shown result }
-    ensures look { IfOk result (λ told. IsGivenLook (D.reached desk.new) told.look) }
+        × IsReadOf (IsTold name.now question) shown result }
+    ensures reached { IfOk result (IsTold name.now question (D.reached desk.new)) }
 {
     desk.view(
         |state|
-            ensures reply { Fits state.now shelf.entry.now
-                → IfOk result.reply (λ due. due_text due ≡ read_line name.entry.now question state.now) }
-            ensures look { IsGivenLook state.now result.look }
+            ensures { Fits state.now shelf.entry.now → IsTold name.entry.now question state.now result }
         { read(alloc, state, shelf, name, question) },
     )
 }

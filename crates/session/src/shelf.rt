@@ -1,17 +1,16 @@
 //! Documents at older revisions, kept for the next one who asks for them.
-ghost use Rattle.std.specs.Prelude.{◌≡◌, ◌≤◌, [], length, IfOk, IfSome};
-ghost use Rattle.std.specs.Fn.{FnOnceReturnsAt};
+ghost use Rattle.std.specs.Prelude.{◌≡◌, ◌≤◌, [], length, IfOk};
 ghost use Rattle.std.specs.String.{string_bytes};
 ghost use Rattle.revision.specs.Past.{newest};
 ghost use Rattle.revision.specs.Pending.{record_of};
 ghost use Rattle.revision.specs.Readings.{document_at, past_at, read_as};
 ghost use Rattle.revision.specs.State as spec;
-ghost use Rattle.session.specs.Shelf.{Fits, IsGiven, IsGivenLook, IsShown};
+ghost use Rattle.session.specs.Shelf.{Fits, IsGiven, IsShown};
 
 use document::Document;
 use lru::LruCache;
 use refusal::Refusal;
-use revision::{DocState, Name, State};
+use revision::{DocState, Name, State, Way};
 use std::alloc::{AllocError, Global};
 use std::marker::Model;
 use std::num::NonZeroUsize;
@@ -63,23 +62,30 @@ impl Model for Shelf {
     ghost invariant = { λ s. s.documents.cap ≡ 64 };
 }
 
-/// What came of looking for a document on the shelf. `Shelf::note` takes it afterwards. Its value is the document where it had to
-/// be made, and none where it was there.
+/// A document at an older revision that was looked for: the way to it, by which it is made outside of the view. Its value is what stands in
+/// it, with its name and its revision.
 #[derive(Drop)]
 pub struct Look {
     key: Key,
-    made: Option<Document>,
+    way: Way,
 }
 
 impl Model for Look {
-    ghost use Rattle.std.specs.Prelude.{Option, option_map};
     ghost use Rattle.std.specs.String.{string_bytes};
     ghost use Rattle.session.specs.Shelf.{Kept};
 
-    ghost Value = { Option Kept };
+    ghost Value = { Kept };
 
-    ghost view = { λ l. option_map
-        (λ units. record { name = string_bytes l.key.name; revision = l.key.revision; units = units }) l.made };
+    ghost view = { λ l. record { name = string_bytes l.key.name; revision = l.key.revision; units = l.way } };
+}
+
+impl Look {
+    /// The revision that was asked for.
+    pub fn revision(&self) -> u64
+        ensures { result ≡ self.now.revision }
+    {
+        self.key.revision
+    }
 }
 
 impl Shelf {
@@ -103,54 +109,42 @@ impl Shelf {
         self.documents.len()
     }
 
-    /// Shows what stood in a document at a revision, and gives the look to be noted. Refused with `NoDocument`, `Deleted` where it is
-    /// deleted now, `Future` where the revision is above the newest one, `TooOld` where it is below the floor, and out of memory where the
-    /// document can't be made.
-    pub fn show<R, F: Drop + FnOnce(&Document) -> R>(
+    /// Looks for a document at a revision. Where it isn't kept, the way to it is found, and it is not made: that is for `take`. Refused with
+    /// `NoDocument`, `Deleted` where it is deleted now, `Future` where the revision is above the newest one, `TooOld` where it is below the
+    /// floor, and out of memory.
+    pub fn look(
         &self,
         alloc: Global,
         state: &State,
         name: &Name,
         revision: u64,
-        show: F,
-    ) -> Result<(R, Option<Look>), Refusal>
-        requires { F.IsAlwaysCallable show }
+    ) -> Result<Look, Refusal>
+        ensures named { IfOk result (λ look. look.name ≡ name.now) }
+        ensures revision { IfOk result (λ look. look.revision ≡ revision) }
         // Over a shelf that fits the state it is what is shown without one.
-        ensures shown { Fits state.now self.now → IsShown (λ units answer. FnOnceReturnsAt F.FnOnce show units answer.0)
-            (document_at state.now name.now revision) result }
-        ensures given { IfOk result (λ shown. IsGivenLook state.now shown.1) }
+        ensures shown { Fits state.now self.now
+            → IsShown (λ units look. look.units ≡ units) (document_at state.now name.now revision) result }
     {
         let found = held_at(state, name, revision)?;
-        let Ok(key) = Key::new(alloc, name, revision) else {
-            let document = found.document_at(alloc, revision)?;
-            return Ok((show(&document), None));
-        };
+        let key = Key::new(alloc, name, revision)?;
         if let Some(document) = self.documents.peek(&key) {
-            let shown = show(document);
-            return Ok((shown, Some(Look { key, made: None })));
+            let way = Way::here(alloc, document.copy(alloc)?);
+            return Ok(Look { key, way });
         }
-        let document = found.document_at(alloc, revision)?;
-        let shown = show(&document);
-        Ok((
-            shown,
-            Some(Look {
-                key,
-                made: Some(document),
-            }),
-        ))
+        let way = found.way_to(alloc, revision)?;
+        Ok(Look { key, way })
     }
 
-    /// Notes a look. A document that was made is kept, if there is memory for it, and those that nobody asked for longest give way to it.
-    pub fn note(&mut self, look: Look)
-        ensures { (state : spec.State) → Fits state self.old → IfSome look (IsGiven state) → Fits state self.new }
+    /// Makes a document that was looked for, and keeps it, if there is memory for it. Those that nobody asked for longest give way to it.
+    /// Refused as out of memory alone.
+    pub fn take(&mut self, alloc: Global, look: Look) -> Result<Document, AllocError>
+        ensures document { IfOk result (λ document. document ≡ look.units) }
+        ensures fits { (state : spec.State) → Fits state self.old → IsGiven state look → Fits state self.new }
     {
-        let Look { key, made } = look;
-        match made {
-            Some(document) => self.keep(key, document),
-            None => {
-                self.documents.promote(&key);
-            }
-        }
+        let Look { key, way } = look;
+        let document = way.made(alloc)?;
+        self.keep(key, document.copy(alloc)?);
+        Ok(document)
     }
 
     // Keeps a document, if there is memory for it, and lets others go for it.
