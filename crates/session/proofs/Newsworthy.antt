@@ -1,11 +1,14 @@
 -- News of documents, one after another and from one call to the next.
 use Rattle.std.proofs.Common.{◌≡◌, ◌+◌, ◌-◌, ◌≤◌, ◌<◌, ◌++◌, ℕ, max, List, [], ◌∷◌, length, map, take, drop, get_or, Bool, true, false, cond, Option, Some, None, refl, sym, ap, ap₂, ◌∙◌, append_assoc, append-nil, arith}
-use Rattle.std.specs.Prelude.{nat_lt}
+use Rattle.std.specs.Prelude.{nat_lt, bytes_eq, slice_get, zero, suc}
 use Rattle.std.proofs.lemmas.Bool.{or_parts}
 use Rattle.std.proofs.lemmas.Bool.Decides.{nat_tests}
+use Rattle.std.proofs.lemmas.Option.{none-some, same_Some}
+use Rattle.std.proofs.lemmas.Slice.Eq.{bytes_eq-Decides}
 use Rattle.std.proofs.lemmas.List.{drop_all, drop-drop, take-append-drop, length-map, take_more, map_more}
 use Rattle.delta.specs.Operation.{Operation}
 use Rattle.revision.specs.Past.{Past, newest, deltas_of, deltas_above}
+use Rattle.revision.specs.Invariants.{NamesDiffer}
 use Rattle.revision.specs.State.{DocumentRecord, State, find}
 use Rattle.session.specs.Reply.{news_line}
 use Rattle.session.specs.Subscriptions.{Subscriptions}
@@ -171,3 +174,20 @@ pub last-next : (subscriptions : Subscriptions) (i : ℕ) (one : List ℕ × ℕ
 last-next subscriptions i one state inside is =
     ap (λ (o : List ℕ × ℕ). map (λ o. last_in state o.0 o.1) (take i subscriptions) ++ last_in state o.0 o.1 ∷ []) is
     ∙ sym (map_more (λ (o : List ℕ × ℕ). last_in state o.0 o.1) subscriptions i one inside)
+
+-- the document at a number that has a name is the one that is found by this name
+pub found_under : (name : List ℕ) (first : ℕ) (documents : List DocumentRecord) (number : ℕ) (found : DocumentRecord) → NamesDiffer documents
+    → slice_get documents number ≡ Some found → found.name ≡ name → find name first documents ≡ Some (first + number, found)
+found_under name first [] number found differ at named = absurd (none-some _ at)
+found_under name first (one ∷ others) zero found differ at named =
+    let same : bytes_eq one.name name ≡ true = (bytes_eq-Decides one.name name).1 (ap (λ (d : DocumentRecord). d.name) (same_Some one found at) ∙ named) in
+    rw same (ap (λ (d : DocumentRecord). Some (first, d)) (same_Some one found at) ∙ ap (λ n. Some (n, found)) (let e : first ≡ first + 0 = omega arith in e))
+found_under name first (one ∷ others) (suc number) found differ at named =
+    elim (bytes_eq one.name name) as (λ b. bytes_eq one.name name ≡ b → cond b (Some (first, one)) (find name (first + 1) others) ≡ Some (first + suc number, found)) [
+      | true ↦ λ same.
+          let e : 0 ≡ suc number = differ 0 (suc number) one found refl at ((bytes_eq-Decides one.name name).0 same ∙ sym named) in
+          absurd (omega (arith, e))
+      | false ↦ λ _.
+          found_under name (first + 1) others number found (λ i j a b there here same. let e : suc i ≡ suc j = differ (suc i) (suc j) a b there here same in omega (arith, e)) at named
+          ∙ ap (λ n. Some (n, found)) (let e : first + 1 + number ≡ first + suc number = omega arith in e)
+    ] refl

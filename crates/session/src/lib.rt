@@ -12,7 +12,8 @@
 //!
 //! A reply and news are printed while they are written, on a page of fixed size (`PAGE`, `specs/Page.antt`) and after the desk has shown
 //! its state: until then they are held as what they print, deltas and documents that are shared with the state (`due`). Memory is taken
-//! for the list of these alone, so `NoMemory` is the whole reply or nothing of it.
+//! for the list of these alone, so `NoMemory` is the whole reply or nothing of it. Of a document at an older revision only the way there is
+//! found while the state is shown; it is made after that, or was kept (`shelf`).
 //!
 //! It writes to an `Output`, which takes nothing more once a write has failed (`Stream` makes one of a writer). A write that
 //! fails ends the session, and nothing else does; what was written then is a prefix of what was due.

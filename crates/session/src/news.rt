@@ -1,5 +1,5 @@
 //! What is told of the documents that a session follows.
-ghost use Rattle.std.specs.Prelude.{◌≡◌, ◌++◌, flat_map, Some, None, Ok, true, IfOk, IfSome, OnOk, OnErr};
+ghost use Rattle.std.specs.Prelude.{◌≡◌, ◌++◌, flat_map, option_map, Some, None, Ok, true, IfOk, IfSome, OnOk, OnErr};
 ghost use Rattle.revision.specs.Pending.{record_of};
 ghost use Rattle.revision.specs.State.{find};
 ghost use Rattle.session.specs.News as spec;
@@ -32,7 +32,7 @@ impl News {
         ensures none { result ≡ Ok None → spec.AreNone subscriptions.now (Some state.now) }
         ensures wanted { OnErr result (spec.has_news subscriptions.now state.now ≡ true) }
     {
-        if has_news(subscriptions.entries(), state) {
+        if has_news(subscriptions, state) {
             let news = News::collect(alloc, subscriptions, state)?;
             return Ok(Some(news));
         }
@@ -50,33 +50,52 @@ impl News {
         let entries = subscriptions.entries();
         let mut lines = Vec::new(alloc);
         let mut last = Vec::with_capacity(alloc, entries.len())?;
+        let mut place: usize = 0;
         for entry in entries {
-            let next = tell(alloc, state, &entry.0, entry.1, &mut lines)?;
+            let number = subscriptions.number(place);
+            let next = tell(alloc, state, &entry.0, number, entry.1, &mut lines)?;
             last.push(next)?;
+            place = place.wrapping_add(1);
         }
         Ok(News { lines, last })
     }
 }
 
 // Whether there is something to tell.
-fn has_news(entries: &[(Name, u64)], state: &State) -> bool
-    ensures { result ≡ spec.has_news entries.now state.now }
+fn has_news(subscriptions: &Subscriptions, state: &State) -> bool
+    ensures { result ≡ spec.has_news subscriptions.now state.now }
 {
+    let entries = subscriptions.entries();
+    let mut place: usize = 0;
     for entry in entries {
-        if has_later(state, &entry.0, entry.1) {
+        if has_later(state, &entry.0, subscriptions.number(place), entry.1) {
             return true;
         }
+        place = place.wrapping_add(1);
     }
     false
 }
 
-fn has_later(state: &State, name: &Name, last: u64) -> bool
+fn has_later(state: &State, name: &Name, number: u32, last: u64) -> bool
     ensures { result ≡ spec.has_later last (find name.now 0 state.now.documents) }
 {
-    match state.find(name) {
+    match find_from(state, name, number) {
         Some((_, found)) => last < found.revision(),
         None => false,
     }
+}
+
+// The document of a name, which is looked for at a number first.
+fn find_from<'a>(state: &'a State, name: &Name, number: u32) -> Option<(u32, &'a DocState)>
+    ensures { option_map (λ p. (p.0, record_of p.1.now)) result ≡ find name.now 0 state.now.documents }
+{
+    state.facts();
+    if let Some(found) = state.documents().get(number as usize) {
+        if found.name().as_str() == name.as_str() {
+            return Some((number, found));
+        }
+    }
+    state.find(name)
 }
 
 // Adds what is told of a document, and gives the revision that is told last then.
@@ -84,6 +103,7 @@ fn tell(
     alloc: Global,
     state: &State,
     name: &Name,
+    number: u32,
     last: u64,
     lines: &mut Vec<Due>,
 ) -> Result<Option<u64>, AllocError>
@@ -91,7 +111,7 @@ fn tell(
         ++ spec.lines_in state.now name.now last) }
     ensures last { IfOk result (λ told. told ≡ spec.last_in state.now name.now last) }
 {
-    match state.find(name) {
+    match find_from(state, name, number) {
         Some((_, found)) => tell_of(alloc, name, found, last, lines),
         None => Ok(Some(last)),
     }

@@ -112,6 +112,14 @@ pub fn check_held(state: &State, name: &Name, rev: u64) -> Result<(), Refusal>
     }
 }
 
+/// The number of a document, 0 where it isn't there. It takes no memory.
+pub fn number_of(state: &State, name: &Name) -> u32 {
+    match state.find(name) {
+        Some((number, _)) => number,
+        None => 0,
+    }
+}
+
 fn check_rev(found: &DocState, rev: u64) -> Result<(), Refusal>
     ensures { result ≡ at_revision rev (Some (0, record_of found.now)) (λ past. tt) }
 {

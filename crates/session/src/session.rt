@@ -29,7 +29,7 @@ use crate::news::News;
 use crate::output::{Output, WriteError};
 use crate::page::Page;
 use crate::question::Question;
-use crate::reads::{Told, check_held, read};
+use crate::reads::{Told, check_held, number_of, read};
 use crate::reply::{
     acknowledgement, document_reply, greeting, refusal_reply, subscribed_reply, unsubscribed_reply,
 };
@@ -402,11 +402,12 @@ impl Session {
             × IfOk result (λ due. due_text due ≡ subscribed_line name rev (may_follow_shown name rev shown))
             × OnErr result (self.new ≡ self.old) }
     {
-        if let Err(refusal) = show_held(desk, &name, rev) {
+        let (held, number) = show_held(desk, &name, rev);
+        if let Err(refusal) = held {
             return refusal_reply(alloc, refusal);
         }
         let reply = subscribed_reply(alloc, &name, rev)?;
-        self.subscriptions.set(name, rev)?;
+        self.subscriptions.set(name, number, rev)?;
         Ok(reply)
     }
 
@@ -533,15 +534,15 @@ fn view<D: Desk>(
     )
 }
 
-// Has the desk show its state once, and tells whether that holds a document at a revision.
-fn show_held<D: Desk>(desk: &mut D, name: &Name, rev: u64) -> Result<(), Refusal>
+// Has the desk show its state once, and tells whether that holds a document at a revision; with the document's number.
+fn show_held<D: Desk>(desk: &mut D, name: &Name, rev: u64) -> (Result<(), Refusal>, u32)
     ensures later { IsLater (D.reached desk.old) (D.reached desk.new) }
     ensures told { (shown : Option state.State) × D.does desk.old (Shown shown) desk.new
-        × (result ≡ may_follow_shown name.now rev shown) }
+        × (result.0 ≡ may_follow_shown name.now rev shown) }
 {
-    match desk.view(|state| check_held(state, name, rev)) {
+    match desk.view(|state| (check_held(state, name, rev), number_of(state, name))) {
         Ok(held) => held,
-        Err(refusal) => Err(refusal),
+        Err(refusal) => (Err(refusal), 0),
     }
 }
 

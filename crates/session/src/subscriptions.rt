@@ -16,6 +16,8 @@ use std::marker::Model;
 #[derive(Drop)]
 pub struct Subscriptions {
     list: Vec<(Name, u64)>,
+    /// The number of each one's document, where it is looked for first. No clause says more of it.
+    numbers: Vec<u32>,
 }
 
 impl Model for Subscriptions {
@@ -38,6 +40,7 @@ impl Subscriptions {
     {
         Subscriptions {
             list: Vec::new(alloc),
+            numbers: Vec::new(alloc),
         }
     }
 
@@ -46,6 +49,14 @@ impl Subscriptions {
         ensures { result.now ≡ self.now }
     {
         self.list.as_slice()
+    }
+
+    /// The number at which the document of an entry is looked for first.
+    pub fn number(&self, place: usize) -> u32 {
+        match self.numbers.get(place) {
+            Some(number) => *number,
+            None => 0,
+        }
     }
 
     // Where the name stands, or else where it would stand.
@@ -62,9 +73,9 @@ impl Subscriptions {
         Err(self.list.len())
     }
 
-    /// Follows a document from a revision on, in place of an earlier subscription. An `Err` changes nothing; where the
+    /// Follows a document, which has this number, from a revision on, in place of an earlier subscription. An `Err` changes nothing; where the
     /// document is followed already it takes no memory.
-    pub fn set(&mut self, name: Name, revision: u64) -> Result<(), AllocError>
+    pub fn set(&mut self, name: Name, number: u32, revision: u64) -> Result<(), AllocError>
         ensures ok { OnOk result (self.new ≡ with_subscription self.old name revision) }
         ensures unchanged { OnErr result (self.new ≡ self.old) }
     {
@@ -75,6 +86,7 @@ impl Subscriptions {
             }
             Err(i) => {
                 self.list.insert(i, (name, revision))?;
+                put_number(&mut self.numbers, i, number);
                 Ok(())
             }
         }
@@ -86,6 +98,7 @@ impl Subscriptions {
     {
         if let Ok(i) = self.place(name.as_str()) {
             drop(self.list.remove(i));
+            drop_number(&mut self.numbers, i);
         }
     }
 
@@ -94,12 +107,12 @@ impl Subscriptions {
         requires { length last.now ≡ length self.old }
         ensures { self.new ≡ going_on self.old last.now }
     {
-        keep_last(&mut self.list, last);
+        keep_last(&mut self.list, &mut self.numbers, last);
     }
 }
 
 // Goes from the last entry to the first, so that one that is taken out moves none that is still to come.
-fn keep_last(list: &mut Vec<(Name, u64)>, last: &[Option<u64>])
+fn keep_last(list: &mut Vec<(Name, u64)>, numbers: &mut Vec<u32>, last: &[Option<u64>])
     requires { length last.now ≡ length list.old.items }
     ensures { list.new.items ≡ going_on list.old.items last.now }
 {
@@ -108,7 +121,23 @@ fn keep_last(list: &mut Vec<(Name, u64)>, last: &[Option<u64>])
         left -= 1;
         match last[left] {
             Some(revision) => list[left].1 = revision,
-            None => drop(list.remove(left)),
+            None => {
+                drop(list.remove(left));
+                drop_number(numbers, left);
+            }
         }
+    }
+}
+
+// Puts a number at a place. Where there is no memory for it, the numbers behind it are no longer those of their documents.
+fn put_number(numbers: &mut Vec<u32>, place: usize, number: u32) {
+    if place <= numbers.len() {
+        let _ = numbers.insert(place, number);
+    }
+}
+
+fn drop_number(numbers: &mut Vec<u32>, place: usize) {
+    if place < numbers.len() {
+        numbers.remove(place);
     }
 }
