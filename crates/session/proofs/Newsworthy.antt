@@ -1,14 +1,15 @@
 -- News of documents, one after another and from one call to the next.
-use Rattle.std.proofs.Common.{◌≡◌, ◌+◌, ◌-◌, ◌≤◌, ◌<◌, ◌++◌, ℕ, max, List, [], ◌∷◌, length, map, take, drop, get_or, Bool, true, false, cond, Option, Some, None, refl, sym, ap, ap₂, ◌∙◌, append_assoc, append-nil, arith}
-use Rattle.std.specs.Prelude.{nat_lt, bytes_eq, slice_get, zero, suc}
+use Rattle.std.proofs.Common.{◌≡◌, ◌+◌, ◌-◌, ◌≤◌, ◌<◌, ◌++◌, ℕ, max, List, [], ◌∷◌, length, map, take, drop, get_or, Bool, true, false, cond, Option, Some, None, refl, sym, ap, ap₂, subst, ◌∙◌, append_assoc, append-nil, arith}
+use Rattle.std.specs.Prelude.{nat_lt, bytes_eq, slice_get, option_map, zero, suc}
 use Rattle.std.proofs.lemmas.Bool.{or_parts}
 use Rattle.std.proofs.lemmas.Bool.Decides.{nat_tests}
-use Rattle.std.proofs.lemmas.Option.{none-some, same_Some}
+use Rattle.std.proofs.lemmas.Option.{none-some, same_Some, slice_get-map}
 use Rattle.std.proofs.lemmas.Slice.Eq.{bytes_eq-Decides}
 use Rattle.std.proofs.lemmas.List.{drop_all, drop-drop, take-append-drop, length-map, take_more, map_more}
 use Rattle.delta.specs.Operation.{Operation}
 use Rattle.revision.specs.Past.{Past, newest, deltas_of, deltas_above}
 use Rattle.revision.specs.Invariants.{NamesDiffer}
+use Rattle.revision.specs.Pending.{PendingDocument, record_of}
 use Rattle.revision.specs.State.{DocumentRecord, State, find}
 use Rattle.session.specs.Reply.{news_line}
 use Rattle.session.specs.Subscriptions.{Subscriptions}
@@ -191,3 +192,13 @@ found_under name first (one ∷ others) (suc number) found differ at named =
           found_under name (first + 1) others number found (λ i j a b there here same. let e : suc i ≡ suc j = differ (suc i) (suc j) a b there here same in omega (arith, e)) at named
           ∙ ap (λ n. Some (n, found)) (let e : first + 1 + number ≡ first + suc number = omega arith in e)
     ] refl
+
+-- the same of documents as a state holds them
+pub found_at : (name : List ℕ) (held : List PendingDocument) (documents : List DocumentRecord) (number : ℕ) (found : PendingDocument) → NamesDiffer documents
+    → map record_of held ≡ documents → slice_get held number ≡ Some found → found.name ≡ name → Some (number, record_of found) ≡ find name 0 documents
+found_at name held documents number found differ are at named =
+    let there : slice_get documents number ≡ Some (record_of found) =
+    subst (λ (l : List DocumentRecord). slice_get l number ≡ Some (record_of found)) are
+    (slice_get-map record_of held number ∙ ap (λ (d : Option PendingDocument). option_map record_of d) at) in
+    sym (found_under name 0 documents number (record_of found) differ there named
+    ∙ ap (λ n. Some (n, record_of found)) (let e : 0 + number ≡ number = omega arith in e))

@@ -1,4 +1,4 @@
-use Rattle.std.proofs.Common.{◌≡◌, sym, subst}
+use Rattle.std.proofs.Common.{sym, subst}
 use Rattle.revision.specs.State.{State}
 use Rattle.session.specs.Shelf.{Fits}
 use Rattle.session.specs.steps.Told.{IsTold}
