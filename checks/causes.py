@@ -10,9 +10,13 @@ and on a second line `richd: `, what was tried with what, and the system's reaso
 A store that fails while it is served has its refusal on standard error at that moment, once, over TCP and over standard input. Each command from
 then on gets StoreFailed, and a session over standard input ends with `error 21 StoreFailed`, status 1.
 
+Each file that is there when a command opens it is locked, synced and dropped from the system's memory whole, in this order, before anything else is
+done with it: strace shows that. A command whose file can't be dropped says so as above. A file that is made is synced, and its folder is, before it
+is written to.
+
 Run ./demo first, which builds crates/richd/out/richd, or name another program in RICHD. It needs a C compiler, `cc`; a full disk, for which a
-small file system is mounted, and a file that mayn't be read, for which it takes the user nobody, are tried by the superuser alone. The
-stores lie in a temporary folder (TMPDIR).
+small file system is mounted, and a file that mayn't be read, for which it takes the user nobody, are tried by the superuser alone, and what strace
+shows where it may trace. The stores lie in a temporary folder (TMPDIR).
 """
 import fcntl
 import json
@@ -20,10 +24,12 @@ import os
 import re
 import select
 import shutil
+import signal
 import socket
 import subprocess
 import tempfile
 import time
+from pathlib import Path
 
 from first_format import in_first_format
 from refusing import FAULT, PATIENCE, STORE_FAILED, S, Disagreement, Refusal, Skipped, agree, content_of, library_in, play_each, richd, undisturbed
@@ -57,7 +63,7 @@ def refused(words, what, reason, **how):
 def commands(path):
     """Each command that opens a store that is there."""
     serves = [["serve", path], ["serve", path, "--listen", "127.0.0.1:0"]]
-    return [["format", path], ["dump", path], *serves, ["migrate", path, fresh()], ["copy", path, fresh()]]
+    return [["format", path], ["dump", path], ["info", path], ["check", path], *serves, ["migrate", path, fresh()], ["copy", path, fresh()]]
 
 
 def fresh():
@@ -255,7 +261,96 @@ def failing_store():
                     raise Disagreement(f"{kind} {later} ({how}), {'over TCP' if is_listening else 'over pipes'}: {disagreement}") from None
 
 
-ROWS = [missing, a_folder, no_leave, locked, addresses, one_line, full_disk, failing_store]
+# What is done first with a file that is there, as strace prints it. Looks at its length aside, nothing comes in between.
+SETTLED = ["openat(..) = FILE", "flock(FILE, LOCK_EX|LOCK_NB) = 0", "fdatasync(FILE) = 0", "fadvise64(FILE, 0, 0, POSIX_FADV_DONTNEED) = 0"]
+LOOKS = ("statx(", "newfstatat(", "fstat(", "fcntl(")
+
+
+def traced(words, *options):
+    """Runs a command under strace, a server until it listens: what came of it, and its calls on files and folders."""
+    log = os.path.join(folder, "calls")
+    command = ["strace", "-f", "-y", "-e", "trace=%desc", "-o", log, *options, program, *words]
+    pipes = {"stdin": subprocess.DEVNULL, "stdout": subprocess.PIPE, "stderr": subprocess.PIPE}
+    with subprocess.Popen(command, start_new_session=True, **pipes) as process:
+        if "--listen" in words and process.stdout.readline():
+            os.killpg(process.pid, signal.SIGTERM)
+        output, errors = process.communicate(timeout=PATIENCE)
+    return subprocess.CompletedProcess(words, process.returncode, output, errors), content_of(log).decode(errors="replace").splitlines()
+
+
+def calls_on(path, lines):
+    """Those on a file, which is called FILE in them."""
+    named = re.compile(rf"\d+<{re.escape(os.path.realpath(path))}>")
+    calls = (named.sub("FILE", re.sub(r"^\d+ +", "", line)) for line in lines if named.search(line))
+    return [re.sub(r" +=", " =", re.sub(r"openat\(.*\)", "openat(..)", call)) for call in calls]
+
+
+def may_trace():
+    if shutil.which("strace") is None or subprocess.run(["strace", "-o", os.devnull, "true"], capture_output=True).returncode:
+        raise Skipped("there is no strace, or it may not trace")
+
+
+def there():
+    """A file that is there and holds no store, as long as one."""
+    path = os.path.join(folder, "there")
+    with open(path, "wb") as file:
+        file.write(bytes(len(made)))
+    return path
+
+
+def openings():
+    """Each command that opens a file that is there, with all such files that it opens."""
+    yield ["format", there(), *S], [there()]
+    for words in (["dump"], ["dump", "--pick", "older"], ["info"], ["check"], ["serve"], ["serve", "--listen", "127.0.0.1:0"]):
+        yield [words[0], store, *words[1:]], [store]
+    for command, path in (("copy", store), ("migrate", old)):
+        yield [command, path, fresh()], [path]
+        Path(fresh()).unlink(missing_ok=True)
+        yield [command, path, there()], [path, there()]
+
+
+def settled():
+    may_trace()
+    for words, paths in openings():
+        done, lines = traced(words)
+        agree(done.returncode == (-signal.SIGTERM if "--listen" in words else 0), f"{words}: {done}")
+        for path in paths:
+            calls = calls_on(path, lines)
+            first = [call for call in calls if not call.startswith(LOOKS)][: len(SETTLED)]
+            agree(first == SETTLED, f"{words} begins with {first} on {path}")
+            agree(sum(call.startswith("openat") for call in calls) == 1, f"{words} opens {path} once more")
+
+
+def not_dropped():
+    may_trace()
+    for words, paths in openings():
+        for number, path in enumerate(paths, 1):
+            before = content_of(path)
+            done, lines = traced(words, "-e", f"inject=fadvise64:error=EIO:when={number}")
+            agree((done.returncode, done.stdout) == (1, b""), f"{words}: {done}")
+            is_fault(done.stderr, path, "input/output error|i/o error")
+            agree(content_of(path) == before, f"{words} has changed {path}")
+            agree(not [call for call in calls_on(path, lines) if call.startswith(("read", "pread", "write", "pwrite"))], f"{words} goes on with {path}")
+    done, _ = traced(["format", fresh(), *S], "-e", "inject=fadvise64:error=EIO")
+    is_fault(done.stderr, fresh(), "input/output error|i/o error")
+    agree(not os.path.exists(fresh()), "a file that can't be dropped is left")
+
+
+def made_files():
+    """The new file and its folder are synced before anything is written to it."""
+    may_trace()
+    for words in (["format", fresh(), *S], ["format", fresh(), *S, "--reserve"], ["copy", store, fresh()], ["migrate", old, fresh()]):
+        done, lines = traced(words)
+        agree(done.returncode == 0, f"{words}: {done}")
+        of_folder = [number for number, line in enumerate(lines) if re.search(rf" fsync\(\d+<{re.escape(os.path.realpath(folder))}>\) += 0", line)]
+        first = next(number for number, line in enumerate(lines) if " pwrite64(" in line and os.path.realpath(fresh()) in line)
+        agree(of_folder and of_folder[0] < first, f"{words} writes before the folder is synced")
+        calls = calls_on(fresh(), lines[:first])
+        agree("fdatasync(FILE) = 0" in calls[calls.index(f"ftruncate(FILE, {os.path.getsize(fresh())}) = 0") :], f"{words} begins with {calls}")
+        os.unlink(fresh())
+
+
+ROWS = [missing, a_folder, no_leave, locked, addresses, one_line, full_disk, failing_store, settled, not_dropped, made_files]
 with tempfile.TemporaryDirectory() as folder:
     os.chmod(folder, 0o755)
     program = shutil.copy(richd, os.path.join(folder, "richd"))  # where nobody can run it

@@ -250,6 +250,16 @@ def check_counts():
             find(script, "docs/TESTS.md doesn't name it")
 
 
+# The last column of the table of what the gate costs: how many edits there are.
+def check_costs():
+    document = TOP / "docs/CONTRIBUTING.md"
+    table = re.search(r"^<!-- costs: .*^<!-- end of costs -->", document.read_text(), re.M | re.S)[0]
+    for crate, column in re.findall(r"^\| ([a-z_0-9]+|\*\*all: \d+\*\*) \|.*\|([^|]*) \|$", table, re.M):
+        edits = len([*CRATES.glob(f"{'*' if crate.startswith('*') else crate}/must-fail/*.edit")])
+        if not re.fullmatch(rf"[\d. ]*\({edits}\)" if edits else r"[\d. ]*", column):
+            find(document, f"{crate} has {edits} edits, and not{column}")
+
+
 # A row of runs stands in both files.
 def check_rows():
     folder = CRATES / "test_server"
@@ -328,6 +338,7 @@ check_callers()
 check_quoted()
 check_lengths()
 check_counts()
+check_costs()
 check_rows()
 check_comments()
 check_phrases()

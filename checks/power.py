@@ -8,9 +8,10 @@ A round is a new file system on a loop device, and a new store. Twelve writers p
 delete documents of their own. Four times, at a random moment and for up to half a second, the device is cut short before the store, so that the
 kernel refuses what is written or read there (EIO): a sync of the server fails, its clients get 21, and it ends by `--exit-on-failure`. It is
 started again wherever it has ended, as by the unit of docs/OPERATIONS.md; the writers send again what got 21 or no reply, and put more words.
-Then the power is cut: the file system is shut down without writing anything, and mounted anew. All that was answered `taken` or `again` has to
-be there, by the newer milestones and by the older, and nothing that nobody sent, and `check` has to find it sound. The server and the writers go on
-with it, and the power is cut once more.
+Then the power is cut: the file system is shut down without writing anything, and mounted anew. That this is a cut is looked at each time: another
+file is written over just before, and what nobody synced mustn't be there afterwards. All that was answered `taken` or `again` has to be there, by
+the newer milestones and by the older, and nothing that nobody sent, and `check` has to find it sound. The server and the writers go on with it, and
+the power is cut once more.
 
 Meanwhile an archiver follows the store, its archive on another disk, and is started again where it ends, as it can't read a disk that refuses. After
 each cut the archive has to be the store, with each command that was answered once, under its revision, or in a gap that it tells.
@@ -42,6 +43,7 @@ FAILURES = 4  # of a round
 STORE_FAILED = 21
 SIZE = 320 << 20  # bytes of a disk: xfs takes no fewer than 300 MB
 SECTOR = 512
+PROBE = 1 << 16  # bytes that are written before a cut, and not synced
 
 # How a file system is made: what it keeps of itself lies before its files, where nothing is refused.
 MAKE = {
@@ -68,10 +70,11 @@ def run(*words):
 
 
 class Disk:
-    """A file, and the loop device over it while it is mounted, which the system frees then."""
+    """A file, and the loop device over it while it is mounted, which the system frees then. A file on it shows whether a cut of its power is one."""
 
     def __init__(self, folder):
         self.image, self.top = os.path.join(folder, "disk"), os.path.join(folder, "top")
+        self.probe, self.unsynced = os.path.join(self.top, "probe"), b""
         os.mkdir(self.top)
 
     def make(self, kind):
@@ -81,6 +84,9 @@ class Disk:
             image.truncate(SIZE)
         run(*MAKE[kind], self.image)
         self.mount()
+        with open(self.probe, "wb") as probe:
+            probe.write(bytes(PROBE))
+            os.fsync(probe.fileno())
 
     def mount(self):
         run("mount", "-o", "loop", self.image, self.top)
@@ -103,12 +109,22 @@ class Disk:
             fcntl.ioctl(device, LOOP_SET_STATUS64, info)
 
     def cut_power(self):
-        """What the disk lacks by now it never gets."""
+        """What the disk lacks by now it never gets, as what is put into the probe here."""
+        self.unsynced = os.urandom(PROBE)
+        with open(self.probe, "r+b") as probe:
+            probe.write(self.unsynced)
         top = os.open(self.top, os.O_RDONLY)
         try:
             fcntl.ioctl(top, FS_IOC_SHUTDOWN, struct.pack("<I", WITHOUT_FLUSH))
         finally:
             os.close(top)
+
+    def mount_after_cut(self):
+        """Mounts it anew. Where what nobody synced is there, no power was cut, and this script shows nothing."""
+        self.unmount()
+        self.mount()
+        with open(self.probe, "rb") as probe:
+            assert probe.read() != self.unsynced, "the cut of the power was none: what nobody synced is there"
 
 
 class Unit(threading.Thread):
@@ -228,8 +244,7 @@ class Round:
                 disk.cut_power()
             while not all(writer.is_cut for writer in self.writers):
                 time.sleep(0.01)
-            disk.unmount()
-            disk.mount()
+            disk.mount_after_cut()
             self.look(store)
 
     def replies(self):
@@ -265,11 +280,7 @@ def why_not(kind):
     """Why this file system can't be tried here, or None."""
     try:
         disk.make(kind)
-        path = os.path.join(disk.top, "file")
-        with open(path, "wb") as file:
-            file.write(bytes(SECTOR))
-            os.fsync(file.fileno())
-        disk.limit(disk.begin_of(path))
+        disk.limit(disk.begin_of(disk.probe))
         disk.limit(0)
         disk.cut_power()
     except (AssertionError, OSError) as reason:

@@ -3,11 +3,10 @@ use Rattle.std.proofs.Common.{◌≡◌, ℕ, List, refl, sym, ap, subst, ◌∙
 use Rattle.std.specs.Prelude.{true, false, Result, Ok, Err, Bool, length}
 use Rattle.std.proofs.lemmas.Bool.{false≢true}
 use Rattle.refusal.specs.declared.Refusal.{Refusal}
-use Rattle.refusal.specs.declared.Refusal.TheVariants.{StoreFailed}
 use Rattle.revision.specs.Command.{Command}
 use Rattle.revision.specs.State.{State, fold}
 use Rattle.world.specs.Progress.{Progress, Ticket}
-use Rattle.world.specs.Submitting.{IsRefusedIn, IsSubmitted}
+use Rattle.world.specs.Submitting.{IsRefusedIn}
 use Rattle.world.specs.World.{Entry, takens}
 use Rattle.published.specs.Order.{IsLegal}
 use Rattle.hub.specs.declared.submit_error.SubmitError.{SubmitError}

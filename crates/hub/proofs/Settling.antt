@@ -12,7 +12,7 @@ use Rattle.recovery.proofs.CallerLemmas.{commands-append}
 use Rattle.published.proofs.CallerLemmas.{takens_long}
 use Rattle.world.specs.Progress.{Progress, submitted, submitted_by}
 use Rattle.world.specs.World.{Entry, entry_of, takens}
-use Rattle.hub.specs.Runs.{ComesNext, MaySettle, Writer, untaken}
+use Rattle.hub.specs.Runs.{ComesNext, MaySettle, Writer, counts_of, untaken}
 use Rattle.hub.proofs.Placing.{takens-take, takens-drop}
 
 -- a command that is submitted is neither taken off nor settled by that
@@ -44,6 +44,17 @@ may_settle board writer batch told next settled taken (more, whole) =
       next = sym (takens-take (length batch) (drop board.settled board.order) ∙ ap (take (length batch)) (takens-drop board.settled board.order ∙ behind) ∙ take-append_seam batch more);
       count = settles board.settled board.taken (length batch) (length (commands_of told)) (omega (arith, next.taken, settled, taken)) long (omega (arith, next.some));
     }
+
+-- what comes next after what a writer has settled comes next by the board's own counts, where these are as large
+pub comes_next : (board : Progress Entry) (writer : Writer) (batch : List Taken) (told : List (List Taken)) → ComesNext writer batch told
+    → writer.settled ≡ board.settled → writer.taken ≡ board.taken → ComesNext (counts_of board) batch told
+comes_next board writer batch told next settled taken = record {
+  before = next.before;
+  ends = next.ends;
+  some = next.some;
+  settled = next.settled ∙ settled;
+  taken = omega (arith, next.taken, settled, taken);
+}
 
 -- where nothing is left to take off, all of the order is taken off
 pub all_taken : (board : Progress Entry) → untaken board ≡ [] → length board.order ≤ board.taken

@@ -50,6 +50,10 @@ pub record Writer : Type 0 where
   pub settled : ℕ
   pub ended : ℕ
 
+-- what a board itself counts of that
+abbrev pub counts_of : Progress Entry → Writer
+counts_of board = record { taken = board.taken; settled = board.settled; ended = 0 }
+
 -- As much of a board's order is taken off and settled as a writer counts; all of it, where the writer was told that nothing comes any more.
 pub record IsCountedBy (writer : Writer) (board : Progress Entry) : Type 0 where
   pub taken : writer.taken ≡ board.taken

@@ -10,8 +10,8 @@ ghost use Rattle.world.specs.World.{Entry as OrderEntry, takens};
 ghost use Rattle.published.specs.Order.{IsLegal};
 ghost use Rattle.hub.specs.Legal.{IsHistory, IsOfRun, IsWithin, counted};
 ghost use Rattle.hub.specs.Placed.{IsPlaced, WasSubmitted};
-ghost use Rattle.hub.specs.Runs.{AreMadeThere, untaken};
-ghost use Rattle.hub.specs.Moves.{IsSubmittedTo, IsTakenOff, IsSettledOn, IsAcked, StandsAt};
+ghost use Rattle.hub.specs.Runs.{AreMadeThere, ComesNext, counts_of, untaken};
+ghost use Rattle.hub.specs.Moves.{IsSubmittedTo, IsTakenOff, IsSettledOn, IsAcked, StandsAt, settled_with};
 ghost use Rattle.hub.specs.Submitted.{counted_by};
 
 use crate::ahead::moved_in;
@@ -384,6 +384,20 @@ impl<D, L: Life, C> Board<D, L, C> {
         }
         self.told = told;
         Ok(())
+    }
+
+    // Settles the batch that comes next, as its own counts have it, by the receipt and the token of its publish. Nothing of the batch is
+    // compared: that the token begins the order says what its commands are. It takes no memory.
+    pub(crate) fn settle_next(&mut self, receipt: &Receipt<D>, told: Told<D, L>)
+        requires next { ComesNext (counts_of self.old.progress) receipt.now.batch told }
+        ensures { self.new ≡ settled_with self.old receipt.now.batch told }
+    {
+        self.order.covers(&told);
+        let count = receipt.batch().as_slice().len();
+        if !self.progress.settle(count, told.len() as usize) {
+            unreachable!()
+        }
+        self.told = told;
     }
 
     /// Acknowledges a ticket: the token of what was published, exactly when the ticket's length is settled, which stays so once the store has failed. Else

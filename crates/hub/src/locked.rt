@@ -415,10 +415,7 @@ impl<D, L: Life> Locked<D, L> {
     {
         self.takes.audit(&mut writer.taken);
         self.settles.audit(&mut writer.settled);
-        match self.board.settle(receipt, told) {
-            Ok(()) => {}
-            Err(_) => unreachable!(),
-        }
+        self.board.settle_next(receipt, told);
         let count = receipt.batch().as_slice().len();
         self.settles.add(&mut writer.settled, count as u64);
         let woken = Woken {

@@ -20,7 +20,7 @@ use std::alloc::Global;
 
 /// What became of a copy: the old device comes back, and beside it stands whether the new store is made.
 #[derive(Debug, Drop)]
-pub struct Copied<A> {
+pub struct CopyOutcome<A> {
     pub old: A,
     pub made: Result<(), Refusal>,
 }
@@ -40,7 +40,7 @@ const NO_SHAPE: Shape = Shape {
 /// before any write come the refusals of `Store::open` for the old device, and `AlreadyFormatted` and `BadShape` for the new one, the latter
 /// also where the shape has fewer documents, bytes of a cell or sources than the old one. `NoMemory` may come until the superblock's gate is
 /// opened, and leaves that gate closed.
-pub fn copy<A: Disk, B: Disk>(alloc: Global, old: A, new: &mut B, shape: Shape) -> Copied<A>
+pub fn copy<A: Disk, B: Disk>(alloc: Global, old: A, new: &mut B, shape: Shape) -> CopyOutcome<A>
     // The old device is read alone.
     ensures old { IsOnlySynced (history_of ⟦<A as Disk>⟧ old) (history_of ⟦<A as Disk>⟧ result.old) }
 
@@ -59,12 +59,12 @@ pub fn copy<A: Disk, B: Disk>(alloc: Global, old: A, new: &mut B, shape: Shape) 
     match Store::open(alloc, old, Pick::Newer) {
         Ok(store) => {
             let made = begin_with(alloc, store.state(), new, shape);
-            Copied {
+            CopyOutcome {
                 old: store.close(),
                 made,
             }
         }
-        Err(OpenFault { disk, refusal }) => Copied {
+        Err(OpenFault { disk, refusal }) => CopyOutcome {
             old: disk,
             made: Err(refusal),
         },

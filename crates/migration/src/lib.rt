@@ -13,6 +13,6 @@ mod migrating;
 mod numbers;
 mod whole;
 
-pub use copying::{Copied, copy};
+pub use copying::{CopyOutcome, copy};
 pub use migrating::{Old, migrate};
 pub use numbers::{Numbered, has_room_for, shape_of};

@@ -1,12 +1,13 @@
 -- What a run's order and published batches consist of may go to another thread: for a caller whose threads have such. The search for it is too
 -- long in one piece.
 use denote.RattleType.{RattleType}
-use denote.Param.Send.{IsSend, sendable}
+use denote.Param.Send.{IsSend, IsSync, sendable}
 use Rattle.std.proofs.Crossing.{crosses}
 use Rattle.std.proofs.MapsCrossing as maps
 use Rattle.core.specs.declared.ledger.Ledger as ledger
 use Rattle.ownlog.proofs.CallerLemmas.{front_send}
 use Rattle.delta.specs.contracts.delta.Delta as delta
+use Rattle.delta.specs.contracts.op.Op as op
 use Rattle.document.specs.contracts.document.Document as document
 use Rattle.revision.specs.contracts.rule.name.Name as name
 use Rattle.revision.specs.contracts.past.sources.Sources as sources
@@ -27,8 +28,14 @@ use Rattle.published.specs.contracts.told.Told as told
 pub name_send : IsSend name.the_row
 name_send = search (sendable, crosses, maps.crosses) depth 60 fits 20000
 
+op_send : IsSend op.the_row
+op_send = search (sendable, crosses, maps.crosses) depth 60 fits 20000
+
+op_sync : IsSync op.the_row
+op_sync = search (sendable, crosses, maps.crosses) depth 60 fits 20000
+
 pub delta_send : IsSend delta.the_row
-delta_send = search (sendable, crosses, maps.crosses) depth 60 fits 20000
+delta_send = search (op_send, op_sync, sendable, crosses) depth 60 fits 20000
 
 pub document_send : IsSend document.the_row
 document_send = search (sendable, crosses, maps.crosses) depth 60 fits 20000

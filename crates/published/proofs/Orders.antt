@@ -1,12 +1,11 @@
 -- The order, and what begins it.
-use Rattle.std.proofs.Common.{◌≡◌, suc, ◌+◌, ◌≤◌, ◌&&◌, true, List, [], ◌∷◌, ◌++◌, length, refl, ap, ap₂, sym, subst, ◌∙◌, arith}
+use Rattle.std.proofs.Common.{◌≡◌, suc, ◌≤◌, ◌&&◌, true, List, [], ◌∷◌, ◌++◌, length, refl, ap, ap₂, sym, subst, ◌∙◌, arith}
 use Rattle.std.proofs.lemmas.Bool.{and_parts}
 use Rattle.std.proofs.lemmas.List.{map-append}
 use mathlib.Core.List.{IsPrefix}
 use Rattle.revision.specs.Command.{Taken}
 use Rattle.revision.specs.State.{State, grows, grown, all_grow, fold}
 use Rattle.revision.proofs.CallerLemmas.{taken_grows}
-use Rattle.recovery.specs.Found.{commands_of}
 use Rattle.world.specs.World.{Entry, takens}
 use Rattle.published.specs.Order.{WasTaken, IsLegal}
 use Rattle.published.proofs.Beginnings.{prefix_trans, prefix_shorter}

@@ -1,6 +1,5 @@
 -- The logs and the ledgers of a run.
 use Rattle.std.specs.Prelude.{ℕ}
-use mathlib.Core.Path.{refl}
 use base.Stored.{Coded, coded×, coded_via, coded_ℕ}
 use Rattle.logbook.specs.Pages.{Book, book_coded}
 

@@ -1,6 +1,6 @@
 -- The order of a run: the commands that were taken, each with what was taken of it.
 use Rattle.std.specs.Prelude.{◌≡◌, ◌≤◌, ◌<◌, ◌^◌, List, [], ◌∷◌}
-use Rattle.revision.specs.Command.{Taken, Command}
+use Rattle.revision.specs.Command.{Command}
 use Rattle.revision.specs.State.{State, grown}
 use Rattle.revision.specs.Acceptance.{Takes, answer}
 use Rattle.world.specs.World.{Entry}

@@ -16,7 +16,7 @@ use crate::standard::NULL_DEVICE;
 use crate::watching::{Alone, OperatorWatch};
 use clap::error::ErrorKind;
 use disk::{Disk, FileDisk, Tried};
-use migration::{Copied, Numbered, Old, has_room_for, shape_of};
+use migration::{CopyOutcome, Numbered, Old, has_room_for, shape_of};
 use recovery::{Pick, Shape, Store};
 use refusal::Refusal;
 use server_threads::{serve_on, serve_streams};
@@ -363,7 +363,7 @@ fn copy_from<'a, C: Calls>(
             return Brought { from, done };
         }
     };
-    let Copied { old: from, made } = migration::copy(alloc, from, &mut to, shape);
+    let CopyOutcome { old: from, made } = migration::copy(alloc, from, &mut to, shape);
     let done = match made {
         Ok(()) => Ok(()),
         Err(refusal) => Err(ProgramEnd::over_two((old, &from), (new, &to), refusal)),

@@ -31,7 +31,7 @@ use Rattle.published.proofs.Crossing.{name_send, delta_send, document_send, sour
 use Rattle.view.proofs.CallerLemmas.{commands_send, shown_send, shown_sync}
 use Rattle.hub.proofs.CallerLemmas.{hub_sync, writer_send}
 use Rattle.flusher.specs.contracts.flusher.Flusher as flusher
-use Rattle.server_threads.specs.contracts.writing.Shared as shared
+use Rattle.server_threads.specs.contracts.writing.CommonParts as shared
 use Rattle.server_threads.specs.contracts.writing.Writing as writing
 use Rattle.server_threads.specs.contracts.written.Written as written
 

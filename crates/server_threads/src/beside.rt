@@ -8,7 +8,7 @@ ghost use Rattle.turns.specs.Turning.{HasWritten};
 
 use crate::life::Ready;
 use crate::watch::Watch;
-use crate::writing::{Shared, Writing};
+use crate::writing::{CommonParts, Writing};
 use crate::written::{Written, WrittenBy};
 use disk::Disk;
 use flusher::Flusher;
@@ -42,7 +42,7 @@ pub(crate) fn hold_beside<
     D: Disk + Send + Drop,
     W: Watch<D>,
 >(
-    shared: &Shared<'_, D, L, R, W>,
+    shared: &CommonParts<'_, D, L, R, W>,
     ready: Ready<D, L>,
     sessions: S,
     desks: K,

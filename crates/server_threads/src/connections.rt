@@ -15,7 +15,7 @@ use crate::desks::{Closing, Desks};
 use crate::life::{Ending, Named, Server, begin, end, ending_of, make_ready};
 use crate::seated::Seated;
 use crate::watch::Watch;
-use crate::writing::Shared;
+use crate::writing::CommonParts;
 use disk::Disk;
 use flusher::Flusher;
 use hub_desk::HubDesk;
@@ -117,7 +117,7 @@ fn serve_run<
         Ok(begun) => begun,
         Err(store) => return unserved(alloc, store, listener),
     };
-    let shared = Shared {
+    let shared = CommonParts {
         rt,
         alloc,
         hub: &hub,
@@ -161,7 +161,7 @@ fn hold_at<
     D: Disk + Send + Drop,
     W: Watch<D>,
 >(
-    shared: &Shared<'_, D, L, R, W>,
+    shared: &CommonParts<'_, D, L, R, W>,
     server: Server<D, L>,
     listener: N,
     idle: u32,

@@ -11,7 +11,7 @@ ghost use Rattle.server_threads.specs.Served.{IsStarted};
 use crate::beside::Both;
 use crate::desks::{Closing, Desks, desks_at, seats_of};
 use crate::watch::Watch;
-use crate::writing::Shared;
+use crate::writing::CommonParts;
 use disk::Disk;
 use flusher::{Flusher, StartError, start};
 use hub::{Closer, Found, Hub, Seat, Tally, Writer};
@@ -128,7 +128,7 @@ pub(crate) struct Ready<D: Disk, L: Life> {
 /// Makes a server's desks, and tallies the seats that have none. Refused where there is no memory, or no viewer at all; the flusher is unchanged
 /// then.
 pub(crate) fn make_ready<'a, L: Life, R: Wait, D: Disk + Drop, W: Watch<D>>(
-    shared: &Shared<'a, D, L, R, W>,
+    shared: &CommonParts<'a, D, L, R, W>,
     server: Server<D, L>,
 ) -> Result<(Ready<D, L>, Desks<'a, D, L, R>), Flusher<D, L>>
     requires ready { IsNewServer L.parts server.held.value server.flusher server.seats.items server.tally }
@@ -194,7 +194,7 @@ pub(crate) struct Ending<D: Disk, L: Life> {
 /// What is left where the sessions' desks are tallied and the writing has ended, with what the sessions answered. Each desk was told of no more than
 /// is committed, and one token of the order has what they found and what was written. It takes no memory.
 pub(crate) fn ending_of<A, L: Life, R: Wait, D: Disk, W>(
-    shared: &Shared<'_, D, L, R, W>,
+    shared: &CommonParts<'_, D, L, R, W>,
     both: Both<A, Closing<D, L>, D, L>,
 ) -> (Ending<D, L>, A)
     ensures tallied { (desks : List Desk) → AreTallied desks both.left.1.told both.left.1.ordered both.left.1.tally.counted

@@ -13,7 +13,7 @@ use crate::beside::hold_beside;
 use crate::desks::{Closing, Desks};
 use crate::life::{Ending, Named, Server, begin, end, ending_of, make_ready};
 use crate::watch::Watch;
-use crate::writing::Shared;
+use crate::writing::CommonParts;
 use disk::Disk;
 use flusher::Flusher;
 use hub_desk::HubDesk;
@@ -109,7 +109,7 @@ fn serve_run<
         Ok(begun) => begun,
         Err(store) => return streams.back(store, refused),
     };
-    let shared = Shared {
+    let shared = CommonParts {
         rt,
         alloc,
         hub: &hub,
@@ -137,7 +137,7 @@ fn hold_at<
     D: Disk + Send + Drop,
     W: Watch<D>,
 >(
-    shared: &Shared<'_, D, L, R, W>,
+    shared: &CommonParts<'_, D, L, R, W>,
     server: Server<D, L>,
     streams: OverStreams<I, O>,
 ) -> Result<

@@ -19,7 +19,7 @@ use turns::{Composers, OpenHalves, channels, compose_workers, flush_all};
 
 /// What the thread that writes and those of the sessions share.
 #[derive(Drop)]
-pub(crate) struct Shared<'a, D, L: Life, R, W> {
+pub(crate) struct CommonParts<'a, D, L: Life, R, W> {
     pub(crate) rt: &'a R,
     pub(crate) alloc: Global,
     pub(crate) hub: &'a Hub<D, L>,
@@ -29,7 +29,7 @@ pub(crate) struct Shared<'a, D, L: Life, R, W> {
 
 /// What the thread that writes has, from its beginning on.
 pub(crate) struct Writing<'a, D: Disk + Drop, L: Life, R: Wait, W> {
-    pub(crate) shared: &'a Shared<'a, D, L, R, W>,
+    pub(crate) shared: &'a CommonParts<'a, D, L, R, W>,
     /// Whether there is a thread for it.
     pub(crate) has_thread: &'a AtomicBool,
     pub(crate) flusher: Flusher<D, L>,
@@ -125,7 +125,7 @@ fn write_beside<'a, D: Disk + Drop, L: Life, R: Threads + Wait + Sync, W: Watch<
 // Makes turns until the hub is ended. Where the store fails the watch is told.
 #[tactic(auto, using(crate::proofs::Served::written_well))]
 fn write_all<L: Life, R: Wait, D: Disk, W: Watch<D>>(
-    shared: &Shared<'_, D, L, R, W>,
+    shared: &CommonParts<'_, D, L, R, W>,
     flusher: &mut Flusher<D, L>,
     writer: &mut Writer<L>,
     composers: Option<Composers>,

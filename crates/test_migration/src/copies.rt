@@ -2,7 +2,7 @@
 use crate::old::{device_of, old_bytes, opened, with_bytes_at};
 use crate::stores::{Ask, LARGER, SHAPE, command, is_same, store_bytes, takes};
 use disk::{FaultDisk, FaultPlan, Left, MemDisk};
-use migration::{Copied, Numbered, copy, shape_of};
+use migration::{CopyOutcome, Numbered, copy, shape_of};
 use recovery::{Pick, Shape, Store};
 use refusal::Refusal;
 use revision::{Plan, State};
@@ -41,7 +41,7 @@ fn copies(
     shape: Shape,
     wanted: Result<(), Refusal>,
 ) {
-    let Copied { old, made } = copy(rt.alloc(), device_of(rt, bytes), new, shape);
+    let CopyOutcome { old, made } = copy(rt.alloc(), device_of(rt, bytes), new, shape);
     assert_eq!(rt; made, wanted);
     assert!(rt; old.bytes() == bytes);
 }
@@ -198,7 +198,7 @@ fn has_none_or_all(rt: &(impl Abort + AllocGlobal), bytes: &[u8], wanted: &State
 // How many calls a copy makes of the old device, and of the new one.
 fn calls(rt: &(impl Abort + AllocGlobal), bytes: &[u8]) -> (u64, u64) {
     let mut new = device_of(rt, &unformatted(rt, SHORT_LEN));
-    let Copied { old, made } = copy(rt.alloc(), device_of(rt, bytes), &mut new, SHORT);
+    let CopyOutcome { old, made } = copy(rt.alloc(), device_of(rt, bytes), &mut new, SHORT);
     assert_eq!(rt; made, Ok(()));
     (old.calls().len() as u64, new.calls().len() as u64)
 }
@@ -235,7 +235,7 @@ fn each_call_of_a_copy_stops_or_fails(rt: HostRuntime) {
 fn ends_at_the_old(rt: &(impl Abort + AllocGlobal), bytes: &[u8], plan: FaultPlan) {
     let old = FaultDisk::new(device_of(rt, bytes), plan);
     let mut new = device_of(rt, &unformatted(rt, SHORT_LEN));
-    let Copied { old, made } = copy(rt.alloc(), old, &mut new, SHORT);
+    let CopyOutcome { old, made } = copy(rt.alloc(), old, &mut new, SHORT);
     assert_eq!(rt; made, Err(Refusal::Fault));
     assert!(rt; old.disk().bytes() == bytes && new.calls().is_empty());
 }

@@ -1,5 +1,4 @@
-use Rattle.std.proofs.Common.{◌≡◌, rules}
-use Rattle.hub.specs.Runs.{counts_taken}
+use Rattle.std.proofs.Common.{rules}
 use Rattle.hub.proofs.Moving.{comes_off}
 use Rattle.hub.proofs.locked.Locked.take.Goals as goal
 
