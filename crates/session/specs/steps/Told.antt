@@ -9,7 +9,7 @@ use Rattle.session.specs.declared.reads.Told.TheVariants as variants
 use Rattle.session.specs.Reads.{read_line}
 use Rattle.session.specs.steps.DueText.{due_text}
 
--- the line of a state; or of an older revision what stands in the document there, of which the line is made
+-- the line of a state; or what stands in the document at an older revision, and the line is made of that
 abbrev pub IsTold : List ℕ → Question → State → program.Told → Type 0
 IsTold name question state (variants.Reply reply) = IfOk reply (λ due. due_text due ≡ read_line name question state)
 IsTold name question state (variants.Look look) = (question ≡ At look.revision) × (look.name ≡ name) × (document_at state name look.revision ≡ Ok look.units)
