@@ -7,7 +7,8 @@ Eight writers put words into documents that all share, take some back, and delet
 and on file systems of its own, xfs and btrfs, where these can be made and mounted; on those the server isn't stopped. Each copy has to open, by the
 newer milestones and by the older, and to hold all that was acknowledged before it began, and nothing that nobody sent. A third of the scripts
 are ended at random moments, by SIGINT, SIGTERM or SIGKILL: then the server goes on, and there is a whole copy or none. At last the
-server ends, and the copy of a store that nobody serves is made.
+server ends, and the copy of a store that nobody serves is made. `python3 -m richd jump` makes one of it that may be put back: it holds the same
+at revisions that nobody has seen, where a command of before is answered again, and a revision of before is too old.
 
 Run ./demo first, which builds crates/richd/out/richd, or name another program in RICHD.
 """
@@ -19,7 +20,8 @@ import sys
 import tempfile
 import time
 
-from loading import PATIENCE, Place, Writer, agrees, agrees_with, dumped, format_store, percentile, richd, snapshot
+from loading import DELETED, PATIENCE, TOO_OLD, Place, Session, Writer, agrees, agrees_with, dumped, format_store, percentile, richd, snapshot, tool
+from richd.jumping import JUMP
 
 copies = int(sys.argv[1]) if len(sys.argv) > 1 else 30
 BACKUP = os.path.join(os.path.dirname(os.path.abspath(__file__)), "../examples/backup")
@@ -108,12 +110,37 @@ def run(folder):
         server.wait()
         subprocess.run([BACKUP, store, other], check=True)
         agrees(dumped(other), writers)
+        put_back(other, place.port, writers)
     finally:
         server.send_signal(signal.SIGCONT)
         server.kill()
         server.wait()
         server.stdout.close()
     return took, ended, made
+
+
+def put_back(other, port, writers):
+    """Serves a copy whose revisions jump, and asks it what the clients of before would ask."""
+    back, before = other + ".back", dumped(other)
+    tool("jump", other, back)
+    assert dumped(back) == {name: (revision + JUMP, words) for name, (revision, words) in before.items()}
+    server = subprocess.Popen([richd, "serve", back, "--listen", f"127.0.0.1:{port}"], stdout=subprocess.PIPE, text=True)
+    assert server.stdout.readline().startswith("listening ")
+    try:
+        for writer in writers:
+            session = Session(port, writer.source)
+            for doc, sent in writer.commands.items():
+                known = [command for command in sent if command.rev is not None]
+                if known:
+                    last, newest = known[-1], before[doc][0]
+                    assert session.ask(last.message) == {"doc": doc, "n": last.message["n"], "ok": "again", "rev": last.rev}
+                    codes = [session.ask({"do": "subscribe", "doc": doc, "rev": rev}).get("code") for rev in (last.rev, newest, newest + 1, newest + JUMP - 1)]
+                    assert codes == 4 * [TOO_OLD if before[doc][1] is not None else DELETED], codes
+            session.close()
+    finally:
+        server.kill()
+        server.wait()
+        server.stdout.close()
 
 
 def mounted(kind, folder):

@@ -28,12 +28,15 @@ STRICT = {"strict": True, "target": "es2022", "module": "node16", "moduleResolut
 GIVEN = """\
 import { connect, Client, RichDocument, RichdError } from "richd";
 import type { DocumentEvents, DocumentState, OpenOptions, Other, Range } from "richd";
+import { fromMarkdown, fromText, toHtml, toMarkdown, toText } from "richd/convert";
 import { Delta } from "richd/delta";
 import { connect as connectOffline } from "richd/offline";
 import { bind } from "richd/quill";
 declare const client: Client;
 declare const letter: RichDocument;
 declare const quill: any;
+interface Parser { enable(rule: string): unknown; parse(text: string, environment: object): any[] }
+declare const MarkdownIt: new (preset: "commonmark", options: object) => Parser;
 """
 
 RIGHT = [
@@ -64,6 +67,9 @@ RIGHT = [
     'letter.presence.addEventListener("change", ({ others }) => { const all: Other[] = others; return all.length; });',
     'bind(quill, letter, { colorOf: (user) => (user === "ann" ? "red" : "blue") });',
     'letter.addEventListener("trouble", ({ error }) => error.name === "NotAllowed" || error.name === "Replaced" || error.code === 60);',
+    'const html: string = toHtml(letter.contents, { embed: (name, value) => name + value.id }); html;',
+    'const read = fromText("a"); const written: string = toMarkdown(read) + toText(read.ops); written;',
+    'await client.open("letter", { create: fromMarkdown("# a", MarkdownIt).ops });',
     'const places: Range = { index: 0, length: 2 }; letter.presence.set(places);',
     'for await (const { rev, ops } of client.follow("letter", 0)) console.log(rev + 1, ops.length);',
     'try { await letter.flush(); } catch (error) { if (error instanceof RichdError && error.name === "Closed") throw error; }',

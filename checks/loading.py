@@ -56,11 +56,11 @@ class Place:
 
 
 class Session:
-    """A connection to the server of this port."""
+    """A connection to the server of this port, or of this address of another host, which has so many seconds to answer."""
 
-    def __init__(self, port, source):
+    def __init__(self, port, source, patience=PATIENCE):
         try:
-            self.connection = socket.create_connection(("127.0.0.1", port), PATIENCE)
+            self.connection = socket.create_connection(port if isinstance(port, tuple) else ("127.0.0.1", port), patience)
         except OSError as error:
             raise Cut from error
         self.connection.setsockopt(socket.IPPROTO_TCP, socket.TCP_NODELAY, 1)
@@ -113,7 +113,7 @@ class Peer(threading.Thread):
     def run(self):
         while not self.place.ends.is_set():
             try:
-                self.session = Session(self.place.port, self.source)
+                self.session = self.connect()
                 self.serve()
             except Cut:
                 time.sleep(0.02)
@@ -124,6 +124,9 @@ class Peer(threading.Thread):
                 if self.session is not None:
                     self.session.close()
                 self.is_cut = True
+
+    def connect(self):
+        return Session(self.place.port, self.source)
 
 
 class Writer(Peer):
@@ -385,8 +388,13 @@ def dumped(path, *options):
     """The documents that a store holds: name to revision, and to its words, or None where it is deleted."""
     done = subprocess.run([richd, "dump", path, *options], capture_output=True, text=True, timeout=PATIENCE)
     assert (done.returncode, done.stderr) == (0, ""), done.stderr
+    return parsed(done.stdout)
+
+
+def parsed(lines):
+    """The documents that `richd dump` has printed, likewise."""
     found = {}
-    for line in done.stdout.splitlines():
+    for line in lines.splitlines():
         name, revision, _, content = line.split(" ", 3)
         words = None if content == "deleted" else [word for word in text(json.loads(content)["ops"]).split(";") if word]
         found[name] = int(revision), words

@@ -5,6 +5,8 @@ deltas on lines.
 usage: checks/operating.py
 
 - `serve --exit-on-failure` ends within a second of a failure, by `error 21 StoreFailed` and status 1, and idle peers with it; without it reads go on.
+- `serve --until-closed` goes on while its standard input is open, whatever comes there, and ends where that ends: with status 0, its sessions closed, the
+  file closed, and in it all that was answered. Where its store has failed by then the status is 1.
 - `serve --idle SECONDS` closes a connection that said no hello, or sent no line and follows nothing, after that time and within a second of it, and
   its place is free. One that follows a document, or sends a line in time, stays.
 - `serve --log --stats 1` writes lines of one form: each number of a line of counters is the one that clients saw. Without `--log` nothing is written.
@@ -71,12 +73,12 @@ class Peer:
 class Served:
     """A server with these options. Its standard error is read as it comes, or is the given stream."""
 
-    def __init__(self, path, *options, errors=subprocess.PIPE, refusal=None, **how):
+    def __init__(self, path, *options, errors=subprocess.PIPE, refusal=None, given=subprocess.DEVNULL, **how):
         words = ["serve", path, "--listen", "127.0.0.1:0", *options]
         if refusal is not None:
-            self.process = refusal.start(words, stdout=subprocess.PIPE, stdin=subprocess.DEVNULL)
+            self.process = refusal.start(words, stdout=subprocess.PIPE, stdin=given)
         else:
-            self.process = subprocess.Popen([richd, *words], stdout=subprocess.PIPE, stderr=errors, stdin=subprocess.DEVNULL, bufsize=0, **how)
+            self.process = subprocess.Popen([richd, *words], stdout=subprocess.PIPE, stderr=errors, stdin=given, bufsize=0, **how)
         line = self.process.stdout.readline()
         agree(line.startswith(b"listening "), f"it prints {line}, status {self.process.poll()}")
         self.address = ("127.0.0.1", int(line.rsplit(b":", 1)[1]))
@@ -181,6 +183,36 @@ def goes_on_failed():
         agree(served.process.poll() is None, "it has ended")
         agree(peer.ask({"do": "fetch", "doc": "d"}).get("code") in (6, 21), "a read isn't answered")
         agree(served.hear().count(b"\n") == 2, f"it says {served.said}")
+
+
+def until_closed():
+    """The end of standard input ends a server well; a server whose store has failed by then it ends by that."""
+    path = fresh()
+    reader, writer = os.pipe()
+    with Served(path, "--until-closed", given=reader) as served:
+        os.close(reader)
+        silent, peer = Peer(served), Peer(served, "a")
+        os.write(writer, b"nobody reads this\n" * 1000)
+        agree(taken(peer, "d", 1).get("ok") == "taken", "a creation isn't taken")
+        time.sleep(0.5)
+        agree(served.process.poll() is None, "it ends before its input does")
+        agree(taken(peer, "e", 1).get("ok") == "taken", "a second creation isn't taken")
+        os.close(writer)
+        agree(served.ended(PATIENCE) == 0, f"its status is {served.process.returncode}")
+        agree(silent.is_closed(1) and peer.is_closed(1), "a connection is left open")
+        agree(served.hear(0.2) == b"", f"it says {served.said}")
+    names = [line.split()[0] for line in undisturbed("dump", path).decode().splitlines()]
+    agree(names == ["d", "e"], f"the store has {names}")
+    with Served(path, "--until-closed") as served:
+        agree(served.ended(PATIENCE) == 0, "it doesn't end where its input has ended before")
+    refusal = failing()
+    reader, writer = os.pipe()
+    with Served(refusal.store, "--until-closed", refusal=refusal, given=reader) as served:
+        os.close(reader)
+        agree(taken(Peer(served, "a"), "d", 1).get("code") == 21, "a command is taken")
+        os.close(writer)
+        agree(served.ended(PATIENCE) == 1, f"its status is {served.process.returncode}")
+        agree(served.hear(0.2).endswith(STORE_FAILED), f"it says {served.said}")
 
 
 def idle():
@@ -435,21 +467,21 @@ def words():
     """Words that can't be used, and what is told of the others."""
     store = fresh(*S)
     serve = ["serve", store]
-    bad = [[*serve, "--idle", "5"], [*serve, "--exit-on-failure"], [*serve, "--log"], [*serve, "--log", "--stats", "1"]]
+    bad = [[*serve, "--idle", "5"], [*serve, "--exit-on-failure"], [*serve, "--until-closed"], [*serve, "--log"], [*serve, "--log", "--stats", "1"]]
     listen = [*serve, "--listen", "127.0.0.1:0"]
     bad += [[*listen, "--stats", "1"], [*listen, "--idle", "-1"], [*listen, "--idle", "86401"], [*listen, "--log", "--stats", "x"], [*listen, "--log=yes"]]
     bad += [["dump", store, "--log"], ["format", store, "--reserve", "now"], ["copy", store, store + "2", "--reserve"], ["delta", "compose", "x", "--stdin"]]
     for row in bad:
         done = subprocess.run([richd, *row], capture_output=True, timeout=PATIENCE, stdin=subprocess.DEVNULL)
         agree((done.returncode, done.stdout) == (2, b"") and done.stderr.startswith(b"error: "), f"{row}: {done}")
-    helps = {"serve": ["--idle", "--exit-on-failure", "--log", "--stats"], "format": ["--reserve"]}
+    helps = {"serve": ["--idle", "--exit-on-failure", "--until-closed", "--log", "--stats"], "format": ["--reserve"]}
     for name, options in [*helps.items(), ("delta compose", ["--stdin"])]:
         shown = subprocess.run([richd, *name.split(), "--help"], capture_output=True, text=True, timeout=PATIENCE).stdout
         agree(all(option in shown for option in options), f"{name} --help says {shown}")
 
 
 IS_SUPERUSER = os.geteuid() == 0
-ROWS = [words, deltas_on_lines, rights, reserve, exit_on_failure, goes_on_failed, idle, never_idle]
+ROWS = [words, deltas_on_lines, rights, reserve, exit_on_failure, goes_on_failed, until_closed, idle, never_idle]
 ROWS += [log_of_numbers, log_of_peers, log_of_failure, blocked, blocked_at_the_end]
 with tempfile.TemporaryDirectory() as folder:
     library = library_in(folder)

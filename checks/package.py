@@ -4,8 +4,8 @@
 usage: checks/package.py
 
 The copy is an overlay over the root of this machine, in a mount namespace of its own, so that this machine stays unchanged. There dpkg installs the package,
-and then what docs/OPERATIONS.md has is done by it alone: a store is made and served by the user richd, asked for its health, archived, lost, and
-restored, and its client goes on. The manual page and the units are looked at. At last the package is removed and purged: the program goes, and
+and then what docs/OPERATIONS.md and docs/ARCHIVE.md have is done by it alone: a store is made and served by the user richd, asked for its health,
+archived, lost, and restored, and its client goes on; a copy is put back. The manual page and the units are looked at. At last the package is removed and purged: the program goes, and
 the store is left. Both builds have to be the same bytes. The JavaScript client is imported as its archive has it.
 
 Run ./demo first, which builds crates/richd/out/richd, or name another program in RICHD. It wants root and Debian's dpkg-deb, else it skips.
@@ -29,7 +29,7 @@ cd /
 dpkg --install /richd.deb
 test "$(command -v richd)" = /usr/bin/richd
 richd --version
-test "$(stat -c '%U %a' /var/lib/richd)" = "richd 700"
+for folder in richd richd-archive; do test "$(stat -c '%U %a' /var/lib/$folder)" = "richd 700"; done
 man -w richd
 man -l "$(man -w richd)" | grep -q 'serve'
 systemd-analyze verify /lib/systemd/system/richd.service /lib/systemd/system/richd-archive.service
@@ -46,21 +46,24 @@ as richd format /var/lib/richd/store
 served /var/lib/richd/store
 client health $at
 echo "Dear all" | client put $at letter --source me
-client archive /var/lib/richd/store /var/lib/richd/archive --quiet
+client archive /var/lib/richd/store /var/lib/richd-archive/archive --quiet
 echo "Dear everybody" | client put $at letter --source me
 client health --write $at
-client archive /var/lib/richd/store /var/lib/richd/archive --quiet
+client archive /var/lib/richd/store /var/lib/richd-archive/archive --quiet
 as sh /usr/share/doc/richd/examples/backup /var/lib/richd/store /var/lib/richd/copy $(pgrep -x richd)
 as richd check /var/lib/richd/copy
 kill -9 $(pgrep -x richd); wait $server || true
 rm /var/lib/richd/store
-client restore /var/lib/richd/archive /var/lib/richd/store
+client restore /var/lib/richd-archive/archive /var/lib/richd/store
 as richd check /var/lib/richd/store
 served /var/lib/richd/store
 test "$(client cat $at letter)" = "Dear everybody"
 echo "Dear everybody!" | client put $at letter --source me
-test "$(client show /var/lib/richd/archive letter --at 2)" = "Dear all"
+test "$(client show /var/lib/richd-archive/archive letter --at 2)" = "Dear all"
 kill -9 $(pgrep -x richd); wait $server || true
+client jump /var/lib/richd/copy /var/lib/richd/back --by 2000000
+as richd check /var/lib/richd/back
+test -x /usr/share/doc/richd/examples/replicated/volume
 dpkg --remove richd
 test ! -e /usr/bin/richd
 dpkg --purge richd

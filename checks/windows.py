@@ -11,7 +11,9 @@ files. The gateway knows its users by `?user=`, serves three sessions at once, a
 2. Eve reads it and sees both carets. What she types is refused as NotAllowed, shown no longer, and its text is in the event and on her page.
    So is a note that she would create.
 3. A fourth window is told that the server is full, and is served once another window is closed.
-4. With HAProxy gone bob's window is typed in and loaded again: it shows what was typed, and sends it once HAProxy is there again, once.
+4. Ann looks at the versions of the note, which an archiver keeps: who changed it, in order. She opens the first one, and makes the note that again.
+   Eve may look too; a user who may not read it gets nothing.
+5. With HAProxy gone bob's window is typed in and loaded again: it shows what was typed, and sends it once HAProxy is there again, once.
 
 At the end the windows and `richd dump` have the same. A screenshot is left in PICTURE, else in notes.png in the temporary folder of the system,
 and one of each further state beside it, as notes-refused.png.
@@ -44,7 +46,7 @@ HAPROXY = shutil.which("haproxy") or ("/usr/sbin/haproxy" if os.access("/usr/sbi
 MOST_SESSIONS = 3
 RIGHTS = """
 export const authorize = ({ url }) => new URL(url, "http://gateway").searchParams.get("user");
-export const can = (user, doc, action) => (user.id ?? user) !== "eve" || action === "read";
+export const can = (user, doc, action) => ({ eve: action === "read", mallory: false })[user.id ?? user] ?? true;
 """
 PROXY = """
 defaults
@@ -55,7 +57,7 @@ defaults
     timeout tunnel 1h
 frontend tls
     bind 127.0.0.1:%(port)d ssl crt %(certificate)s
-    use_backend gateway if { hdr(Upgrade) -i websocket } || { path /docs }
+    use_backend gateway if { hdr(Upgrade) -i websocket } || { path_beg /docs }
     default_backend pages
 backend gateway
     server gateway 127.0.0.1:%(gateway)d
@@ -101,6 +103,8 @@ class Programs:
         subprocess.run([RICHD, "format", self.store], check=True)
         richd = self.start([RICHD, "serve", self.store, "--listen", "127.0.0.1:0"])
         self.richd = int(richd.stdout.readline().rsplit(":", 1)[1])
+        self.archive = str(self.folder / "archive")
+        self.start([sys.executable, "-m", "richd", "archive", "--follow", "--lag", "0", self.store, self.archive])
         self.port = free_port()
         self.certificate, self.key = make_certificate(self.folder)
         (self.folder / "rights.mjs").write_text(RIGHTS)
@@ -110,6 +114,7 @@ class Programs:
             "data": str(self.folder / "data"),
             "module": str(self.folder / "rights.mjs"),
             "origins": [f"https://localhost:{self.port}"],
+            "archive": self.archive,
             "limits": {"sessions": MOST_SESSIONS},
         }
         (self.folder / "settings.json").write_text(json.dumps(settings))
@@ -120,7 +125,8 @@ class Programs:
         self.start_proxy()
 
     def start(self, command):
-        program = subprocess.Popen(command, stdout=subprocess.PIPE, stderr=subprocess.DEVNULL, text=True)
+        environment = {**os.environ, "PYTHONPATH": str(ROOT / "clients/python")}  # where the gateway finds what asks the archive
+        program = subprocess.Popen(command, stdout=subprocess.PIPE, stderr=subprocess.DEVNULL, text=True, env=environment)
         self.started.append(program)
         return program
 
@@ -293,6 +299,31 @@ class Showing:
         self.expect(all(window.read()["shared"] == before for window in (ann, bob)), "eve has changed the note")
         return eve
 
+    def look_back(self, ann, bob):
+        versions = "return [...document.querySelectorAll('aside li')].map((item) => item.firstChild.textContent)"
+        now = text_of(ann.settle()["shared"])
+        ann.click("#versions")
+        ann.wait(lambda _: len(ann.run(versions)) > 2, "the versions")
+        names = ann.run(versions)
+        self.expect(names[-1] == "ann" and set(names) == {"ann", "bob"}, f"the versions are by {names}")
+        ann.click("aside li:last-child")
+        shown = "return [document.getElementById('then').hidden, document.querySelector('#then div').textContent]"
+        ann.wait(lambda _: ann.run(shown)[0] is False, "the first version")
+        first = ann.run(shown)[1]
+        self.expect(first.startswith("Shopping\nmilk\nbread") and first != now, f"the first version is {first!r}")
+        self.leave(ann, "versions")
+        ask = "return fetch(`/docs/${notes.note.name}/versions?user=${arguments[0]}`).then((response) => response.status)"
+        statuses = [ann.run(ask, user) for user in ("ann", "eve", "mallory")]
+        self.expect(statuses == [200, 200, 403], f"the versions are given with {statuses}")
+        ann.click("#again")
+        page = ann.settle()
+        self.expect(text_of(page["shared"]) == first, f"it is made {text_of(page['shared'])!r} again")
+        self.alike(ann, bob)
+        ann.run("notes.note.history.undo()")
+        self.expect(text_of(ann.settle()["shared"]) == now, "that isn't taken back")
+        ann.select(1, 4)
+        self.alike(ann, bob)
+
     def fill(self, eve):
         dan = self.open("dan")
         page = dan.wait(lambda page: page["client"] == "full", "a full server")
@@ -338,6 +369,7 @@ def main(picture):
                 ann, bob = showing.write_together()
                 eve = showing.refuse(ann, bob)
                 showing.fill(eve)
+                showing.look_back(ann, bob)
                 page = showing.outlive(ann, bob)
             finally:
                 browser.close()
@@ -349,7 +381,7 @@ def main(picture):
         print(f"FAILED  {reason}")
     if showing.failed:
         return 1
-    print(f"ok: over TLS two see each other's carets, one without rights is refused with his text, a full server says so, {showing.shown} things shown; {picture}")
+    print(f"ok: over TLS two see each other's carets, one without rights is refused with his text, a full server says so, versions are shown, {showing.shown} things shown; {picture}")
     return 0
 
 

@@ -4,7 +4,8 @@
 import { CODE } from "./codes.js";
 import { MOST_LINE, KIND, PROBE, REFUSAL, codeOf, isAgain, readMessage, revOf } from "./messages.js";
 import { Subscription, endedLine } from "./news.js";
-import { nameOf } from "./users.js";
+import { TOO_LONG } from "./store.js";
+import { MOST_OWED, nameOf } from "./users.js";
 
 const MOST_WAITING = 64; // messages without a reply; then no more are read
 const MOST_READS = 8; // reads that are asked at the same time; one where a reply was large
@@ -15,7 +16,6 @@ const LATER = 50; // milliseconds until a browser that took too little is looked
 const PATIENCE = 10_000; // milliseconds that a message waits for a store that isn't there, then it is to be sent again
 const FRAME = 64; // bytes beside a line that count as its own: its end, and a frame's head
 const PIECE = 1_024; // bytes for which a message counts that ends no line, and a ping
-export const MOST_OWED = 10; // seconds that a user isn't read; where it would be more his sessions are closed
 const SHORT_FAREWELL = 1_000; // where nothing more of it is read
 const FAREWELL = 5_000; // milliseconds that a browser has to answer the end
 const MOST_PIECES = 1_000; // of a line, that are held one by one
@@ -39,10 +39,15 @@ const UNKNOWN = [21, 22]; // a command that is refused so may have been taken
  * @property {boolean} [needsLease]  its holder may have a new lease in its document
  * @property {boolean} [isNew]  it creates a document that is nowhere
  * @property {boolean} [isCounted]  among its user's creations
+ * @property {() => void} [undo]  takes back what was written before it is sent
  * @property {boolean} [waitsForName]
+ * @property {import("./users.js").Account} [full]  it waits, as this one is told of as many documents as it may be
+ * @property {boolean} [isRoom]  it counts as a document that its session is told of, until it is delivered
  * @property {boolean} [isAsking]  something is found out before it can be sent
  * @property {boolean} [isSent]  to the sessions of a store, where it may still wait
  * @property {{ isSent: boolean, isWanted: boolean }} [ticket]
+ * @property {boolean} [isLong]  its reply is too long to be held: it comes in pieces, once this message stands first
+ * @property {boolean} [isPassed]  its reply has been given, but for its last bytes
  * @property {number} [since]
  * @property {{ subscription: Subscription, news: import("./news.js").News }} [followed]
  */
@@ -55,6 +60,7 @@ export class Browser {
   /** @type {Buffer[]} what has come since, of a line that isn't whole */
   #pieces = [];
   #pieceBytes = 0;
+  #begun = 0; // bytes that have come of a line that isn't whole
   #skips = false; // the rest of a line that is too long
   /** @type {Slot[]} */
   #slots = [];
@@ -64,6 +70,10 @@ export class Browser {
   #followed = new Map();
   #judgedAt = new Map(); // doc -> when the right to read it was asked for last
   #written = new Set(); // documents with a lease
+  /** @type {Slot | undefined} the message whose reply is given in pieces just now */
+  #passing;
+  /** @type {Buffer[]} lines that come behind that */
+  #behind = [];
   /** @type {Buffer[]} */
   #out = [];
   #outBytes = 0;
@@ -72,7 +82,9 @@ export class Browser {
   #taken = 0; // of them, at the last look
   #isAlive = true;
   #wasSlow = false; // at the last look
-  #address;
+  #accounts;
+  #rooms = 0; // documents that it is told of, or asks to be, as its accounts have them
+  #asksRooms = 0; // of them, that it asks to be told of
   #isOwing = false;
   #holder;
   #isPumping = false;
@@ -85,6 +97,7 @@ export class Browser {
 
   isGone = false;
   waiting = 0; // bytes, at the last count
+  sent = 0; // bytes and messages of late: those of a second ago count half
 
   /**
    * @param {any} gateway  what the gateway has for its browsers, see gateway.js
@@ -100,7 +113,9 @@ export class Browser {
     this.user = user;
     this.#given = given;
     this.id = id;
-    this.#address = address;
+    this.#accounts = [user, address];
+    for (const account of this.#accounts) account.browsers.add(this);
+    this.asker = { user: user.id, accounts: this.#accounts, hold: (account, limit, seconds) => this.#hold(account, limit, seconds) };
     socket._socket?.prependListener("data", this.#guarded((bytes) => this.#weigh(bytes.length)));
     socket.on("message", this.#guarded((bytes) => this.#read(bytes)));
     socket.on("ping", this.#guarded(() => this.#charge()));
@@ -134,8 +149,12 @@ export class Browser {
     return nameOf(this.#given);
   }
 
-  /** Whether it has so much to take that it gets nothing unasked. */
+  /** Whether it has so much to take that it gets nothing unasked, or is in the middle of a line. */
   get isSlow() {
+    return this.#hasMuch || this.#passing !== undefined;
+  }
+
+  get #hasMuch() {
     return this.#socket.bufferedAmount > MOST_BUFFERED;
   }
 
@@ -151,7 +170,7 @@ export class Browser {
     if (this.isGone) return;
     this.#flush();
     this.#leave();
-    if (this.isSlow) return this.#socket.terminate(); // its farewell would stand behind what it doesn't take, and hold that
+    if (this.#hasMuch) return this.#socket.terminate(); // its farewell would stand behind what it doesn't take, and hold that
     const isFlood = code === CODE.over; // nothing more of it is read, its farewell neither
     if (isFlood) this.#socket.pause();
     else if (this.#socket.isPaused) this.#socket.resume(); // else its farewell isn't read
@@ -187,13 +206,13 @@ export class Browser {
   look = this.#guarded(() => {
     const taken = this.#givenBytes - this.#socket.bufferedAmount;
     const isSilent = !this.#isAlive && !this.#socket.isPaused; // its pong isn't read while no more messages are
-    const isStuck = this.isSlow && this.#wasSlow;
+    const isStuck = this.#hasMuch && this.#wasSlow;
     if (taken <= this.#taken && (isSilent || isStuck)) {
       if (isStuck) this.#gateway.metrics.slow += 1;
       return this.#socket.terminate();
     }
     this.#taken = taken;
-    this.#wasSlow = this.isSlow;
+    this.#wasSlow = this.#hasMuch;
     this.#isAlive = false;
     this.#socket.ping();
   });
@@ -203,10 +222,12 @@ export class Browser {
     const now = performance.now();
     let hasGivenUp = false;
     for (const slot of this.#slots) {
-      const { reply, ticket, kind } = slot;
-      if (reply !== undefined || !(now - slot.since > PATIENCE) || (kind === "command" && ticket?.isSent)) continue;
+      const { reply, ticket, kind, full } = slot;
+      if (full !== undefined && now - slot.since > full.patience) return this.closeAsOver(full.nameOf("Documents"));
+      if (full !== undefined || slot === this.#passing || reply !== undefined || !(now - slot.since > PATIENCE) || (kind === "command" && ticket?.isSent)) continue;
       if (ticket !== undefined) ticket.isWanted = false;
       slot.reply = REFUSAL.NoMemory;
+      slot.undo?.();
       if (ticket === undefined) this.#uncount(slot, false);
       hasGivenUp = true;
     }
@@ -225,7 +246,7 @@ export class Browser {
       if ((only ?? doc) !== doc) continue;
       if (!this.#judgedAt.has(doc)) this.#judgedAt.set(doc, performance.now());
       if (this.#judgedAt.get(doc) > before) continue;
-      this.#judgedAt.set(doc, Infinity); // until it is known
+      this.#judgedAt.set(doc, performance.now() + PATIENCE); // until it is known; where no answer comes it is asked again
       this.#gateway.mayRead(this.#given, doc).then(this.#guarded((may) => {
         this.#judgedAt.set(doc, performance.now());
         if (!may && !this.isGone) this.#endDocument(doc);
@@ -244,11 +265,13 @@ export class Browser {
       if (message === undefined || (only ?? message.doc) !== message.doc || (!isRead && (ticket?.isSent || slot.reply !== undefined))) continue;
       if (isRead && slot.reply !== undefined && codeOf(slot.reply) !== 0) continue;
       this.#gateway.mayDo(this.#given, message.doc, message.do).then(this.#guarded((may) => {
+        if (!may && slot === this.#passing) return this.close(CODE.rights, "the rights have changed");
         if (may || (!isRead && (slot.reply !== undefined || slot.ticket?.isSent))) return;
         if (slot.ticket !== undefined) slot.ticket.isWanted = false;
         slot.followed?.news.leave(slot.followed.subscription);
         slot.followed = undefined;
         slot.reply = REFUSAL.NotAllowed;
+        slot.undo?.();
         this.#pump();
       }), () => {});
     }
@@ -258,24 +281,26 @@ export class Browser {
     this.#gateway.metrics.count("rights_ended_total");
     this.#gateway.log("a user may no longer read what he is told of", { user: this.user.id, doc });
     this.#gateway.presence.end(this, doc);
+    this.#countRooms();
     if (!this.#followed.has(doc)) return;
     this.#give(endedLine(doc, NOT_ALLOWED));
     this.#unfollow(doc);
     this.#flush();
   }
 
-  /** How many documents it is told of. */
-  get documents() {
-    return this.#followed.size + this.#gateway.presence.countOf(this);
+  // How many documents it is told of, or asks to be, has changed.
+  #countRooms() {
+    const rooms = this.isGone ? 0 : this.#followed.size + this.#gateway.presence.countOf(this) + this.#asksRooms;
+    for (const account of this.#accounts) account.documents += rooms - this.#rooms;
+    this.#rooms = rooms;
   }
 
   // All bytes of its connection count, those of pings and of a message's pieces too. Those of a line that is whole are given back to what isn't lines.
   #weigh(bytes) {
     if (this.isGone) return;
-    this.user.bytes.take(bytes);
-    this.user.overhead.take(bytes);
-    this.#address.bytes.take(bytes);
-    if (this.#isOwing || (this.user.bytes.owed === 0 && this.user.overhead.owed === 0 && this.#address.bytes.owed === 0)) return;
+    this.sent += bytes;
+    for (const account of this.#accounts) account.weigh(bytes);
+    if (this.#isOwing || this.#accounts.every(({ debt }) => debt.seconds === 0)) return;
     this.#isOwing = true;
     this.#socket.pause(); // at once: a connection is read many times before anything else is looked at
     setImmediate(this.#settleDebt, true); // once the lines among them are read
@@ -284,43 +309,76 @@ export class Browser {
   // A message that ends no line, and a ping, cost more than their bytes.
   #charge() {
     if (this.isGone) return;
-    this.user.overhead.take(PIECE);
-    if (this.user.overhead.owed > MOST_OWED) this.#settleDebt();
+    this.sent += PIECE;
+    for (const { overhead } of this.#accounts) overhead.take(PIECE);
+    if (this.user.owesMuch) this.closeAsOver(this.user.nameOf(this.user.debt.limit)); // at once: many come together
   }
 
-  // Whose user owes isn't read until that is over, and is closed where it takes too long.
-  #settleDebt = this.#guarded((isFirst = false) => {
+  // Whose user or address owes isn't read until that is over. Where it takes too long it is closed, or who sends most from that address.
+  #settleDebt = this.#guarded(() => {
+    if (!this.isGone) this.#pump(); // what has come already
     if (this.isGone) return;
-    const owed = { bytes: this.user.bytes.owed, overhead: this.user.overhead.owed, address: this.#address.bytes.owed };
-    const [limit, seconds] = Object.entries(owed).sort(([, one], [, other]) => other - one)[0];
+    const debts = this.#accounts.map((account) => ({ account, ...account.debt }));
+    const { account, limit, seconds } = debts.reduce((one, other) => (other.seconds > one.seconds ? other : one));
     this.#isOwing = seconds > 0;
-    if (seconds > MOST_OWED) {
-      this.#gateway.metrics.count("over_total", { limit });
-      this.#gateway.log("a user sends more than he may, and is closed", { user: this.user.id, limit });
-      return this.close(CODE.over, "more than you may send");
-    }
-    if (this.#isOwing) {
-      if (isFirst) {
-        this.#gateway.metrics.count("slowed_total", { limit });
-        this.#gateway.log("a user sends more than he may, and is read later", { user: this.user.id, limit });
-      }
-      this.#socket.pause();
-      setTimeout(this.#settleDebt, Math.max(LATER, 1_000 * seconds)).unref();
-    } else this.#pump();
+    if (!this.#isOwing) return this.#pump();
+    if (seconds > MOST_OWED) (account === this.user ? this : account.greedy).closeAsOver(account.nameOf(limit));
+    if (this.isGone) return;
+    this.#socket.pause();
+    setTimeout(this.#settleDebt, Math.max(LATER, 1_000 * Math.min(seconds, MOST_OWED))).unref();
+    this.#hold(account, limit, seconds);
   });
+
+  // It waits for so many seconds, as one of its accounts has taken too much. Where that goes on for too long the one that sends most is closed.
+  #hold(account, limit, seconds) {
+    const name = account.nameOf(limit);
+    const { isFirst, greedy } = account.hold(seconds);
+    if (isFirst) this.#tellSlowed(name);
+    greedy?.closeAsOver(name);
+  }
+
+  #tellSlowed(limit) {
+    this.#gateway.metrics.count("slowed_total", { limit });
+    this.#gateway.log("a user sends more than he may, and is read later", { user: this.user.id, limit });
+  }
+
+  /** Ends it, as it has been above a limit for too long. @param {string} limit */
+  closeAsOver(limit) {
+    if (this.isGone) return;
+    this.#gateway.metrics.count("over_total", { limit });
+    this.#gateway.log("a user sends more than he may, and is closed", { user: this.user.id, limit });
+    this.close(CODE.over, "more than you may send");
+  }
 
   #read(bytes) {
     if (this.isGone) return;
     this.#pieces.push(bytes);
     this.#pieceBytes += bytes.length;
-    if (!bytes.includes(10)) this.#charge();
+    const end = bytes.lastIndexOf(10);
+    if (end !== -1) this.#giveBack(bytes, end);
+    else {
+      this.#begun += bytes.length;
+      this.#charge();
+    }
     if (this.isGone) return;
-    const isWhole = bytes.includes(10) || this.#unread.length + this.#pieceBytes > MOST_LINE;
-    if (!isWhole && this.#pieces.length < MOST_PIECES) return;
-    this.#unread = this.#unread.length === 0 && this.#pieces.length === 1 ? bytes : Buffer.concat([this.#unread, ...this.#pieces]);
+    const isWhole = end !== -1 || this.#unread.length + this.#pieceBytes > MOST_LINE;
+    if (this.#pieces.length >= MOST_PIECES) this.#gather();
+    if (isWhole && !this.#socket.isPaused) this.#pump(); // while it is paused the rest of what was read before comes still
+  }
+
+  // Bytes of whole lines, as far as those may be long, and of their frame, are none of what is no line.
+  #giveBack(bytes, end) {
+    const first = bytes.indexOf(10);
+    const lines = Math.min(this.#begun + first, MOST_LINE) + end - first + FRAME;
+    for (const { overhead } of this.#accounts) overhead.take(-lines);
+    this.#begun = bytes.length - end - 1;
+  }
+
+  #gather() {
+    if (this.#pieces.length === 0) return;
+    this.#unread = this.#unread.length === 0 && this.#pieces.length === 1 ? this.#pieces[0] : Buffer.concat([this.#unread, ...this.#pieces]);
     this.#pieces = [];
     this.#pieceBytes = 0;
-    if (isWhole) this.#pump();
   }
 
   // Reads lines, sends what may be sent, gives the replies whose turn it is, until none of it does anything.
@@ -348,12 +406,18 @@ export class Browser {
   });
 
   #readLines() {
+    this.#gather();
     while (!this.isGone && !this.#isEnding && this.#slots.length < MOST_WAITING) {
       const at = this.#unread.indexOf(10);
       if (at === -1) break;
-      if (!this.user.takesTurn()) return this.#pumpLater();
+      const full = this.#accounts.find(({ messages }) => messages.isEmpty);
+      if (full !== undefined) {
+        this.#hold(full, "Messages", LATER / 1_000);
+        return this.#pumpLater();
+      }
       const line = this.#unread.subarray(0, at);
-      this.user.overhead.take(-Math.min(line.length, MOST_LINE) - FRAME);
+      this.sent += PIECE;
+      for (const { messages } of this.#accounts) messages.take(1);
       this.#unread = this.#unread.subarray(at + 1);
       if (this.#skips) this.#skips = false;
       else if (line.length > MOST_LINE) this.#refuse(REFUSAL.LineTooLong);
@@ -406,6 +470,7 @@ export class Browser {
       if (kind !== undefined && slot.kind !== kind && slot.kind !== "presence") return;
       if (!slot.isSent) {
         const isRead = slot.kind === "fetch" || slot.kind === "since";
+        if (slot.isLong && slot !== this.#slots[0]) return;
         if (isRead && this.isSlow) return this.#pumpLater();
         if ((isRead && asked >= this.#readsAtOnce) || !slot.isAllowed || slot.isAsking || slot.waitsForName || !this.#send(slot)) return;
       }
@@ -419,12 +484,7 @@ export class Browser {
   #send(slot) {
     const { kind, message: { do: what, doc } } = slot;
     const isToldMore = (what === "subscribe" && !this.#followed.has(doc)) || (kind === "presence" && slot.message.at !== null && !this.#gateway.presence.has(this, doc));
-    if (isToldMore && this.user.documents >= this.#gateway.mostDocuments) {
-      this.#gateway.metrics.count("rooms_refused_total");
-      this.#gateway.log("a user follows more documents than he may", { user: this.user.id });
-      slot.reply = REFUSAL.NotAllowed;
-      return true;
-    }
+    if (isToldMore && !slot.isRoom && !this.#takesRoom(slot)) return false;
     if (kind === "presence") return this.#reply(slot, `{"doc":"${doc}","ok":"presence"}\n`);
     if (what === "unsubscribe") return this.#reply(slot, `{"doc":"${doc}","ok":"unsubscribed"}\n`);
     const { places, stores } = this.#gateway;
@@ -439,6 +499,22 @@ export class Browser {
     }
     if (kind === "command" || kind === "lease") return this.#write(slot, store);
     this.#ask(slot, store);
+    return true;
+  }
+
+  // Counts one more document that it is told of, or has it wait until there is one less.
+  #takesRoom(slot) {
+    const full = this.#accounts.find(({ documents, mostDocuments }) => documents >= mostDocuments);
+    if (full !== undefined) {
+      if (slot.full === undefined) this.#tellSlowed(full.nameOf("Documents"));
+      slot.full = full;
+      this.#pumpLater();
+      return false;
+    }
+    slot.full = undefined;
+    slot.isRoom = true;
+    this.#asksRooms += 1;
+    this.#countRooms();
     return true;
   }
 
@@ -468,16 +544,29 @@ export class Browser {
     }
     this.#written.add(message.doc);
     const lease = kind === "lease" ? store.leases.reserve(message.doc, this.#holder) : store.leases.lend(message.doc, this.#holder, slot.isNew);
-    if (lease instanceof Promise) return this.#find(slot, lease, (found) => found === undefined && this.#waitForName(slot, store));
+    const onLease = (found) => (found === undefined ? this.#waitForName(slot, store) : this.#lent(slot, store, found));
+    if (lease instanceof Promise) return this.#find(slot, lease, onLease);
     if (lease === undefined) return this.#waitForName(slot, store);
     const { places } = this.#gateway;
-    if (message.do === "create" && places.isOpen(message.doc)) return this.#find(slot, places.place(message.doc, store.name, this.user.id), () => {});
+    if (message.do === "create" && places.isOpen(message.doc)) {
+      return this.#find(slot, places.place(message.doc, store.name), () => this.#lent(slot, store, lease));
+    }
     if (kind === "lease") slot.reply = leaseLine(message.doc, Object.assign(lease, { isTold: true }));
     else if (message.do === "undo" && lease.epoch > 1 && !lease.isOwn) {
       if (this.#slots.some((it) => it !== slot && isWaiting(it) && it.message.doc === message.doc)) return false; // it may become one's own
       slot.reply = REFUSAL.NothingToUndo; // what there is was another's
     } else this.#command(slot, store, lease);
     return true;
+  }
+
+  // What was written for a creation is taken back where it isn't sent after all.
+  #lent(slot, { leases }, lease) {
+    if (!slot.isNew) return;
+    slot.undo = () => {
+      slot.undo = undefined;
+      leases.release(slot.message.doc, this.#holder, lease, true);
+    };
+    if (this.isGone || slot.reply !== undefined) slot.undo();
   }
 
   // All names are lent in a document: it is asked again as they come back. Gives that the next message may not follow.
@@ -489,7 +578,9 @@ export class Browser {
       user: this.user.id,
       isWanted: () => !this.isGone && slot.reply === undefined,
       isServed: async () => {
-        if ((await ask()) === undefined) return false;
+        const lease = await ask();
+        if (lease === undefined) return false;
+        this.#lent(slot, store, lease);
         slot.waitsForName = false;
         this.#pump();
         return true;
@@ -503,7 +594,7 @@ export class Browser {
     const { do: what, doc } = slot.message;
     const isCreation = what === "create";
     const { places } = this.#gateway;
-    if (isCreation && standing !== "nowhere" && places.isOpen(doc)) await places.place(doc, places.cached(doc), this.user.id); // the store had it before its place
+    if (isCreation && standing !== "nowhere" && places.isOpen(doc)) await places.place(doc, places.cached(doc)); // the store had it before its place
     if (isCreation && standing === "there" && !(await leases.isHeld(doc, this.#holder))) slot.reply ??= REFUSAL.Exists;
     else if (!isCreation && standing === "nowhere") slot.reply ??= REFUSAL.NoDocument;
     else slot.needsLease = true;
@@ -531,6 +622,7 @@ export class Browser {
 
   #command(slot, store, lease) {
     slot.isSent = true;
+    slot.undo = undefined;
     lease.begin();
     const began = performance.now();
     const settle = this.#guarded((line) => this.#onCommand(slot, store, lease, line, began));
@@ -543,7 +635,9 @@ export class Browser {
     const { do: what, doc, n, base } = slot.message;
     if (line === undefined) {
       this.#uncount(slot, false);
-      return lease.settle(n, "refused");
+      lease.settle(n, "refused");
+      if (what === "create") store.leases.release(doc, this.#holder, lease, slot.isNew === true);
+      return;
     }
     if (line === null) {
       this.#uncount(slot, true);
@@ -556,17 +650,21 @@ export class Browser {
     const isCreation = what === "create";
     metrics.commands[result] += 1;
     lease.settle(n, UNKNOWN.includes(code) ? "cut" : result);
-    this.#uncount(slot, code === 0 || UNKNOWN.includes(code));
     const releases = (isCreation && NOT_MADE.includes(code)) || code === NO_DOCUMENT;
-    if (releases) store.leases.release(doc, this.#holder, lease, code !== EXISTS && code !== FULL_STORE);
+    const isNowhere = code === NO_DOCUMENT || (slot.isNew === true && code !== EXISTS && code !== FULL_STORE);
+    if (releases) store.leases.release(doc, this.#holder, lease, isNowhere);
     const isOthers = result === "again" && isCreation && n === 1 && lease.epoch > 1 && !lease.isOwn;
     if (result === "taken") {
       store.leases.own(doc, this.#holder, lease);
       store.news.taken(doc, line);
     }
     const listing = result !== "refused" && isCreation && !isOthers ? this.#gateway.places.created(doc, store.name, this.user.id) : undefined;
-    listing?.catch(() => {});
-    if (result !== "refused" && base !== PROBE) this.#gateway.taken(this.#given, slot.message, revOf(line), result === "again");
+    const uncount = () => this.#uncount(slot, code === 0 || UNKNOWN.includes(code));
+    if (listing === undefined) uncount();
+    else listing.then(uncount, uncount);
+    const name = isOthers ? undefined : lease.name;
+    if (result !== "refused" && base !== PROBE) this.#gateway.taken(this.#given, slot.message, revOf(line), result === "again", name);
+    if (this.isGone && code === FULL_STORE && isCreation) this.#gateway.places.undo(doc).catch(() => {});
     if (this.isGone) return;
     if (code === FULL_STORE && isCreation) return this.#sendElsewhere(slot, store, line, this.#gateway.places.move(doc, store.name));
     if (code === NO_DOCUMENT) return this.#lookAgain(slot, store, line);
@@ -580,10 +678,17 @@ export class Browser {
     const ticket = { isSent: false, isWanted: true };
     Object.assign(slot, { isSent: true, ticket });
     const wanted = () => ticket.isWanted && !this.isGone;
-    const settle = this.#guarded((line) => (codeOf(line) === NO_DOCUMENT ? this.#lookAgain(slot, store, line) : this.#answer(slot, line)));
+    const settle = this.#guarded((line) => {
+      if (codeOf(line) === NO_DOCUMENT) return this.#lookAgain(slot, store, line);
+      if (line !== TOO_LONG) return this.#answer(slot, line);
+      if (slot.reply !== undefined) return;
+      Object.assign(slot, { isLong: true, isSent: false });
+      this.#pump();
+    });
     const own = this.#own.get(doc) ?? 0;
-    if (message.do === "fetch") return store.fetch(message, rev === undefined ? own : 0, settle, wanted, this.user.id);
-    if (message.do === "since") return store.since(doc, rev, settle, wanted, this.user.id, own);
+    if (slot.isLong) return store.pass(message, own, this.user.id, this.#takerOf(slot, wanted, settle));
+    if (message.do === "fetch") return store.fetch(message, rev === undefined ? own : 0, settle, wanted, this.asker);
+    if (message.do === "since") return store.since(doc, rev, settle, wanted, this.asker, own);
     const subscription = new Subscription(doc, rev, this.#guarded((it) => this.#followed.get(doc)?.subscription === it && this.#tell(doc) && this.#flush()));
     store.news.join(subscription, this.#guarded((line) => {
       if (this.isGone || slot.reply !== undefined) return store.news.leave(subscription);
@@ -592,7 +697,32 @@ export class Browser {
         this.#backlogBytes += subscription.backlogBytes;
       }
       settle(line);
-    }), wanted, this.user.id);
+    }), wanted, this.asker);
+  }
+
+  // Takes the pieces of a long document. Nothing else is given until its end.
+  #takerOf(slot, wanted, settle) {
+    return {
+      wanted,
+      isBehind: () => this.#hasMuch,
+      tooSlow: this.#guarded(() => this.close(CODE.later, "too slow for a document that is so long")),
+      take: this.#guarded((bytes) => {
+        this.#passing = slot;
+        this.#put(bytes);
+        this.#flush();
+      }),
+      settle: this.#guarded((line) => {
+        if (this.#passing !== slot) return line !== null && settle(line);
+        if (line === null) return this.close(CODE.ends, "the store's session was cut");
+        this.#passing = undefined;
+        this.#put(line);
+        for (const held of this.#behind.splice(0)) this.#give(held);
+        slot.isPassed = true;
+        this.#answer(slot, EMPTY);
+        for (const doc of [...this.#followed.keys()]) this.#tell(doc);
+        this.#flush();
+      }),
+    };
   }
 
   // A document may have another place by now than the one that was asked.
@@ -623,10 +753,10 @@ export class Browser {
   #deliver() {
     const before = this.#slots.length;
     while (!this.isGone && this.#slots[0]?.reply !== undefined) {
-      const { kind, message, reply, followed, bytes = 0 } = this.#slots.shift();
+      const { kind, message, reply, followed, bytes = 0, isRoom, isPassed = false } = this.#slots.shift();
       this.#slotBytes -= bytes;
       const code = codeOf(reply);
-      if (reply.length > LARGE_REPLY) this.#readsAtOnce = 1;
+      if (reply.length > LARGE_REPLY || isPassed) this.#readsAtOnce = 1;
       if (message?.do === "unsubscribe" && code === 0) this.#unfollow(message.doc);
       this.#give(reply);
       this.#gateway.metrics.refused(code);
@@ -641,6 +771,8 @@ export class Browser {
         this.#unfollow(doc);
         this.#followed.set(doc, followed);
       }
+      if (isRoom) this.#asksRooms -= 1;
+      if (isRoom || kind === "presence") this.#countRooms();
       this.#tell(doc);
     }
     return this.#slots.length < before;
@@ -656,7 +788,7 @@ export class Browser {
   // Tells the news of a document. It waits while a message of it has no reply; what stands up to an own change that was answered may go.
   #tell(doc) {
     const followed = this.#followed.get(doc);
-    if (followed === undefined || this.isGone) return false;
+    if (followed === undefined || this.isGone || this.#passing !== undefined) return false; // it is told behind what is passed on
     const { subscription, news } = followed;
     const last = this.#open.has(doc) ? (this.#own.get(doc) ?? 0) : Infinity;
     const { backlog } = subscription;
@@ -681,7 +813,7 @@ export class Browser {
   }
 
   #isBehind() {
-    return this.#socket.bufferedAmount + this.#outBytes > MOST_BUFFERED;
+    return this.#passing !== undefined || this.#socket.bufferedAmount + this.#outBytes > MOST_BUFFERED;
   }
 
   #giveNews(subscription, line) {
@@ -700,6 +832,11 @@ export class Browser {
   }
 
   #give(line) {
+    if (this.#passing === undefined) this.#put(line);
+    else this.#behind.push(line);
+  }
+
+  #put(line) {
     this.#out.push(line);
     this.#outBytes += line.length;
     this.#givenBytes += line.length;
@@ -735,14 +872,18 @@ export class Browser {
     this.#followed.delete(doc);
     this.#backlogBytes -= followed.subscription.backlogBytes;
     followed.news.leave(followed.subscription);
+    this.#countRooms();
   }
 
   #leave() {
     if (this.isGone) return;
     this.isGone = true;
+    for (const account of this.#accounts) account.browsers.delete(this);
+    this.#countRooms();
     this.#gateway.waiting.note(this, 0);
     clearTimeout(this.#timer);
     for (const slot of this.#slots) {
+      slot.undo?.();
       if (slot.ticket !== undefined) slot.ticket.isWanted = false;
       else this.#uncount(slot, false);
     }

@@ -40,20 +40,30 @@ export interface Limits {
   /** Open at once: of the gateway 20,000, of a user 200. */
   sessions: number;
   userSessions: number;
-  /** Open at once from one address: 20,000. */
+  /** Connections at once from one address: 20,000, of them 1,000 that aren't signed in. */
   addressSessions: number;
-  /** Messages of a user a second: 2,000. */
+  addressUnsigned: number;
+  /** Messages a second: of a user 2,000, of an address 20,000. */
   userMessages: number;
-  /** Bytes a second of a user's connections, 1 MiB; of them those that are no lines, 16 KiB; and of an address's, 64 MiB. */
+  addressMessages: number;
+  /** Bytes a second of all connections: of a user 1 MiB, of an address 64 MiB. */
   userBytes: number;
-  userOverhead: number;
   addressBytes: number;
-  /** Documents that a user's sessions are told of: 1,000. */
+  /** Of them those that are no lines: of a user 16 KiB, of an address 1 MiB. */
+  userOverhead: number;
+  addressOverhead: number;
+  /** Milliseconds a second of a store's session that reads of older revisions take: of a user 250, of an address 800. */
+  userReading: number;
+  addressReading: number;
+  /** Documents that sessions are told of: of a user 1,000, of an address 100,000. */
   userDocuments: number;
+  addressDocuments: number;
+  /** Seconds that a user or an address may be above one of these without an end, and not read for it: 30. */
+  heldSeconds: number;
   /** Documents that a user may create: 1,000 in all, and 100 an hour. */
   userCreations: number;
   userCreationsHour: number;
-  /** Names of a user in one document: 4. */
+  /** Names of a user in one document, and of one store under which he sends at a time: 4. */
   userNames: number;
   /** Bytes of a document as it is fetched: 64 MiB. */
   lineBytes: number;
@@ -96,6 +106,8 @@ export interface Settings {
   hosts?: string[];
   /** Which header says where a request comes from, as a proxy sets it. Without it the connection does. */
   address?: { header: string };
+  /** Where `python3 -m richd archive` keeps the documents' revisions: a path or a URL, or one by each name of a store. */
+  archive?: string | Record<string, string>;
   /** What users may take, and what is held of what a store sends; docs/GATEWAY.md has their table. */
   limits?: Partial<Limits>;
   /** Gives who asks, or null where he isn't signed in. Without it everybody is the user "anybody". */
@@ -119,9 +131,11 @@ export interface Health {
 }
 
 export interface Gateway {
+  /** For the event "connection" of an HTTP server, "secureConnection" of one with TLS: connections that nobody has signed in are limited, too. */
+  handleConnection(socket: any): void;
   /** For the event "upgrade" of an HTTP server. */
   handleUpgrade(request: Request, socket: any, head: any): Promise<void>;
-  /** Answers /healthz, /metrics and /docs; gives false where it was none of them. */
+  /** Answers /healthz, /metrics, /docs and the pages of versions; gives false where it was none of them. */
   handleRequest(request: Request, response: any): boolean;
   /** Answers /healthz and /metrics, for an address of their own; gives false where it was none of them. */
   handleWatch(request: Request, response: any): boolean;

@@ -3,7 +3,7 @@
 import { randomBytes } from "node:crypto";
 import { mkdirSync, readdirSync } from "node:fs";
 import path from "node:path";
-import { Browser, MOST_OWED } from "./browser.js";
+import { Browser } from "./browser.js";
 import { CODE } from "./codes.js";
 import { Etcd } from "./etcd.js";
 import { Journal, readLines } from "./journal.js";
@@ -18,7 +18,8 @@ import { Presence } from "./presence.js";
 import { checkOrigins, checkStore, checked } from "./settings.js";
 import { Store } from "./store.js";
 import { Sweep } from "./sweep.js";
-import { Address, User, idOf } from "./users.js";
+import { Address, User, idOf, nameOf } from "./users.js";
+import { Versions, versionIn } from "./versions.js";
 import { Waiting } from "./waiting.js";
 import { webSockets } from "./websockets.js";
 
@@ -33,6 +34,7 @@ const MOST_LISTED = 1_000; // documents of a page
 const MOST_LOOKED = 10_000; // places that are looked at for a page
 
 const PAGES = ["/healthz", "/metrics", "/docs"];
+const PROXIED = ["x-forwarded-for", "x-real-ip", "forwarded", "via"]; // headers of requests that a proxy has passed on
 
 export { CODE };
 
@@ -69,6 +71,9 @@ export class Gateway {
   #users = new Map();
   /** @type {Map<string, Address>} */
   #addresses = new Map();
+  /** @type {WeakMap<object, { address: Address, isSigned: boolean }>} */
+  #connections = new WeakMap();
+  #hasSaidProxied = false;
   /** @type {Map<string, Browser>} */
   #holders = new Map();
   #count = 0;
@@ -76,6 +81,8 @@ export class Gateway {
   #said = new Map();
   #isEnding = false;
   #sweep;
+  /** @type {Versions | undefined} */
+  #versions;
   #timers = [];
 
   metrics = new Metrics();
@@ -100,7 +107,7 @@ export class Gateway {
   }
 
   async begin() {
-    const { etcd, data, rule, stores, pulse } = this.#settings;
+    const { etcd, data, rule, stores, pulse, archive, limits } = this.#settings;
     if (etcd === undefined) {
       mkdirSync(data, { recursive: true, mode: 0o700 });
       this.#unlock = await lock(data);
@@ -111,6 +118,8 @@ export class Gateway {
       this.places = new EtcdPlaces({ etcd: this.#etcd, stores: () => [...this.stores.values()] });
     }
     this.places.moves = etcd !== undefined;
+    const { places } = this;
+    if (archive !== undefined) this.#versions = new Versions({ archive, places, data, etcd: this.#etcd, most: limits.lineBytes, onFailure: this.#onUnwritten });
     for (const store of stores) this.#add(store);
     if (etcd !== undefined) {
       this.#findPool();
@@ -171,35 +180,68 @@ export class Gateway {
       this.log("origin refused", { origin: request.headers.origin, host: request.headers.host });
       return refuse(socket, 403, "Forbidden");
     }
-    const from = this.#addressOf(request);
-    const address = this.#addresses.get(from) ?? new Address(this.#settings.limits);
-    if (address.sessions >= this.#settings.limits.addressSessions) {
-      this.metrics.count("over_total", { limit: "addressSessions" });
-      this.log("an address has too many sessions", { address: from });
-      return refuse(socket, 503, "Service Unavailable");
-    }
-    this.#addresses.set(from, address);
-    address.sessions += 1;
-    socket.once("close", () => {
-      address.sessions -= 1;
-      if (address.sessions === 0) this.#addresses.delete(from);
-    });
+    const address = this.#connected(this.#addressOf(request), socket);
+    if (address === undefined) return refuse(socket, 503, "Service Unavailable");
     const given = await inTime(this.#signedIn(request));
     if (given === undefined) return refuse(socket, 503, "Service Unavailable");
     if (given === null) return refuse(socket, 401, "Unauthorized");
     if (this.#isEnding) return refuse(socket, 503, "Service Unavailable");
+    this.#signed(socket);
     this.#sockets.handleUpgrade(request, socket, head, (webSocket) => this.#open(webSocket, given, address));
+  }
+
+  /** Counts a connection that an HTTP server was asked for, and ends it where its address has as many as it may. */
+  handleConnection(socket) {
+    if (this.#settings.address !== undefined) return; // then the proxy's connections aren't browsers'
+    if (this.#connected(socket.remoteAddress ?? "", socket) === undefined) socket.destroy();
+  }
+
+  // The address of a connection, which is counted there until it is closed; undefined where it has too many.
+  #connected(from, socket) {
+    const before = this.#connections.get(socket);
+    if (before !== undefined) return before.address;
+    const { limits } = this.#settings;
+    const address = this.#addresses.get(from) ?? new Address(limits);
+    const counts = { addressSessions: address.connections, addressUnsigned: address.unsigned };
+    const over = Object.keys(counts).find((limit) => counts[limit] >= limits[limit]);
+    if (over !== undefined) {
+      this.metrics.count("over_total", { limit: over });
+      this.log("an address has too many connections", { address: from, limit: over });
+      return undefined;
+    }
+    this.#addresses.set(from, address);
+    address.connections += 1;
+    address.unsigned += 1;
+    this.#connections.set(socket, { address, isSigned: false });
+    socket.once("close", () => {
+      this.#signed(socket);
+      address.connections -= 1;
+    });
+    return address;
+  }
+
+  #signed(socket) {
+    const connection = this.#connections.get(socket);
+    if (!connection.isSigned) connection.address.unsigned -= 1;
+    connection.isSigned = true;
   }
 
   // Where a request comes from, as the nearest proxy says.
   #addressOf({ headers, socket }) {
     const { address } = this.#settings;
+    if (address === undefined && PROXIED.some((header) => header in headers)) this.#sayProxied();
     const said = address && headers[address.header.toLowerCase()];
     return said ? said.split(",").at(-1).trim() : (socket?.remoteAddress ?? "");
   }
 
+  #sayProxied() {
+    if (this.#hasSaidProxied) return;
+    this.#hasSaidProxied = true;
+    this.log("requests come by a proxy, and no setting address says where from: all have the proxy's address, and share what one may take");
+  }
+
   /**
-   * Answers /healthz, /metrics and /docs. Gives whether it was one of them.
+   * Answers /healthz, /metrics, /docs and the pages of versions. Gives whether it was one of them.
    * @param {import("node:http").IncomingMessage} request
    * @param {import("node:http").ServerResponse} response
    */
@@ -215,7 +257,8 @@ export class Gateway {
   #handle(request, response, pages) {
     try {
       const [name, query = ""] = request.url.split("?", 2);
-      if (!pages.includes(name)) return false;
+      const version = this.#versions && versionIn(name);
+      if (!pages.includes(version ? "/docs" : name)) return false;
       if (isKnownHost(request, this.#settings) && isAllowedOrigin(request, this.#settings.origins)) {
         this.#answer(name, query, request, response);
       } else {
@@ -245,8 +288,9 @@ export class Gateway {
       response.writeHead(200, { "content-type": "text/plain; version=0.0.4" });
       response.end(this.metricsText());
     } else {
-      this.#list(request, new URLSearchParams(query)).then(([status, value]) => json(status, value), (error) => {
-        this.log("the list can't be given now", { error: error.message });
+      const answer = name === "/docs" ? this.#list : this.#version;
+      answer.call(this, request, new URLSearchParams(query), name).then(([status, value]) => json(status, value), (error) => {
+        this.log("a page can't be given now", { page: name, error: error.message });
         json(503, { error: "later" });
       });
     }
@@ -306,16 +350,13 @@ export class Gateway {
       await store.leases.close();
     }
     this.#sweep?.end();
+    await this.#versions?.close();
     await this.places?.close();
     this.#etcd?.close();
     this.#unlock();
   }
 
   // What follows is for browsers.
-
-  get mostDocuments() {
-    return this.#settings.limits.userDocuments;
-  }
 
   /** Whether a user, as `authorize` gave him, may send a message: a promise where that isn't known at once. Where it can't be found out the promise fails. */
   judge(user, message) {
@@ -347,8 +388,9 @@ export class Gateway {
     return verdict === true;
   }
 
-  /** A command was taken. */
-  taken(user, message, rev, isAgain) {
+  /** A command was taken, under a name that is this user's, if one is given. */
+  taken(user, message, rev, isAgain, name) {
+    if (name !== undefined) this.#versions?.note(message.doc, name, nameOf(user), rev);
     if (this.#onTaken === undefined) return;
     const failed = (error) => this.log("onTaken failed", { error: error.message });
     try {
@@ -367,7 +409,6 @@ export class Gateway {
   depart(browser, holder, docs) {
     this.presence.depart(browser);
     this.#browsers.delete(browser);
-    browser.user.browsers.delete(browser);
     if (browser.user.browsers.size === 0) browser.user.goneSince = performance.now();
     if (holder === undefined || this.#holders.get(holder) !== browser) return;
     this.#holders.delete(holder);
@@ -404,9 +445,11 @@ export class Gateway {
       setTimeout(() => webSocket.terminate(), FAREWELL).unref();
       return;
     }
-    if (user.overhead.owed > MOST_OWED) {
-      this.metrics.count("over_total", { limit: "overhead" });
-      this.log("a user sends more than he may, and is closed", { user: id, limit: "overhead" });
+    const over = [user, address].find(({ owesMuch }) => owesMuch);
+    if (over !== undefined) {
+      const limit = over.nameOf(over.debt.limit);
+      this.metrics.count("over_total", { limit });
+      this.log("a user sends more than he may, and is closed", { user: id, limit });
       webSocket.on("error", () => {});
       webSocket.pause();
       webSocket.close(CODE.over, "more than you may send");
@@ -418,7 +461,6 @@ export class Gateway {
     this.#count += 1;
     const browser = new Browser(this, webSocket, user, given, this.#count, address);
     this.#browsers.add(browser);
-    user.browsers.add(browser);
   }
 
   #namesOf(pool) {
@@ -500,6 +542,14 @@ export class Gateway {
     return [200, { docs, next: after }];
   }
 
+  async #version(request, query, name) {
+    const user = await this.#signedIn(request);
+    if (user === null) return [401, { error: "not signed in" }];
+    if (user === undefined) return [503, { error: "later" }];
+    const asked = versionIn(name);
+    return (await this.mayRead(user, asked.doc)) ? this.#versions.page(idOf(user), asked, query) : [403, { error: "not allowed" }];
+  }
+
   #look() {
     for (const browser of [...this.#browsers]) browser.look();
   }
@@ -508,9 +558,14 @@ export class Gateway {
     this.#said.clear();
     const forgotten = performance.now() - FORGOTTEN;
     for (const [id, { goneSince }] of this.#users) if (goneSince < forgotten) this.#users.delete(id);
-    for (const store of this.stores.values()) store.serveNames();
+    for (const [from, { connections, isEven }] of this.#addresses) if (connections === 0 && isEven) this.#addresses.delete(from);
+    for (const store of this.stores.values()) {
+      store.leases.tidy();
+      store.serveNames();
+    }
     const before = performance.now() - SECOND * this.#settings.recheck;
     for (const browser of [...this.#browsers]) {
+      browser.sent /= 2;
       browser.giveUpWaiting();
       if (this.#can !== undefined) browser.judgeAgain(before);
       browser.count();

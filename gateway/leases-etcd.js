@@ -2,7 +2,8 @@
 // pool of its own, and each step is one transaction that compares what it stands on. A lease says at which gateway it is used: that one alone
 // asks it back before its term, for it knows what is on its way.
 
-import { Lease, NAMING, choice, userOf } from "./leases.js";
+import { Lease, NAMING, choice } from "./leases.js";
+import { NamesInUse, userOf } from "./names.js";
 
 const MOST_TRIES = 10; // of a transaction that others were faster than
 const MOST_KEPT = 100_000; // leases in memory; then those that were asked for longest ago are asked for anew
@@ -17,6 +18,7 @@ export class EtcdLeases {
   #onLent;
   #at;
   #naming;
+  #inUse;
   #began;
   #places;
   /** @type {Map<string, Lease>} `doc/holder` -> lease */
@@ -32,6 +34,7 @@ export class EtcdLeases {
     this.#places = places;
     this.#at = at;
     this.#naming = naming;
+    this.#inUse = new NamesInUse({ most: naming.most, now });
     this.#began = now();
     this.#etcd = etcd;
     this.#store = store;
@@ -46,7 +49,7 @@ export class EtcdLeases {
    * As `lend` of a file's leases; with `isNew` for a creation, whose place is written with the lease. A lease that was used of late needs no etcd.
    * @param {string} doc
    * @param {string} holder
-   * @returns {Lease | Promise<Lease | undefined>}
+   * @returns {Lease | undefined | Promise<Lease | undefined>}
    */
   lend(doc, holder, isNew = false) {
     return this.#find(doc, holder, true, isNew);
@@ -62,6 +65,7 @@ export class EtcdLeases {
     const known = this.#known.get(key);
     if (known !== undefined) known.seen = this.#now();
     if (known?.isReserved && !isCommand) return known;
+    if (isCommand && known !== undefined && !this.#inUse.takes(holder, known)) return undefined;
     if (known !== undefined && !known.isReserved && !known.isAway && known.seen - known.used <= this.#term / 8) return known;
     const asked = `${isCommand} ${key}`;
     if (!this.#asked.has(asked)) {
@@ -83,10 +87,14 @@ export class EtcdLeases {
   /** Takes back a lease that was new, and under which nothing was taken; and with it the place of a document that isn't made. */
   release(doc, holder, lease, isNowhere) {
     const key = `${doc}/${holder}`;
-    if (!lease.isUnused || lease.mod === undefined || this.#known.get(key) !== lease) return;
-    this.#known.delete(key);
-    const place = isNowhere ? this.#places?.disclaim(doc) : undefined;
+    const place = isNowhere && lease.onWay === 0 ? this.#places?.disclaim(doc) : undefined;
+    const isFree = lease.isUnused(isNowhere) && lease.mod !== undefined && this.#known.get(key) === lease;
     if (place) this.#places.disclaimed(doc);
+    if (!isFree) {
+      if (place) this.#etcd.transact([place.compare], place.remove).catch(() => {});
+      return;
+    }
+    this.#known.delete(key);
     this.#takeBack(doc, holder, lease, place).catch(() => {}); // the next start sweeps it away
   }
 
@@ -109,19 +117,23 @@ export class EtcdLeases {
       const key = `${doc}/${holder}`;
       const known = this.#known.get(key);
       if (known === undefined) continue;
-      known.next = undefined;
       known.isAway = true;
       if (known.isReserved) this.#known.delete(key);
     }
+  }
+
+  /** Is called now and then. */
+  tidy() {
+    this.#inUse.tidy();
   }
 
   async close() {}
 
   async #write(doc, holder, lease) {
     const found = await this.#etcd.get(this.#key(doc, holder));
-    if (found !== undefined && isSame(JSON.parse(found.value), lease)) {
-      await this.#etcd.transact([{ key: found.key, mod: found.mod }], [{ key: found.key, value: this.#kept(lease) }]);
-    }
+    if (found === undefined || !isSame(JSON.parse(found.value), lease)) return;
+    const mod = await this.#etcd.transact([{ key: found.key, mod: found.mod }], [{ key: found.key, value: this.#kept(lease) }]);
+    if (mod !== false && lease.mod === found.mod) lease.mod = mod;
   }
 
   async #ask(doc, holder, isCommand, isNew) {
@@ -130,7 +142,8 @@ export class EtcdLeases {
       const all = (await this.#etcd.under(under)).map(({ key, value, mod }) => ({ key, mod, holder: key.slice(under.length), ...JSON.parse(value) }));
       const own = all.find((lease) => lease.holder === holder);
       const lease = own === undefined ? await this.#lendNew(doc, holder, all, isCommand, isNew) : await this.#renew(doc, holder, own);
-      if (lease !== null) return lease;
+      if (lease === null) continue;
+      return isCommand && lease !== undefined && !this.#inUse.takes(holder, lease) ? undefined : lease;
     }
     throw new Error(`no lease in ${doc}: others were faster each time`);
   }
@@ -143,11 +156,13 @@ export class EtcdLeases {
     if (known?.isReserved) this.#naming.onRecall(doc, holder, holder); // he was told another name
     lease.used = own.used; // perhaps at another gateway
     lease.isAway = false;
-    lease.mod = undefined; // it may have been used
+    if (lease.mod !== own.mod) lease.next = undefined; // it may have been used there
+    lease.mod = own.mod;
     if (now - own.used > this.#term / 8 || own.at !== this.#at) {
       const value = JSON.stringify({ ...kept(own), used: now, at: this.#at });
-      if (!(await this.#etcd.transact([{ key: own.key, mod: own.mod }], [{ key: own.key, value }]))) return null;
-      lease.used = now;
+      const mod = await this.#etcd.transact([{ key: own.key, mod: own.mod }], [{ key: own.key, value }]);
+      if (mod === false) return null;
+      Object.assign(lease, { mod, used: now });
     }
     return this.#keep(doc, holder, lease);
   }
@@ -170,7 +185,8 @@ export class EtcdLeases {
     for (const [key, lease] of this.#known) {
       if (lease.isReserved && key.startsWith(under)) taken.push([key.slice(under.length), { ...lease, mayGo: true, isOver: lease.seen < now - recall }]);
     }
-    const { free, old } = choice(taken, { doc, holder, isCommand, names, first: this.#first, naming: this.#naming });
+    const only = this.#inUse.only(holder);
+    const { free, old } = choice(taken, { doc, holder, isCommand, names, first: this.#first, naming: this.#naming, only });
     if (free === undefined && old === undefined) return undefined;
     if (free !== undefined || old[1].isReserved) {
       const lease = Object.assign(new Lease(free ?? old[1].name, 1, now), { next: 1, isReserved: !isCommand });
@@ -184,7 +200,9 @@ export class EtcdLeases {
     const lease = new Lease(name, epoch + 1, now);
     const key = this.#key(doc, holder);
     onRecall(doc, from, holder);
-    if (!(await this.#etcd.transact([{ key }, { key: oldKey, mod }], [{ key: oldKey }, { key, value: this.#kept(lease) }]))) return null;
+    const written = await this.#etcd.transact([{ key }, { key: oldKey, mod }], [{ key: oldKey }, { key, value: this.#kept(lease) }]);
+    if (written === false) return null;
+    lease.mod = written;
     this.#known.delete(under + from);
     return this.#lent(doc, holder, lease);
   }
@@ -193,7 +211,7 @@ export class EtcdLeases {
   async #lendFree(doc, holder, lease, isNew) {
     const key = this.#key(doc, holder);
     const nameKey = this.#nameKey(doc, lease.name); // a name is new in a document once
-    const place = isNew ? await this.#places?.claim(doc, this.#store, userOf(holder)) : undefined;
+    const place = isNew ? await this.#places?.claim(doc, this.#store) : undefined;
     const compare = [{ key }, { key: nameKey }, ...(place ? [place.compare] : [])];
     const put = [{ key, value: this.#kept(lease) }, { key: nameKey, value: holder }, ...(place ? place.put : [])];
     const mod = await this.#etcd.transact(compare, put);
@@ -202,7 +220,7 @@ export class EtcdLeases {
       if (lease.isTold) this.#naming.onRecall(doc, holder, holder); // he was told a name that he doesn't get
       return null;
     }
-    if (place) this.#places.claimed(doc, this.#store, mod, userOf(holder));
+    if (place) this.#places.claimed(doc, this.#store, mod);
     Object.assign(lease, { isReserved: false, mod });
     return this.#lent(doc, holder, lease);
   }

@@ -2,6 +2,7 @@
 // others' in other documents, so a few sessions write for all, and a document's places are spent by those alone who write in it.
 
 import { Journal, readLines } from "./journal.js";
+import { NamesInUse, userOf } from "./names.js";
 
 /** A name that a holder has in a document. Its numbers are worth something under this lease alone. */
 export class Lease {
@@ -10,7 +11,7 @@ export class Lease {
   onWay = 0; // commands that were sent and have no reply
   isTold = false; // its holder asked for it, and counts on it
   isKept = true; // it is on the disk
-  /** @type {string | undefined} the revision of etcd that wrote it, where nothing was sent under it before */
+  /** @type {string | undefined} the revision of etcd that wrote it last, as far as this gateway knows */
   mod;
   isReserved = false; // it was asked for, and is lent with the first command
   isAway = false; // its holder has gone since it was asked for; where leases are in etcd
@@ -25,9 +26,12 @@ export class Lease {
     Object.assign(this, { name, epoch, used, isOwn, seen: used });
   }
 
-  /** Whether its numbers are all unused still, and its holder knows nothing of it. */
-  get isUnused() {
-    return this.epoch === 1 && this.next === 1 && this.onWay === 0 && !this.isTold;
+  /**
+   * Whether its numbers are all unused still, and its holder doesn't count on it: he knows nothing of it, or the document is nowhere.
+   * @param {boolean} isNowhere
+   */
+  isUnused(isNowhere) {
+    return this.epoch === 1 && this.next === 1 && this.onWay === 0 && (isNowhere || !this.isTold);
   }
 
   /** A command leaves. */
@@ -44,18 +48,15 @@ export class Lease {
   }
 }
 
-/** The names of a pool in the order in which a document's holders get them: other documents begin with other names. */
-export function namesFor(doc, names, first) {
+/**
+ * The names of a pool in the order in which they are tried, those that have sessions first: each key begins with another one. The key is the user,
+ * so that few names serve him in all of his documents; where one user may have them all it is the document.
+ */
+export function namesFor(key, names, first) {
   let hash = 0;
-  for (let at = 0; at < doc.length; at += 1) hash = (31 * hash + doc.charCodeAt(at)) >>> 0;
+  for (let at = 0; at < key.length; at += 1) hash = (31 * hash + key.charCodeAt(at)) >>> 0;
   const begin = hash % first;
   return [...names.slice(begin, first), ...names.slice(0, begin), ...names.slice(first)];
-}
-
-/** The user of a holder: a token has no stroke. @param {string} holder */
-export function userOf(holder) {
-  const at = holder.lastIndexOf("/");
-  return at === -1 ? holder : holder.slice(0, at);
 }
 
 /**
@@ -63,7 +64,8 @@ export function userOf(holder) {
  * many as a user may. Undefined: he waits.
  *
  * A name that was only asked for goes to whoever sends a command; one that was written under, once it wasn't used for a while, or at once from
- * the same user where its holder is gone. One with something on its way stays.
+ * the same user where its holder is gone. One with something on its way stays. A user who sends under as many names of the store as he may gets one
+ * of these for a command.
  * @typedef {object} Taken
  * @property {string} name
  * @property {number} seen  when it was used last
@@ -73,25 +75,29 @@ export function userOf(holder) {
  *
  * @template {Taken} T
  * @param {[string, T][]} taken  holders with their leases
- * @param {{ doc: string, holder: string, isCommand: boolean, names: string[], first: number, naming: Naming }} about
+ * @param {{ doc: string, holder: string, isCommand: boolean, names: string[], first: number, naming: Naming, only?: string[] }} about  `only`: the
+ *   names of the store under which he may send now, where they aren't all
  * @returns {{ free?: string, old?: [string, T] }}
  */
-export function choice(taken, { doc, holder, isCommand, names, first, naming: { most, isHere } }) {
+export function choice(taken, { doc, holder, isCommand, names, first, naming: { most, isHere }, only }) {
   const user = userOf(holder);
   const own = taken.filter(([other]) => userOf(other) === user);
   const hasRoom = own.length < most;
   const lent = new Set(taken.map(([, { name }]) => name));
-  const free = hasRoom ? namesFor(doc, names, first).find((name) => !lent.has(name)) : undefined;
+  const mayUse = (name) => only === undefined || !isCommand || only.includes(name);
+  const order = namesFor(most < first ? user : doc, names, first);
+  const free = hasRoom ? order.find((name) => !lent.has(name) && mayUse(name)) : undefined;
   if (free !== undefined) return { free };
-  const goes = ([other, { mayGo, isOver, isReserved }]) => mayGo && (isOver || (isReserved && isCommand) || (userOf(other) === user && !isHere(other)));
-  const order = ([, { isReserved, seen }]) => (isReserved ? 0 : seen);
-  const [old] = (hasRoom ? taken : own).filter(goes).sort((one, other) => order(one) - order(other));
+  const isLeft = ([other, { isOver, isReserved }]) => isOver || (isReserved && isCommand) || (userOf(other) === user && !isHere(other));
+  const goes = (it) => it[1].mayGo && mayUse(it[1].name) && isLeft(it);
+  const age = ([, { isReserved, seen }]) => (isReserved ? 0 : seen);
+  const [old] = (hasRoom ? taken : own).filter(goes).sort((one, other) => age(one) - age(other));
   return { old };
 }
 
 /**
  * @typedef {object} Naming  how many names a user has, and who gives his up
- * @property {number} most  names of a user in a document
+ * @property {number} most  names of a user in a document, and under which he sends at a time
  * @property {number} recall  milliseconds after which a name that isn't used may be asked back
  * @property {(holder: string) => boolean} isHere  whether he has a session
  * @property {(doc: string, from: string, to: string) => void} onRecall  a name goes from one holder to another
@@ -118,6 +124,7 @@ export class Leases {
   #now;
   #onLent;
   #naming;
+  #inUse;
   /** @type {Map<string, Map<string, Lease>>} doc -> holder -> lease */
   #docs = new Map();
   #written = new WeakMap(); // lease -> the promise that it is on the disk, until it is
@@ -130,6 +137,7 @@ export class Leases {
    */
   constructor({ file, names, first, term, now = Date.now, onLent = () => {}, naming = NAMING, ...options }) {
     this.#naming = naming;
+    this.#inUse = new NamesInUse({ most: naming.most, now });
     this.#names = names;
     this.#first = first;
     this.#term = term;
@@ -144,7 +152,8 @@ export class Leases {
   }
 
   /**
-   * The holder's lease for a command, or a new one, which is on the disk by then. Undefined where there is none now.
+   * The holder's lease for a command, or a new one, which is on the disk by then. Undefined where there is none now, or his user sends under as
+   * many other names as he may.
    * @param {string} doc
    * @param {string} holder
    * @returns {Lease | undefined | Promise<Lease>}
@@ -153,11 +162,16 @@ export class Leases {
     const found = this.#docs.get(doc)?.get(holder);
     if (found === undefined) return this.#lendNew(doc, holder, true);
     found.seen = this.#now();
+    if (!this.#inUse.takes(holder, found)) return undefined;
     if (found.isReserved) return this.#keep(doc, holder, found);
-    const age = this.#now() - found.used;
-    const writing = this.#written.get(found) ?? (age > this.#term / 8 ? this.#renew(doc, holder, found) : undefined);
-    // that it is used may be written later, as long as the file keeps it from being lent anew
-    return writing !== undefined && (age > this.#term || !found.isKept) ? writing : found;
+    return this.#used(doc, holder, found);
+  }
+
+  // That a lease is used may be written later, as long as the file keeps it from being lent anew.
+  #used(doc, holder, lease) {
+    const age = this.#now() - lease.used;
+    const writing = this.#written.get(lease) ?? (age > this.#term / 8 ? this.#renew(doc, holder, lease) : undefined);
+    return writing !== undefined && (age > this.#term || !lease.isKept) ? writing : lease;
   }
 
   /**
@@ -170,7 +184,9 @@ export class Leases {
   reserve(doc, holder) {
     const found = this.#docs.get(doc)?.get(holder);
     if (found === undefined) return this.#lendNew(doc, holder, false);
-    return found.isReserved ? found : this.lend(doc, holder);
+    if (found.isReserved) return found;
+    found.seen = this.#now();
+    return this.#used(doc, holder, found);
   }
 
   /** Whether `lend` is known to make no new lease. */
@@ -184,8 +200,8 @@ export class Leases {
   }
 
   /** Takes back a lease that was new, and under which nothing was taken. */
-  release(doc, holder, lease) {
-    if (!lease.isUnused || this.#docs.get(doc)?.get(holder) !== lease) return;
+  release(doc, holder, lease, isNowhere = false) {
+    if (!lease.isUnused(isNowhere) || this.#docs.get(doc)?.get(holder) !== lease) return;
     this.#remove(doc, holder);
     if (lease.isReserved) return;
     this.#journal.add([doc, holder, null]).catch(() => {});
@@ -201,6 +217,11 @@ export class Leases {
   /** The holder's session has ended. */
   depart(holder, docs) {
     for (const doc of docs) if (this.#docs.get(doc)?.get(holder)?.isReserved) this.#remove(doc, holder);
+  }
+
+  /** Is called now and then. */
+  tidy() {
+    this.#inUse.tidy();
   }
 
   close() {
@@ -233,7 +254,8 @@ export class Leases {
       const isOver = used < now - this.#term || seen < now - recall;
       return /** @type {const} */ ([other, { name, seen, isReserved, isOver, mayGo: onWay === 0 && !this.#written.has(lease), lease }]);
     });
-    const { free, old } = choice(taken, { doc, holder, isCommand, names: this.#names, first: this.#first, naming: this.#naming });
+    const only = this.#inUse.only(holder);
+    const { free, old } = choice(taken, { doc, holder, isCommand, names: this.#names, first: this.#first, naming: this.#naming, only });
     if (free === undefined && old === undefined) return undefined;
     const isNew = free !== undefined || old[1].isReserved;
     const lease = isNew ? new Lease(free ?? old[1].name, 1, now) : new Lease(old[1].name, old[1].lease.epoch + 1, now);
@@ -244,6 +266,7 @@ export class Leases {
     }
     this.#put(doc, holder, lease);
     if (!isCommand && isNew) return Object.assign(lease, { isReserved: true });
+    if (isCommand) this.#inUse.takes(holder, lease);
     return this.#keep(doc, holder, lease, isNew ? undefined : [old[0], old[1].lease]);
   }
 

@@ -2,6 +2,9 @@
 
 const MOST = 10_000; // of the last times that quantiles are of
 
+// Limits above which a session isn't read, and is closed later.
+const OVER = ["Messages", "Bytes", "Overhead", "Reading", "Documents"].flatMap((limit) => [`user${limit}`, `address${limit}`]);
+
 // What befalls a gateway seldom, with the labels that stand there from the start.
 const COUNTED = [
   ["garbage_total", [{ from: "store" }, { from: "etcd" }]],
@@ -13,9 +16,9 @@ const COUNTED = [
   ["pages_refused_total", [{}]],
   ["rights_ended_total", [{}]],
   ["swept_total", [{}]],
-  ["slowed_total", ["bytes", "overhead", "address"].map((limit) => ({ limit }))],
-  ["over_total", ["bytes", "overhead", "address", "addressSessions"].map((limit) => ({ limit }))],
-  ["rooms_refused_total", [{}]],
+  ["passed_total", [{}]],
+  ["slowed_total", OVER.map((limit) => ({ limit }))],
+  ["over_total", [...OVER, "addressSessions", "addressUnsigned"].map((limit) => ({ limit }))],
   ["creations_refused_total", ["all", "hour"].map((limit) => ({ limit }))],
 ];
 

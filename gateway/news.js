@@ -48,7 +48,8 @@ export class News {
   /**
    * @param {{ host: string, port: number }} address
    * @param {string} source
-   * @param {(doc: string, rev: number, settle: (line: Buffer) => void, wanted: () => boolean, user: string) => void} since  asks what came after a revision
+   * @param {(doc: string, rev: number, settle: (line: Buffer) => void, wanted: () => boolean, asker: import("./store.js").Asker) => void} since  asks
+   *     what came after a revision
    * @param {{ onCut?: () => void, onLag?: (milliseconds: number) => void, onGarbage?: (what: string) => void, onFault?: (error: Error) => void,
    *   onLong?: (doc: string) => void, mostNews?: number, kept?: Kept }} listener  `mostNews` bytes of a line; whoever follows the document fetches where it has more
    */
@@ -83,9 +84,9 @@ export class News {
    * @param {Subscription} subscription
    * @param {(line: Buffer) => void} answer
    * @param {() => boolean} wanted
-   * @param {string} user
+   * @param {import("./store.js").Asker} asker
    */
-  join(subscription, answer, wanted, user, tries = 0) {
+  join(subscription, answer, wanted, asker, tries = 0) {
     const { doc, told } = subscription;
     const reply = Buffer.from(`{"doc":"${doc}","ok":"subscribed","rev":${told}}\n`);
     const entry = this.#docs.get(doc);
@@ -100,7 +101,7 @@ export class News {
       let found = this.#docs.get(doc);
       if (found !== undefined && found.first > rev + 1) {
         // the ring has gone on meanwhile
-        return tries < MOST_TRIES ? this.join(subscription, answer, wanted, user, tries + 1) : answer(REFUSAL.TooOld);
+        return tries < MOST_TRIES ? this.join(subscription, answer, wanted, asker, tries + 1) : answer(REFUSAL.TooOld);
       }
       if (found === undefined) {
         found = { rev, first: rev + 1, ring: [], bytes: 0, subscriptions: new Set(), taken: new Map() };
@@ -111,7 +112,7 @@ export class News {
       subscription.backlog = deltas.map((ops, index) => Buffer.from(JSON.stringify({ doc, news: told + 1 + index, ops }) + "\n"));
       for (const { length } of subscription.backlog) subscription.backlogBytes += length;
       answer(reply);
-    }, wanted, user);
+    }, wanted, asker);
   }
 
   /** @param {Subscription} subscription */

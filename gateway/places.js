@@ -62,6 +62,9 @@ export class RuledPlaces {
 
   async place() {}
 
+  /** Takes a place back that a creation from here has written, and that isn't made. */
+  async undo() {}
+
   /** Where a creation goes that a store refused as it is full of documents; null: nowhere. */
   async move() {
     return null;
@@ -105,7 +108,7 @@ export class RuledPlaces {
 
 /**
  * With etcd: a creation chooses a place, and writes it in one transaction with its name. Where the store refuses it all that is taken back in
- * another, unless a second creation has written the place meanwhile.
+ * another, unless a second creation has written the place meanwhile. Whose document it is is counted once the store has it.
  */
 export class EtcdPlaces {
   #etcd;
@@ -119,7 +122,7 @@ export class EtcdPlaces {
   #full = new Map();
   /** @type {Map<string, string>} places that are chosen, and aren't in etcd yet */
   #open = new Map();
-  /** @type {Map<string, { mod: string, since: number, user?: string }>} places that a creation from here has written, which has no reply */
+  /** @type {Map<string, { mod: string, since: number }>} places that a creation from here has written, which has no reply */
   #made = new Map();
   #turn = 0;
 
@@ -145,8 +148,8 @@ export class EtcdPlaces {
     return this.#etcd.countUnder(makerKey(user, ""));
   }
 
-  /** What of a transaction writes a document's place, for a user's creation of it in a store; fails where it is placed elsewhere. */
-  async claim(doc, store, user) {
+  /** What of a transaction writes a document's place, for its creation in a store; fails where it is placed elsewhere. */
+  async claim(doc, store) {
     const key = `place/${doc}`;
     const found = await this.#etcd.get(key);
     if (found !== undefined && found.value !== store) {
@@ -154,20 +157,20 @@ export class EtcdPlaces {
       this.#know(doc, found.value);
       throw new Error(`${doc} was placed elsewhere meanwhile`);
     }
-    return { compare: found === undefined ? { key } : { key, mod: found.mod }, put: [{ key, value: store }, { key: makerKey(user, doc), value: "" }] };
+    return { compare: found === undefined ? { key } : { key, mod: found.mod }, put: [{ key, value: store }] };
   }
 
   /** A transaction with what `claim` gave was done. */
-  claimed(doc, store, mod, user) {
+  claimed(doc, store, mod) {
     this.#open.delete(doc);
-    this.#made.set(doc, { mod, since: this.#now(), user });
+    this.#made.set(doc, { mod, since: this.#now() });
     this.#know(doc, store);
   }
 
   /** What of a transaction takes a place back that a creation from here has written; undefined where there is nothing to take back. */
   disclaim(doc) {
     const made = this.#made.get(doc);
-    return made && { compare: { key: `place/${doc}`, mod: made.mod }, remove: [{ key: `place/${doc}` }, { key: makerKey(made.user, doc) }] };
+    return made && { compare: { key: `place/${doc}`, mod: made.mod }, remove: [{ key: `place/${doc}` }] };
   }
 
   /** A place was taken back, or is another creation's now. */
@@ -177,11 +180,11 @@ export class EtcdPlaces {
   }
 
   /** Writes a place that was chosen, where the name is there already. */
-  async place(doc, store, user) {
-    const { compare, put } = await this.claim(doc, store, user);
+  async place(doc, store) {
+    const { compare, put } = await this.claim(doc, store);
     const mod = await this.#etcd.transact([compare], put);
     if (mod === false) throw new Error(`${doc} is being placed elsewhere`);
-    this.claimed(doc, store, mod, user);
+    this.claimed(doc, store, mod);
   }
 
   /**
@@ -203,12 +206,12 @@ export class EtcdPlaces {
       const next = this.#choose();
       if (found === undefined) return null;
       if (next === undefined || next === from) {
-        await this.#takeBack(doc);
+        await this.undo(doc);
         return null;
       }
       const mod = await this.#etcd.transact([{ key: found.key, mod: found.mod }], [{ key: found.key, value: next }]);
       if (mod === false) continue;
-      this.claimed(doc, next, mod, this.#made.get(doc)?.user);
+      this.claimed(doc, next, mod);
       return next;
     }
     throw new Error(`${doc} can't be placed: others were faster each time`);
@@ -223,18 +226,22 @@ export class EtcdPlaces {
     return found === undefined ? null : this.#know(doc, found.value);
   }
 
-  async #takeBack(doc) {
+  async undo(doc) {
     const back = this.disclaim(doc);
     if (back === undefined) return;
     this.disclaimed(doc);
     await this.#etcd.transact([back.compare], back.remove);
   }
 
-  /** A document is there. Its place was before it; where that may have been taken for another's rest meanwhile it is looked at again. */
-  created(doc, store) {
+  /**
+   * A document is there, and is counted for its user. Its place was before it; where that may have been taken for another's rest meanwhile it is
+   * looked at again.
+   */
+  async created(doc, store, user) {
     const made = this.#made.get(doc);
     this.#made.delete(doc);
-    return made !== undefined && this.#now() - made.since < SURE ? undefined : this.#confirm(doc, store);
+    if (made === undefined || this.#now() - made.since >= SURE) await this.#confirm(doc, store);
+    if (user !== undefined) await this.#etcd.transact([], [{ key: makerKey(user, doc), value: "" }]);
   }
 
   async #confirm(doc, store) {

@@ -17,7 +17,7 @@ import { HOOKS } from "./settings.js";
 const USAGE = "usage: richd-gateway --settings FILE, or richd-gateway import STORE --settings FILE [LIST]";
 const PATIENCE = 10_000; // milliseconds that a request may take to come
 const OWN = ["127.0.0.1", "localhost", "[::1]", "::1"];
-const FIELDS = ["listen", "watch", "name", "stores", "readers", "writers", "guests", "names", "data", "etcd", "rule", "term", "recall", "recheck", "origins", "hosts", "address", "user", "module", "anybody", "limits"];
+const FIELDS = ["listen", "watch", "name", "stores", "readers", "writers", "guests", "names", "data", "etcd", "rule", "term", "recall", "recheck", "origins", "hosts", "address", "archive", "user", "module", "anybody", "limits"];
 
 /** @param {any} text @param {string} field */
 function addressIn(text, field) {
@@ -74,10 +74,11 @@ async function serve(file) {
   const log = (event) => console.error(JSON.stringify(event));
   const gateway = await createGateway({ ...others, ...hooks, log, hidesMetrics: watched !== undefined });
 
-  const server = http.createServer((request, response) => {
+  const server = http.createServer({ connectionsCheckingInterval: PATIENCE / 10 }, (request, response) => {
     if (!gateway.handleRequest(request, response)) response.writeHead(404).end("no such page\n");
   });
   server.headersTimeout = server.requestTimeout = PATIENCE;
+  server.on("connection", (socket) => gateway.handleConnection(socket));
   server.on("upgrade", (request, socket, head) => gateway.handleUpgrade(request, socket, head));
   console.log(`listening ${await listening(server, address)}`);
   const watching = http.createServer((request, response) => {

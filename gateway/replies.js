@@ -30,6 +30,12 @@ const isWhole = (line, text) => line.length <= TAIL && line.latin1Slice(0, line.
 const endsBy = (line, text) => /(\d{1,16})\}\n$/.test(tailOf(line)) && tailOf(line).replace(/\d{1,16}\}\n$/, "").endsWith(text);
 const begins = (line, text) => headOf(line, text.length) === text;
 
+/** Whether a line begins as a document does that was fetched. @param {Buffer} head @param {{ doc: string }} message */
+export const beginsDocument = (head, { doc }) => begins(head, `{"doc":"${doc}","ok":"doc","ops":[`);
+
+/** Whether a line ends as a document does. @param {Buffer} tail  with its end */
+export const endsDocument = (tail) => endsBy(tail, '],"rev":');
+
 /**
  * Whether a line is a reply to a message: a refusal, or what a store answers where it refuses nothing.
  * @param {Buffer} line  with its end
@@ -38,7 +44,7 @@ const begins = (line, text) => headOf(line, text.length) === text;
 export function isReply(line, { do: what, doc, n, rev }) {
   if (begins(line, '{"code":')) return line.length <= TAIL && REFUSED.test(headOf(line, TAIL));
   if (what === "hello") return isWhole(line, '{"ok":"hello"}\n');
-  if (what === "fetch") return begins(line, `{"doc":"${doc}","ok":"doc","ops":[`) && endsBy(line, '],"rev":') && isJson(line);
+  if (what === "fetch") return beginsDocument(line, { doc }) && endsDocument(line) && isJson(line);
   if (what === "since") return begins(line, '{"deltas":[') && endsBy(line, `],"doc":"${doc}","ok":"since","rev":`) && isComplete(line, rev);
   if (what === "subscribe") return isWhole(line, `{"doc":"${doc}","ok":"subscribed","rev":${rev}}\n`);
   if (what === "unsubscribe") return isWhole(line, `{"doc":"${doc}","ok":"unsubscribed"}\n`);

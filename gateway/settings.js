@@ -1,5 +1,7 @@
 // What a gateway is told: its settings, and why they can't be used.
 
+import { archiveFault } from "./versions.js";
+
 const NAME = /^[A-Za-z0-9._-]{1,12}$/;
 const STORE = /^[A-Za-z0-9._-]{1,32}$/;
 const SESSIONS = 64; // that a store serves
@@ -8,15 +10,19 @@ const DAY = 86_400_000; // milliseconds
 export const DEFAULTS = { name: "g", readers: 2, writers: 16, guests: 8, names: 120, term: 7, recall: 60, recheck: 5, pulse: 15_000 };
 const MIB = 1 << 20; // bytes
 export const LIMITS = {
-  sessions: 20_000, userSessions: 200, addressSessions: 20_000,
-  userMessages: 2_000, userBytes: MIB, userOverhead: MIB / 64, addressBytes: 64 * MIB, userNames: 4, userDocuments: 1_000,
-  userCreations: 1_000, userCreationsHour: 100,
+  sessions: 20_000, userSessions: 200, addressSessions: 20_000, addressUnsigned: 1_000,
+  userMessages: 2_000, userBytes: MIB, userOverhead: MIB / 64, userReading: 250, userDocuments: 1_000,
+  addressMessages: 20_000, addressBytes: 64 * MIB, addressOverhead: MIB, addressReading: 800, addressDocuments: 100_000,
+  heldSeconds: 30, userNames: 4, userCreations: 1_000, userCreationsHour: 100,
   lineBytes: 64 * MIB, newsBytes: 4 * MIB, waitingBytes: 256 * MIB, keptBytes: 64 * MIB,
 };
 // The defaults where all are one user, but for names, of which he has all.
-const OF_ALL = { userBytes: 64 * MIB, userOverhead: MIB, userDocuments: 2 ** 31, userCreations: 2 ** 31, userCreationsHour: 2 ** 31 };
+const OF_ALL = {
+  userMessages: 20_000, userBytes: 64 * MIB, userOverhead: MIB, userReading: 2 ** 31,
+  userDocuments: 2 ** 31, userCreations: 2 ** 31, userCreationsHour: 2 ** 31,
+};
 export const HOOKS = ["authorize", "can", "onCommand", "onTaken"];
-const FIELDS = [...Object.keys(DEFAULTS), "stores", "data", "etcd", "rule", "origins", "hosts", "address", "limits", ...HOOKS, "log", "hidesMetrics"];
+const FIELDS = [...Object.keys(DEFAULTS), "stores", "data", "etcd", "rule", "origins", "hosts", "address", "archive", "limits", ...HOOKS, "log", "hidesMetrics"];
 
 /** Throws a reason where something doesn't hold. */
 function demand(holds, reason) {
@@ -102,7 +108,9 @@ export function checked(given) {
   demand(etcd !== undefined || rule !== undefined || stores.length === 1, "several stores need etcd, or a rule");
   if (rule !== undefined) checkRule(rule, stores);
   checkOrigins(origins);
-  const { hosts, address } = settings;
+  const { hosts, address, archive } = settings;
+  const fault = archiveFault(archive, stores.map((store) => store.name));
+  demand(fault === undefined, fault);
   demand(address === undefined || isText(address?.header), "address: header is the name of a header");
   demand(hosts === undefined || (Array.isArray(hosts) && hosts.every((it) => isText(it) && /^[^/:]+$/.test(it))), "hosts is a list of names without a port");
   for (const [limit, value] of Object.entries(limits)) {

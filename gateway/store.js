@@ -13,7 +13,13 @@ const DELETED = 40;
 const MOST_READING = 2; // reads of older revisions that are asked for at once
 const MOST_STALE = 100; // times that a read is asked again which is older than an own command
 const STALE_PAUSE = 10; // milliseconds
-const TOO_LONG = Buffer.from(REFUSAL.NoMemory); // another object than that of a store without memory
+const READ_PAUSE = 50; // milliseconds until it is looked again whose reads may be asked for
+/** Stands for a document that is longer than `lineBytes`: it has to be asked for in pieces. */
+export const TOO_LONG = Buffer.from(REFUSAL.NoMemory);
+const MOST_LONG = 1_000; // documents of which it is known that they are so long
+const WHOLE = 1 << 16; // bytes of a document that isn't passed on in pieces after all
+const LOOK = 20; // milliseconds until it is looked again whether pieces are taken
+const PASSING = 60_000; // milliseconds that this may take while others wait for it
 
 /**
  * @typedef {object} Waiter  a message that waits for a name
@@ -23,10 +29,27 @@ const TOO_LONG = Buffer.from(REFUSAL.NoMemory); // another object than that of a
  */
 
 /**
+ * @typedef {object} Asker  whose read it is
+ * @property {string} user
+ * @property {import("./users.js").Account[]} accounts  what it takes of a session's time is theirs
+ * @property {(account: import("./users.js").Account, limit: string, seconds: number) => void} hold  his reads wait, as an account has taken too much
+ */
+
+/**
+ * @typedef {object} Taker  who gets a document in pieces
+ * @property {() => boolean} wanted
+ * @property {(bytes: Buffer) => void} take
+ * @property {() => boolean} isBehind  whether he is to get nothing just now
+ * @property {() => void} tooSlow  he has taken too long
+ * @property {(line: Buffer | null) => void} settle  with the last bytes, or a reply that is no long document; null where it is cut short
+ */
+
+/**
  * The sessions of one store:
  * - readers: one for fetches, and where there are two another for `since` and for older revisions, which may be slow;
  * - news: one that follows;
  * - writers: one for each of the first names of the pool, always open;
+ * - a guest's place for documents that are too long to be held, one at a time, by turns of users; it is open as it is needed;
  * - guests: at most so many, for the pool's other names and for those that other gateways have lent. One is opened as it is needed, and closed
  *   where another name needs its place, or after a minute.
  */
@@ -44,12 +67,20 @@ export class Store {
   #guests = new Map();
   /** @type {Turns<{ name: string, command: Command }>} commands that wait for a guest's place */
   #queue = new Turns();
+  #longDocuments = new Set();
+  /** @type {Turns<{ message: any, least: number, taker: Taker }>} fetches of long documents */
+  #passes = new Turns();
+  /** @type {{ session: Upstream, used: number, bytes: number, taker?: Taker } | undefined} the session over which they go */
+  #lane;
   /** @type {Map<string, Turns<Waiter>>} document -> messages that wait for a name */
   #names = new Map();
   #isNaming = false;
-  /** @type {Turns<{ wanted: () => boolean, ask: (done: (settle: (line: Buffer) => void, line: Buffer) => void) => void }>} */
+  /** @type {Turns<{ asker: Asker, wanted: () => boolean, ask: (done: (settle: (line: Buffer) => void, line: Buffer) => void) => void }>} */
   #older = new Turns(); // reads of older revisions
   #reading = 0; // of them that are asked
+  #readAt = 0; // when the last one had its reply
+  #readerCuts = 0; // of sessions that read
+  #readTimer;
   #timer;
 
   #onCut = () => (this.#metrics.cuts += 1);
@@ -83,13 +114,18 @@ export class Store {
     this.#log = log;
     this.#limits = limits;
     const onOpen = () => log("a store is there", { store: name });
-    const onCut = () => {
+    const onReaderCut = () => {
       this.#onCut();
+      this.#readerCuts += 1;
+    };
+    const onCut = () => {
+      onReaderCut();
       log("a store is away", { store: name });
     };
     const first = new Upstream(this.#address, `${prefix}-reader`, { ...this.#listener, onOpen, onCut });
-    this.#readers = [first, ...Array.from({ length: readers - 1 }, () => new Upstream(this.#address, `${prefix}-reader2`, this.#listener))];
-    const since = (doc, rev, settle, wanted, user) => this.since(doc, rev, settle, wanted, user);
+    const second = () => new Upstream(this.#address, `${prefix}-reader2`, { ...this.#listener, onCut: onReaderCut });
+    this.#readers = [first, ...Array.from({ length: readers - 1 }, second)];
+    const since = (doc, rev, settle, wanted, asker) => this.since(doc, rev, settle, wanted, asker);
     const onLong = (doc) => log("news of a document are longer than newsBytes", { store: name, doc });
     this.news = new News(this.#address, `${prefix}-news`, since, { ...this.#listener, onLong, mostNews: limits.newsBytes, kept, onLag: (lag) => metrics.lag.add(lag) });
     this.#timer = setInterval(() => this.#closeIdle(), IDLE / 4);
@@ -114,45 +150,151 @@ export class Store {
   get open() {
     const count = (sessions) => sessions.filter(({ isOpen }) => isOpen).length;
     const guests = [...this.#guests.values()].map(({ session }) => session);
-    return { reader: count(this.#readers), news: count([this.news]), writer: count([...this.#writers.values()]), guest: count(guests) };
+    const lanes = this.#lane === undefined ? [] : [this.#lane.session];
+    return { reader: count(this.#readers), news: count([this.news]), writer: count([...this.#writers.values()]), guest: count([...guests, ...lanes]) };
   }
 
   /**
-   * Fetches; again where what comes is older than what this browser has changed.
+   * Fetches; again where what comes is older than what this browser has changed. TOO_LONG is given where it has to be passed on in pieces.
    * @param {any} message
    * @param {number} least  the revision that it has to have, 0 where it may have any
    * @param {(line: Buffer) => void} settle
    * @param {() => boolean} wanted
-   * @param {string} user
+   * @param {Asker} asker
    */
-  fetch(message, least, settle, wanted, user) {
+  fetch(message, least, settle, wanted, asker) {
+    if (this.#longDocuments.has(message.doc)) return settle(TOO_LONG);
     const answer = (line) => {
-      if (line === TOO_LONG) this.#log("a document is longer than lineBytes", { store: this.name, doc: message.doc });
+      if (line === TOO_LONG) this.#noteLong(message.doc);
       settle(line);
     };
     const bound = { most: this.#limits.lineBytes, instead: TOO_LONG };
     if (message.rev === undefined) return this.#askUpTo(this.#readers[0], message, least, answer, wanted, bound);
-    this.#readOlder(user, wanted, (done) => this.#readers.at(-1).ask(message, (line) => done(answer, line), wanted, bound));
+    this.#readOlder(asker, wanted, (done) => this.#readers.at(-1).ask(message, (line) => done(answer, line), wanted, bound));
   }
 
-  // What a store has to make of its past may take long: users take turns at it, and few are asked for at once.
-  #readOlder(user, wanted, ask) {
-    this.#older.add(user, { wanted, ask });
+  #noteLong(doc) {
+    this.#log("a document is longer than lineBytes, and is passed on in pieces", { store: this.name, doc });
+    this.#longDocuments.add(doc);
+    if (this.#longDocuments.size > MOST_LONG) this.#longDocuments.delete(this.#longDocuments.values().next().value);
+  }
+
+  /**
+   * Fetches a document that is too long to be held: it is passed on in pieces, as fast as they are taken.
+   * @param {any} message
+   * @param {number} least  the revision that it has to have, 0 where it may have any
+   * @param {string} user
+   * @param {Taker} taker
+   */
+  pass(message, least, user, taker) {
+    this.#passes.add(user, { message, least, taker });
+    this.#servePasses();
+  }
+
+  #servePasses() {
+    if (this.#passes.isEmpty || this.#lane?.taker !== undefined || (this.#lane === undefined && !this.#makesRoom())) return;
+    const item = this.#passes.next(() => true);
+    if (!item.taker.wanted()) return setImmediate(() => this.#servePasses());
+    const { message, least, taker } = item;
+    this.#lane ??= { session: new Upstream(this.#address, `${this.#prefix}-long`, this.#listener), used: 0, bytes: 0 };
+    const lane = this.#lane;
+    Object.assign(lane, { taker, used: performance.now(), bytes: 0 });
+    const ask = () => lane.session.ask(message, (line) => {
+      if (lane.taker !== taker) return;
+      if (line !== null && lane.bytes + line.length <= this.#limits.lineBytes) this.#longDocuments.delete(message.doc);
+      this.#endPass(lane);
+      taker.settle(line);
+    }, taker.wanted, { most: WHOLE, pass: (bytes) => lane.taker === taker && this.#passOn(lane, bytes) });
+    this.#metrics.count("passed_total");
+    this.#untilThere(lane.session, message, least, taker, ask);
+  }
+
+  // Waits until the store's reads have a revision: where they haven't, `since` is refused by Future.
+  #untilThere(session, { doc, rev }, least, { wanted }, then, tries = 0) {
+    if (rev !== undefined || least === 0) return then();
+    session.ask({ do: "since", doc, rev: least }, (answer) => {
+      if (codeOf(answer) !== FUTURE || tries === MOST_STALE) return then();
+      this.#metrics.stale += 1;
+      setTimeout(() => this.#untilThere(session, { doc, rev }, least, { wanted }, then, tries + 1), STALE_PAUSE);
+    }, wanted, { most: this.#limits.newsBytes, instead: REFUSAL.TooOld });
+  }
+
+  #passOn(lane, bytes) {
+    const { session, taker } = lane;
+    if (!taker.wanted()) return this.#dropLane(lane);
+    lane.bytes += bytes.length;
+    taker.take(bytes);
+    if (!taker.isBehind()) return;
+    session.pause();
+    const look = () => {
+      if (lane.taker !== taker) return;
+      if (!taker.wanted()) return this.#dropLane(lane);
+      if (!taker.isBehind()) return session.resume();
+      if (!this.#passes.isEmpty && performance.now() - lane.used > PASSING) taker.tooSlow();
+      setTimeout(look, LOOK).unref();
+    };
+    look();
+  }
+
+  #endPass(lane) {
+    Object.assign(lane, { taker: undefined, used: performance.now() });
+    setImmediate(() => {
+      this.#servePasses();
+      this.#serveGuests();
+    });
+  }
+
+  // Nobody wants the rest of what is passed on.
+  #dropLane(lane) {
+    this.#endPass(lane);
+    lane.session.end();
+    if (this.#lane === lane) this.#lane = undefined;
+  }
+
+  // What a store has to make of its past may take long: users take turns at it, few are asked for at once, and each has a share of a session's time.
+  #readOlder(asker, wanted, ask) {
+    this.#older.add(asker.user, { asker, wanted, ask });
     this.#serveReads();
   }
 
   #serveReads() {
     while (this.#reading < MOST_READING) {
-      const read = this.#older.next(() => true);
-      if (read === undefined) return;
+      const read = this.#older.next(({ asker, wanted }) => !wanted() || asker.accounts.every(({ reading }) => reading.owed === 0));
+      if (read === undefined) return this.#readLater();
       if (!read.wanted()) continue;
       this.#reading += 1;
+      const count = this.#counter(read.asker.accounts);
       read.ask((settle, line) => {
         this.#reading -= 1;
+        count();
         setImmediate(() => this.#serveReads());
         settle(line);
       });
     }
+  }
+
+  // Counts the time from now on, but for what belongs to the read before, and for a time in which the store wasn't there.
+  #counter(accounts) {
+    const began = performance.now();
+    const isThere = this.#readers.at(-1).isOpen;
+    const cuts = this.#readerCuts;
+    return () => {
+      const now = performance.now();
+      const taken = isThere && cuts === this.#readerCuts ? now - Math.max(began, this.#readAt) : 0;
+      this.#readAt = now;
+      for (const { reading } of accounts) reading.take(taken);
+    };
+  }
+
+  #readLater() {
+    for (const { asker: { accounts, hold } } of this.#older.first()) {
+      for (const account of accounts) if (account.reading.owed > 0) hold(account, "Reading", account.reading.owed);
+    }
+    if (this.#older.isEmpty) return;
+    this.#readTimer ??= setTimeout(() => {
+      this.#readTimer = undefined;
+      this.#serveReads();
+    }, READ_PAUSE).unref();
   }
 
   /**
@@ -162,15 +304,15 @@ export class Store {
    * @param {number} rev
    * @param {(line: Buffer) => void} settle
    * @param {() => boolean} wanted
-   * @param {string} user
+   * @param {Asker} asker
    * @param {number} [least]
    */
-  since(doc, rev, settle, wanted, user, least = 0) {
+  since(doc, rev, settle, wanted, asker, least = 0) {
     const reader = this.#readers.at(-1);
     const beyond = rev + MOST_SINCE + 1;
     const message = { do: "since", doc, rev };
     const tooOld = { most: this.#limits.newsBytes, instead: REFUSAL.TooOld };
-    this.#readOlder(user, wanted, (done) => {
+    this.#readOlder(asker, wanted, (done) => {
       if (!Number.isSafeInteger(beyond)) return reader.ask(message, (line) => done(settle, line), wanted);
       reader.ask({ do: "fetch", doc, rev: beyond }, (answer) => {
         const code = codeOf(answer);
@@ -254,6 +396,9 @@ export class Store {
 
   end() {
     clearInterval(this.#timer);
+    this.#passes = new Turns();
+    this.#lane?.session.end();
+    clearTimeout(this.#readTimer);
     this.#queue = new Turns();
     this.news.end();
     for (const session of [...this.#readers, ...this.#writers.values()]) session.end();
@@ -275,7 +420,25 @@ export class Store {
   #hasRoom(name) {
     const found = this.#guests.get(name);
     if (found !== undefined) return found.session.isIdle || this.#queue.users === 1;
-    return this.#guests.size < this.#most || this.#idle !== undefined;
+    return this.#taken < this.#most || this.#idle !== undefined || this.#isLaneIdle;
+  }
+
+  // How many places of guests are taken.
+  get #taken() {
+    return this.#guests.size + (this.#lane === undefined ? 0 : 1);
+  }
+
+  get #isLaneIdle() {
+    return this.#lane !== undefined && this.#lane.taker === undefined;
+  }
+
+  // Whether there is a guest's place, which may have been an idle one's.
+  #makesRoom() {
+    if (this.#taken < this.#most) return true;
+    if (this.#idle !== undefined) this.#close(this.#idle);
+    else if (this.#isLaneIdle) this.#closeLane();
+    else return false;
+    return true;
   }
 
   get #idle() {
@@ -285,7 +448,7 @@ export class Store {
   #guest(name) {
     const found = this.#guests.get(name);
     if (found !== undefined) this.#guests.delete(name);
-    else if (this.#guests.size >= this.#most) this.#close(this.#idle);
+    else this.#makesRoom();
     const session = found?.session ?? new Upstream(this.#address, name, { ...this.#listener, onIdle: () => this.#onIdle() });
     this.#guests.set(name, { session, used: performance.now() });
     return session;
@@ -293,6 +456,7 @@ export class Store {
 
   #onIdle() {
     if (!this.#queue.isEmpty) setImmediate(() => this.#serveGuests());
+    if (!this.#passes.isEmpty) setImmediate(() => this.#servePasses());
   }
 
   #close(name) {
@@ -300,7 +464,13 @@ export class Store {
     this.#guests.delete(name);
   }
 
+  #closeLane() {
+    this.#lane.session.end();
+    this.#lane = undefined;
+  }
+
   #closeIdle() {
+    if (this.#isLaneIdle && performance.now() - this.#lane.used > IDLE) this.#closeLane();
     for (const [name, { session, used }] of this.#guests) if (session.isIdle && performance.now() - used > IDLE) this.#close(name);
   }
 }

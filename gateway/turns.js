@@ -37,10 +37,8 @@ export class Turns {
     return undefined;
   }
 
-  /** Takes out all. @returns {Item[]} */
-  empty() {
-    const all = [...this.#users.values()].flat();
-    this.#users.clear();
-    return all;
+  /** The first item of each user. @returns {Item[]} */
+  first() {
+    return [...this.#users.values()].map(([item]) => item);
   }
 }

@@ -2,11 +2,12 @@
 // then, in their order, as long as their asker wants them. A command that was sent is never sent again from here: whoever sent it is told.
 //
 // What comes is judged before it is passed on. A line that no store would send ends the session, as a cut does, and the read that it answers is
-// to be sent again. A line that is longer than its asker takes is never held: he gets what stands for it, and the rest is dropped.
+// to be sent again. A line that is longer than its asker takes is never held: he gets what stands for it, and the rest is dropped; or he gets it in
+// pieces as they come.
 
 import net from "node:net";
 import { REFUSAL, codeOf } from "./messages.js";
-import { isNews, isReply } from "./replies.js";
+import { beginsDocument, endsDocument, isNews, isReply } from "./replies.js";
 
 const NEWS = /^\{"doc":"([^"]+)","(news|ended)":(\d+)/;
 const HELLO = { do: "hello" };
@@ -20,15 +21,18 @@ const SWEEP = 500; // lines that wait for a session; then those that nobody want
 const SHORT = 1_024; // bytes of a reply to which no operations belong
 const MOST_DROPPED = 1 << 24; // bytes of a line's rest; then the session is begun again
 const SHOWN = 80; // characters of garbage that are logged
+const TAIL = 160; // bytes at the end of a document that is passed on, by which it is judged
+const NOTHING_YET = Buffer.alloc(0);
 
 /**
  * @typedef {object} Ask  something that may be asked again
  * @property {any} message
  * @property {string} line
- * @property {(line: Buffer) => void} settle
+ * @property {(line: any) => void} settle
  * @property {() => boolean} wanted  whether it is still to be sent
  * @property {number} most  bytes of its reply
  * @property {Buffer} [instead]  of a reply that is longer
+ * @property {(bytes: Buffer) => void} [pass]  gets a document that is longer in pieces. `settle` gets its last bytes then, or null where it is cut short
  */
 
 /** A command: it is sent once at most. */
@@ -63,6 +67,10 @@ export class Upstream {
   #partBytes = 0;
   #most = SHORT; // bytes that the line may have, as far as is known
   #dropped = -1; // bytes of the rest of a line that is too long, or -1
+  /** @type {Ask | undefined} whose reply is passed on in pieces just now */
+  #passed;
+  #tail = NOTHING_YET;
+  #isPaused = false;
   /** @type {(Ask | Command)[]} */
   #waiting = [];
   #pause = FIRST_PAUSE;
@@ -103,10 +111,23 @@ export class Upstream {
    * @param {any} message
    * @param {(line: Buffer) => void} settle
    * @param {() => boolean} [wanted]
-   * @param {{ most?: number, instead?: Buffer }} [bound]  bytes of the reply, and what is given instead of one that has more
+   * @param {{ most?: number, instead?: Buffer, pass?: (bytes: Buffer) => void }} [bound]  bytes of the reply, and what is given instead of one that
+   *     has more, or who gets it in pieces
    */
-  ask(message, settle, wanted = () => true, { most = SHORT, instead } = {}) {
-    this.#add({ message, line: JSON.stringify(message) + "\n", settle, wanted, most, instead });
+  ask(message, settle, wanted = () => true, { most = SHORT, instead, pass } = {}) {
+    this.#add({ message, line: JSON.stringify(message) + "\n", settle, wanted, most, instead, pass });
+  }
+
+  /** Reads nothing for a while, as what is passed on isn't taken. */
+  pause() {
+    this.#isPaused = true;
+    this.#socket.pause();
+  }
+
+  resume() {
+    this.#isPaused = false;
+    this.#silentSince = performance.now();
+    this.#socket.resume();
   }
 
   /** Sends a command. @param {Command} command */
@@ -167,6 +188,11 @@ export class Upstream {
   #read(bytes, socket) {
     let from = 0;
     for (let at; (at = bytes.indexOf(10, from)) !== -1; from = at + 1) {
+      if (this.#passed !== undefined) {
+        this.#pass(bytes.subarray(from, at + 1));
+        if (socket.destroyed) return;
+        continue;
+      }
       const isHeld = this.#dropped < 0 && this.#addPart(bytes.subarray(from, at + 1));
       const line = this.#part.length === 1 ? this.#part[0] : Buffer.concat(this.#part);
       if (socket.destroyed) return;
@@ -175,6 +201,7 @@ export class Upstream {
       if (socket.destroyed) return;
     }
     if (from === bytes.length) return;
+    if (this.#passed !== undefined) return this.#pass(bytes.subarray(from));
     if (this.#dropped < 0) return void this.#addPart(bytes.subarray(from));
     this.#dropped += bytes.length - from;
     if (this.#dropped > MOST_DROPPED) socket.destroy();
@@ -199,6 +226,14 @@ export class Upstream {
     const asked = this.#isGreeted ? this.#waiting[0] : undefined;
     this.#most = Math.max(SHORT, isNewsLine ? mostNews : (asked?.most ?? 0));
     if (this.#partBytes <= this.#most) return true;
+    if (!isNewsLine && asked?.pass !== undefined && beginsDocument(head, asked.message)) {
+      this.#passed = asked;
+      this.#tail = NOTHING_YET;
+      const all = Buffer.concat(this.#part);
+      this.#part = [];
+      this.#pass(all);
+      return false;
+    }
     if (isNewsLine ? onLong === undefined : asked?.instead === undefined) this.#garbage(head);
     else {
       this.#part = [];
@@ -207,6 +242,18 @@ export class Upstream {
       else this.#settle(asked, asked.instead);
     }
     return false;
+  }
+
+  // Passes a piece of a document on, and judges that by its end once it is there.
+  #pass(bytes) {
+    const asked = this.#passed;
+    this.#tail = Buffer.concat([this.#tail, bytes.subarray(-TAIL)]).subarray(-TAIL);
+    if (bytes.at(-1) !== 10) return asked.pass(bytes);
+    if (!endsDocument(this.#tail)) return this.#garbage(this.#tail);
+    this.#passed = undefined;
+    this.#emptyPart();
+    this.#pause = FIRST_PAUSE;
+    this.#settle(asked, bytes);
   }
 
   #line(line) {
@@ -221,6 +268,7 @@ export class Upstream {
   #garbage(bytes) {
     this.#listener.onGarbage?.(bytes.latin1Slice(0, Math.min(SHOWN, bytes.length)));
     this.#socket.destroy();
+    if (this.#passed !== undefined) return; // it is told as the session closes
     const [asked] = this.#waiting;
     if (!this.#isOpen || asked === undefined || asked instanceof Command) return; // a command is told as the session closes
     this.#settle(asked, REFUSAL.NoMemory);
@@ -241,12 +289,17 @@ export class Upstream {
     const isCut = (item) => item instanceof Command && item.isSent;
     const cut = this.#waiting.filter(isCut);
     this.#waiting = this.#waiting.filter((item) => !isCut(item));
+    const passed = this.#passed;
+    if (passed !== undefined) this.#waiting.shift();
+    this.#passed = undefined;
+    this.#isPaused = false;
     if (!this.#isEnded) {
       this.#again = setTimeout(() => this.#begin(), this.#pause);
       this.#pause = Math.min(this.#pause * 2, LONGEST_PAUSE);
       if (wasOpen) this.#listener.onCut?.();
     }
     for (const { settle } of cut) settle(null);
+    passed?.settle(null);
     this.#tellIdle();
   }
 
@@ -275,6 +328,7 @@ export class Upstream {
 
   // A store that is gone without a word is found by its silence.
   #look() {
+    if (this.#isPaused) return;
     const silent = performance.now() - this.#silentSince;
     const isDue = !this.#isOpen || this.#waiting.length > 0;
     if (isDue && silent > PATIENCE) this.#socket.destroy();

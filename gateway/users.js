@@ -1,7 +1,10 @@
-// Who is signed in, and how much he may do at once.
+// Who is signed in, and how much he and his address may do at once.
 
 const HOUR = 3_600; // seconds
 const PIECES = 1 << 17; // bytes: a line may come in pieces, which count until it is whole
+const READING = { user: 5_000, address: 60_000 }; // milliseconds of a session's time that reads may take at once, as where all begin to follow again
+const GAP = 1_000; // milliseconds; who isn't held again within them has kept to his limits
+export const MOST_OWED = 10; // seconds that a session isn't read; where it would be more it is closed
 const MOST_NAME = 64; // characters of a name that others see
 
 /** So much a second, and so much at once. Who takes more owes it. */
@@ -52,21 +55,97 @@ export class Allowance {
   }
 }
 
-/** An address with a session, or one that is about to begin. */
-export class Address {
-  sessions = 0;
+/**
+ * What the sessions of a user, or of an address, take together. Whose limit is passed isn't read; where that goes on for long the session that sends
+ * most is closed.
+ */
+export class Account {
+  /** @type {Set<import("./browser.js").Browser>} */
+  browsers = new Set();
+  documents = 0; // that its sessions are told of, or ask to be
+  #of;
+  #now;
+  #heldSince = -Infinity;
+  #heldUntil = -Infinity;
 
-  /** @param {{ addressBytes: number }} limits */
-  constructor({ addressBytes }) {
-    this.bytes = new Allowance(addressBytes);
+  /**
+   * @param {"user" | "address"} of  how the names of its limits begin
+   * @param {Record<string, number>} limits
+   * @param {() => number} [now]
+   */
+  constructor(of, limits, now = () => performance.now()) {
+    this.#of = of;
+    this.#now = now;
+    this.patience = 1_000 * limits.heldSeconds; // milliseconds that it may be above a limit without an end
+    this.messages = new Allowance(limits[`${of}Messages`], undefined, now);
+    this.bytes = new Allowance(limits[`${of}Bytes`], undefined, now);
+    this.overhead = new Allowance(limits[`${of}Overhead`], limits[`${of}Overhead`] + PIECES, now);
+    this.reading = new Allowance(limits[`${of}Reading`], READING[of], now);
+    this.mostDocuments = limits[`${of}Documents`];
+  }
+
+  /** Bytes have come. Those of a line that is whole are given back to what is no line. */
+  weigh(bytes) {
+    this.bytes.take(bytes);
+    this.overhead.take(bytes);
+  }
+
+  /** What it owes most of what pauses its sessions: by which limit, and how many seconds. */
+  get debt() {
+    const [bytes, overhead] = [this.bytes.owed, this.overhead.owed];
+    return bytes > overhead ? { limit: "Bytes", seconds: bytes } : { limit: "Overhead", seconds: overhead };
+  }
+
+  /** Whether it owes so much that it isn't let in again. */
+  get owesMuch() {
+    return this.debt.seconds > MOST_OWED;
+  }
+
+  /** Whether nothing is owed. */
+  get isEven() {
+    return this.debt.seconds === 0 && this.reading.owed === 0;
+  }
+
+  /** The name of one of its limits in the settings. @param {string} limit */
+  nameOf(limit) {
+    return this.#of + limit;
+  }
+
+  /**
+   * One of its sessions isn't read for so many seconds. Gives whether that has begun just now, and who is to be closed where it goes on for too long.
+   * @param {number} seconds
+   */
+  hold(seconds) {
+    const now = this.#now();
+    const isFirst = now > this.#heldUntil + GAP;
+    if (isFirst) this.#heldSince = now;
+    this.#heldUntil = Math.max(this.#heldUntil, now + 1_000 * seconds);
+    if (now - this.#heldSince < this.patience) return { isFirst };
+    this.#heldSince = now;
+    return { isFirst, greedy: this.greedy };
+  }
+
+  /** Its session that has sent most of late. */
+  get greedy() {
+    let greedy;
+    for (const browser of this.browsers) if (greedy === undefined || browser.sent > greedy.sent) greedy = browser;
+    return greedy;
+  }
+}
+
+/** An address with a connection, or one that was here just now. */
+export class Address extends Account {
+  connections = 0;
+  unsigned = 0; // of them, that aren't signed in
+
+  /** @param {any} limits */
+  constructor(limits) {
+    super("address", limits);
   }
 }
 
 /** A user with a session at least. What `authorize` gave stands with each session: it may be another each time, as where it has an end. */
-export class User {
-  /** @type {Set<import("./browser.js").Browser>} */
-  browsers = new Set();
-  #messages;
+export class User extends Account {
   #most;
   #hourly;
   #making = 0; // creations on their way
@@ -74,20 +153,13 @@ export class User {
 
   /**
    * @param {string} id
-   * @param {{ userMessages: number, userBytes: number, userOverhead: number, userCreations: number, userCreationsHour: number }} limits
+   * @param {any} limits
    */
-  constructor(id, { userMessages, userBytes, userOverhead, userCreations, userCreationsHour }) {
+  constructor(id, limits) {
+    super("user", limits);
     this.id = id;
-    this.#most = userCreations;
-    this.#hourly = new Allowance(userCreationsHour / HOUR, userCreationsHour);
-    this.#messages = new Allowance(userMessages);
-    this.bytes = new Allowance(userBytes);
-    this.overhead = new Allowance(userOverhead, userOverhead + PIECES);
-  }
-
-  /** Whether one more message of his is read now. */
-  takesTurn() {
-    return this.#messages.takesOne();
+    this.#most = limits.userCreations;
+    this.#hourly = new Allowance(limits.userCreationsHour / HOUR, limits.userCreationsHour);
   }
 
   /**
@@ -112,13 +184,6 @@ export class User {
   created(isMade) {
     this.#making -= 1;
     if (!isMade) this.#hourly.take(-1);
-  }
-
-  /** How many documents his sessions are told of. */
-  get documents() {
-    let all = 0;
-    for (const browser of this.browsers) all += browser.documents;
-    return all;
   }
 }
 

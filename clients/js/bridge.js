@@ -3,11 +3,12 @@
 // their WebSockets are the gateway's. Whoever connects is who the address says, as ?user=ann, and may do all.
 //
 //     node clients/js/bridge.js HOST:PORT [--listen HOST:PORT] [--origin URL]... [--data FOLDER] [--quill FOLDER] [--pages FOLDER]
+//         [--archive DATABASE]
 //
 // The first address is the one of `richd serve STORE --listen HOST:PORT`. It listens on 127.0.0.1:8080 unless it is told otherwise; port 0
 // is one that is free. A page may connect that comes from a URL that is given, else one that was loaded from here by a name of this machine.
 // The first FOLDER keeps which names were lent; the second holds quill.js and quill.snow.css, which the editor loads where they are given; the
-// files of the last are served too, its index.html as the first page.
+// files of the last are served too, its index.html as the first page. Of DATABASE, an archive, pages get a document's versions.
 
 import { readdirSync, realpathSync } from "node:fs";
 import { readFile } from "node:fs/promises";
@@ -72,14 +73,15 @@ function userOf({ url }) {
  * @param {string} [options.data]  a folder that keeps which names were lent
  * @param {string} [options.quill]  a folder with Quill's files
  * @param {string} [options.pages]  a folder with pages of one's own
+ * @param {string} [options.archive]  that has the documents' versions
  * @returns {Promise<{ url: string, webSocketUrl: string, close: () => Promise<void> }>}
  */
-export async function startBridge({ host, port, listenHost = "127.0.0.1", listenPort = 0, origins, data = dataFor(host, port), quill, pages }) {
+export async function startBridge({ host, port, listenHost = "127.0.0.1", listenPort = 0, origins, data = dataFor(host, port), quill, pages, archive }) {
   const files = filesIn({ ...(pages && { "/": pages }), ...SERVED, ...(quill && { "/quill/": quill }) });
   for (const page of ["/", ...PAGES]) if (files.has(page + "index.html")) files.set(page, files.get(page + "index.html"));
   // (nobody signs in, so all pages may be one user, who has all names then)
   const limits = { userNames: 120 };
-  const gateway = await createGateway({ name: "bridge", stores: [{ name: "store", host, port }], data, origins, authorize: userOf, limits });
+  const gateway = await createGateway({ name: "bridge", stores: [{ name: "store", host, port }], data, origins, archive, authorize: userOf, limits });
 
   const server = http.createServer(async (request, response) => {
     const [pathname] = request.url.split("?");
@@ -94,6 +96,7 @@ export async function startBridge({ host, port, listenHost = "127.0.0.1", listen
       response.writeHead(404).end("no such page\n");
     }
   });
+  server.on("connection", (socket) => gateway.handleConnection(socket));
   server.on("upgrade", (request, socket, head) => gateway.handleUpgrade(request, socket, head));
 
   await new Promise((resolve, reject) => {
@@ -125,13 +128,15 @@ async function main() {
       data: { type: "string" },
       quill: { type: "string" },
       pages: { type: "string" },
+      archive: { type: "string" },
     },
     allowPositionals: true,
   });
-  if (positionals.length !== 1) throw new Error("usage: bridge.js HOST:PORT [--listen HOST:PORT] [--origin URL]... [--data FOLDER] [--quill FOLDER] [--pages FOLDER]");
+  if (positionals.length !== 1) throw new Error("usage: bridge.js HOST:PORT [--listen HOST:PORT] [--origin URL]... [--data FOLDER] [--quill FOLDER] [--pages FOLDER] [--archive DATABASE]");
   const [host, port] = readAddress(positionals[0]);
   const [listenHost, listenPort] = readAddress(values.listen);
-  const bridge = await startBridge({ host, port, listenHost, listenPort, origins: values.origin, data: values.data, quill: values.quill, pages: values.pages });
+  const { origin: origins, data, quill, pages, archive } = values;
+  const bridge = await startBridge({ host, port, listenHost, listenPort, origins, data, quill, pages, archive });
   console.log(`bridge ${bridge.url}`);
   for (const signal of /** @type {const} */ (["SIGTERM", "SIGINT"])) process.once(signal, () => bridge.close().then(() => process.exit(0)));
 }

@@ -120,6 +120,41 @@ function inverted(change, base = {}) {
   return without(Object.fromEntries(back), (name, value) => value === change[name]);
 }
 
+/**
+ * Where the last change of a document was, and those made of it: the next one is near it mostly.
+ * @type {WeakMap<Op[], { index: number, start: number }>}
+ */
+const near = new WeakMap();
+
+/**
+ * Has a document, and those that are composed of it, remember where its last change was, so that the next one is found at once. Its list of
+ * operations is in normal form, and nobody changes it.
+ * @param {Delta} document
+ */
+export function remember(document) {
+  near.set(document.ops, { index: 0, start: 0 });
+  return document;
+}
+
+/**
+ * The operation of a document that has a place, and where it starts; the number of operations where none has.
+ * @param {Op[]} ops
+ * @param {number} place
+ * @param {{ index: number, start: number }} [from]  where to look first
+ */
+export function find(ops, place, { index, start } = near.get(ops) ?? { index: 0, start: 0 }) {
+  while (index > 0 && start > place) {
+    index -= 1;
+    start -= lengthOf(ops[index]);
+  }
+  for (; index < ops.length; index += 1) {
+    const end = start + lengthOf(ops[index]);
+    if (end > place) break;
+    start = end;
+  }
+  return { index, start };
+}
+
 /** Goes over operations in parts as long as they are asked for. Past the end stands a retain without end. */
 class Parts {
   #ops;
@@ -166,6 +201,25 @@ class Parts {
       take(op);
     }
     return length;
+  }
+
+  /**
+   * Where the document remembers its places, goes from the beginning to the operation that has a place. Returns how many come before it, and how
+   * many units they have.
+   * @param {number} place
+   */
+  leap(place) {
+    if (!near.has(this.#ops)) return { index: 0, start: 0 };
+    const found = find(this.#ops, place);
+    this.#index = found.index;
+    return found;
+  }
+
+  /** What is left, and goes to the end. @returns {Op[]} */
+  rest() {
+    const index = this.#index;
+    this.#index = this.#ops.length;
+    return this.#ops.slice(index);
   }
 
   /** Goes on so many units, at most to the end of the operation that comes next. */
@@ -287,9 +341,17 @@ export class Delta {
    */
   compose(other) {
     const [first, second] = [new Parts(this.ops), new Parts(other.ops)];
-    const delta = new Delta();
+    const remembers = near.has(this.ops);
+    const { index, start } = first.leap(second.left);
+    second.skip(start);
+    const delta = new Delta(this.ops.slice(0, index));
     const hand = (/** @type {Op} */ op) => delta.#hand(op);
     while (!first.isAtEnd || !second.isAtEnd) {
+      if (remembers && second.isAtEnd) {
+        hand(first.next());
+        delta.ops = delta.ops.concat(first.rest());
+        break;
+      }
       const { left } = second;
       const untouched = left > 0 ? first.handOn(left, hand) : 0;
       if (untouched > 0) {
@@ -310,7 +372,10 @@ export class Delta {
         }
       }
     }
-    return delta.chop();
+    delta.chop();
+    const before = Math.max(0, index - 1); // which may be longer now
+    if (remembers) near.set(delta.ops, { index: before, start: index === 0 ? 0 : start - lengthOf(this.ops[before]) });
+    return delta;
   }
 
   /**
@@ -380,8 +445,9 @@ export class Delta {
         continue;
       }
       const isPlain = op.delete === undefined && !op.attributes;
+      const { start } = isPlain && delta.ops.length === 0 ? parts.leap(length) : { start: 0 };
       if (isPlain) delta.retain(length);
-      for (let left = length; left > 0 && !parts.isAtEnd; ) {
+      for (let left = length - start; left > 0 && !parts.isAtEnd; ) {
         const taken = Math.min(left, parts.length);
         if (isPlain) parts.skip(taken);
         else if (op.delete !== undefined) delta.push(parts.next(taken));

@@ -1,6 +1,6 @@
 // A document that types ahead: what is typed shows at once, and is sent one edit at a time.
 
-import { Delta } from "./delta.js";
+import { Delta, remember } from "./delta.js";
 import { difference } from "./difference.js";
 import { Emitter } from "./emitter.js";
 import { Refusal, RichdError } from "./errors.js";
@@ -68,9 +68,10 @@ function frozen(op) {
  * @param {import("./richd.js").Client} client
  * @param {string} name
  * @param {Op[]} ops
+ * @param {import("./keeping.js").Keeper} [keeper]  keeps what isn't on its way yet
  * @returns {Promise<{ rev: number, ops: Op[], rest?: Delta }>}
  */
-async function fetchCreated(client, name, ops) {
+async function fetchCreated(client, name, ops, keeper) {
   const pauses = new Pauses();
   const hasParts = isLong(ops);
   /** @type {{ rev: number, ops: Op[] } | undefined} */
@@ -85,12 +86,29 @@ async function fetchCreated(client, name, ops) {
     }
     if (tries > 0) await pauses.wait();
     try {
-      const { rev, first, rest } = await client.begin(name, ops);
+      const { rev, first, rest } = await client.begin(name, ops, { keep: keeper && ((creation) => keeper.keep(creation)) });
       if (rest.ops.length > 0) return { rev, ops: first.ops, rest };
     } catch (error) {
       if (error.code !== Refusal.Exists && error.name !== "InDoubt") throw error;
       if (fetched !== undefined) return fetched; // others are about to create it
     }
+  }
+}
+
+/**
+ * A document that an earlier page began to create. Where it can't be known whether that was taken, or somebody else was sooner, it is created or
+ * fetched as any other.
+ * @param {import("./richd.js").Client} client
+ * @param {string} name
+ * @param {import("./keeping.js").Creation} creation
+ * @param {import("./keeping.js").Keeper} keeper
+ */
+async function createAgain(client, name, creation, keeper) {
+  try {
+    return await client.beginAgain(name, creation);
+  } catch (error) {
+    if (error.code !== Refusal.Exists && error.name !== "InDoubt" && !isTooLong(error)) throw error;
+    return fetchCreated(client, name, new Delta(creation.first).compose(new Delta(creation.rest)).ops, keeper);
   }
 }
 
@@ -111,6 +129,7 @@ export class RichDocument extends Emitter {
   #values = new Values();
   /** @type {Delta} */
   #base;
+  #baseLength = 0;
   /** @type {number} */
   #revision;
   /** @type {Delta} */
@@ -167,11 +186,13 @@ export class RichDocument extends Emitter {
     document.#values = new Values(options?.encode, options?.decode);
     document.#keeper = options?.keeper;
     const kept = await document.#keeper?.load();
-    if (kept !== undefined) {
-      document.#restore(kept);
-    } else {
+    if (kept === undefined) {
       const ops = options?.create && document.#values.encode(options.create);
-      document.#start(ops === undefined ? await client.fetch(name) : await fetchCreated(client, name, ops));
+      document.#start(ops === undefined ? await client.fetch(name) : await fetchCreated(client, name, ops, document.#keeper));
+    } else if (kept.creation !== undefined) {
+      document.#start(await createAgain(client, name, kept.creation, document.#keeper));
+    } else {
+      document.#restore(kept);
     }
     document.#length = document.#contents.length();
     document.#meet();
@@ -365,11 +386,19 @@ export class RichDocument extends Emitter {
     return true;
   }
 
+  /**
+   * Whether a change begins or ends between the two halves of a character.
+   * @param {{ ops: Op[] }} change  as the server keeps it
+   */
+  cutsPair(change) {
+    return cutsPair(change, this.#contents);
+  }
+
   /** @param {Op[]} ops */
   #readTyped(ops) {
     const delta = takenOver(this.#encoded(ops));
     if (reachOf(delta) > this.#length) throw new RichdError(Refusal.PastEnd, "PastEnd");
-    if (cutsPair(delta, this.#contents)) throw new RichdError(Refusal.CutsPair, "CutsPair");
+    if (this.cutsPair(delta)) throw new RichdError(Refusal.CutsPair, "CutsPair");
     return delta;
   }
 
@@ -417,7 +446,8 @@ export class RichDocument extends Emitter {
   /** @param {number} revision @param {Delta} base */
   #begin(revision, base) {
     this.#revision = revision;
-    this.#base = base;
+    this.#base = remember(base.compose(new Delta())); // in normal form
+    this.#baseLength = base.length();
     this.#isStale = false;
     this.#follow();
   }
@@ -507,7 +537,7 @@ export class RichDocument extends Emitter {
       const next = this.#news.shift();
       if (next === undefined) break;
       if (next.rev !== this.#revision + 1) continue;
-      if (reachOf(next) <= this.#base.length()) this.#takeOver(new Delta(next.ops), next.rev);
+      if (reachOf(next) <= this.#baseLength) this.#takeOver(new Delta(next.ops), next.rev);
       else this.#isStale = true; // this copy isn't the server's
     }
     if (this.#isClosed) return;
@@ -524,6 +554,7 @@ export class RichDocument extends Emitter {
       this.#typed = this.#sent.compose(this.#typed);
     } else {
       this.#base = this.#base.compose(this.#sent);
+      this.#baseLength += growthOf(this.#sent);
       this.#revision = this.#taken;
       this.#places.step(this.#sent, this.#revision, true);
     }
@@ -537,6 +568,7 @@ export class RichDocument extends Emitter {
    */
   #takeOver(change, revision) {
     this.#base = this.#base.compose(change);
+    this.#baseLength += growthOf(change);
     this.#revision = revision;
     this.#places.step(change, revision, false);
     this.#strays = 0;
@@ -612,7 +644,7 @@ export class RichDocument extends Emitter {
     this.#steps.clear();
     this.#room = ROOM;
     this.#contents = this.#base;
-    this.#length = this.#base.length();
+    this.#length = this.#baseLength;
     this.#strays = this.#pastEnds = 0;
     this.#isRefused = true;
     for (const { reject } of this.#waiting.splice(0)) reject(error);

@@ -32,6 +32,13 @@ const PACE = 1_000; // milliseconds, at most so often what the server has anyway
  * @property {number} [number]
  * @property {import("./leases.js").Lease} [lease]
  * @property {Op[]} typed
+ * @property {undefined} [creation]
+ *
+ * @typedef {object} Creation  a document that is created in parts
+ * @property {Op[]} first  what it is created with
+ * @property {Op[]} rest  what is inserted then
+ * @property {number} number  under which it is created
+ * @property {import("./leases.js").Lease} [lease]  under which the number counts
  */
 
 /** @param {Snapshot | undefined} one @param {Snapshot} other */
@@ -78,11 +85,19 @@ export class Keeper {
     this.#key = key;
   }
 
-  /** @returns {Promise<Kept | undefined>} */
+  /** @returns {Promise<Kept | { creation: Creation } | undefined>} */
   async load() {
     const state = await this.#store.get(this.#key);
-    if (state === undefined) return undefined;
+    if (state === undefined || state.creation !== undefined) return state;
     return { ...state, base: await this.#store.get([...this.#key, "base"]) };
+  }
+
+  /**
+   * Keeps how a document is created, before that leaves. Where the browser refuses the write it leaves all the same: then its page has it alone.
+   * @param {Creation} creation
+   */
+  async keep(creation) {
+    await this.#store.put([[this.#key, { creation }]]).catch(() => {});
   }
 
   /**

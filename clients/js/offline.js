@@ -134,7 +134,8 @@ export class OfflineClient extends Client {
   /** @param {Keeper | undefined} before @param {string} doc @param {OpenOptions} options */
   async #openAfter(before, doc, options) {
     await before?.ended;
-    if ((await options.keeper?.load()) === undefined) await this.#served();
+    const kept = await options.keeper?.load();
+    if (kept === undefined || kept.creation !== undefined) await this.#served();
     const document = await super.open(doc, options);
     this.#watched.add(document);
     document.addEventListener("progress", () => this.#guard());

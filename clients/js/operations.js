@@ -1,6 +1,6 @@
 // What is an operation, and what a server takes as one: docs/PROTOCOL.md, "Operations".
 
-import { Delta, lengthOf } from "./delta.js";
+import { Delta, find, lengthOf } from "./delta.js";
 import { Refusal, RichdError } from "./errors.js";
 
 export const MAX_LINE = 65_536; // bytes of a line that is sent, without its end
@@ -114,8 +114,9 @@ export const growthOf = ({ ops }) => ops.reduce((sum, op) => sum + (op.insert ==
  * @param {{ ops: Op[] }} document
  */
 export function cutsPair(delta, document) {
-  let index = 0; // of the document's operation that has the place
-  let [start, place] = [0, 0];
+  /** @type {ReturnType<typeof find> | undefined} */
+  let found;
+  let place = 0;
   for (const op of delta.ops) {
     if (isHalved(place)) return true;
     if (op.insert === undefined) place += lengthOf(op);
@@ -124,12 +125,9 @@ export function cutsPair(delta, document) {
 
   /** @param {number} at */
   function isHalved(at) {
-    while (index < document.ops.length && start + lengthOf(document.ops[index]) <= at) {
-      start += lengthOf(document.ops[index]);
-      index += 1;
-    }
-    const text = document.ops[index]?.insert;
-    if (typeof text !== "string" || at === start) return false;
-    return /^[\ud800-\udbff][\udc00-\udfff]$/.test(text.slice(at - start - 1, at - start + 1));
+    found = find(document.ops, at, found);
+    const text = document.ops[found.index]?.insert;
+    if (typeof text !== "string" || at === found.start) return false;
+    return /^[\ud800-\udbff][\udc00-\udfff]$/.test(text.slice(at - found.start - 1, at - found.start + 1));
   }
 }

@@ -67,16 +67,6 @@ export function bind(quill, document, options) {
 }
 
 /**
- * Whether a change is one of whole characters and values.
- * @param {Delta} change
- * @param {Delta | undefined} before  what it was made on
- */
-function isWhole(change, before) {
-  const areWhole = change.ops.every(({ insert, retain }) => (typeof insert !== "string" || !hasHalf(insert)) && typeof retain !== "object");
-  return areWhole && (before === undefined || !cutsPair(change, before));
-}
-
-/**
  * While an input method composes a character the editor is left alone: `held` is what others did meanwhile, and the document is what the
  * editor shows with `held` behind it.
  */
@@ -249,14 +239,25 @@ class Binding {
     if (showing.hears(delta, source)) return;
     const told = showing.read(delta);
     if (showing.isAsking && source === "user" && !showing.hasTold) return void this.#within.push(told);
-    const typed = isWhole(told, before) ? told : this.#wholeOf(told, before);
+    const typed = this.#isWhole(told, before) ? told : this.#wholeOf(told, before);
     this.#mayMend = true;
-    const shown = before === undefined ? this.#quill.getContents().length() - growthOf(typed) : new Delta(before.ops).length();
+    const shown = before === undefined ? this.#showing.contents().length() - growthOf(typed) : new Delta(before.ops).length();
     if (shown + growthOf(this.#held) !== this.#document.length) return this.#onParted(typed);
     const held = this.#held;
     this.#held = typed.transform(held, false);
     this.#take(held.transform(typed, true));
   };
+
+  /**
+   * Whether what was typed is of whole characters and values.
+   * @param {Delta} typed
+   * @param {Delta | undefined} before  what it was made on, which is the document where nothing is held
+   */
+  #isWhole(typed, before) {
+    const areWhole = typed.ops.every(({ insert, retain }) => (typeof insert !== "string" || !hasHalf(insert)) && typeof retain !== "object");
+    if (!areWhole || before === undefined) return areWhole;
+    return this.#held.ops.length === 0 ? !this.#document.cutsPair(typed) : !cutsPair(typed, before);
+  }
 
   /**
    * What was typed, in whole characters and values: an editor compares by code units.

@@ -24,6 +24,8 @@ const MOST_DOCS = 1_000; // of which something is kept though nothing is asked; 
 /**
  * @typedef {import("./delta.js").Op} Op
  * @typedef {import("./limits.js").Limits} Limits
+ * @typedef {import("./line.js").Numbered} Numbered
+ * @typedef {import("./keeping.js").Creation} Creation
  * @typedef {import("./document.js").DocumentState} DocumentState
  * @typedef {import("./document.js").DocumentEvents} DocumentEvents
  * @typedef {import("./document.js").OpenOptions} OpenOptions
@@ -140,15 +142,17 @@ export class Client extends Emitter {
    * Creates a document with as much of its contents as a message may have. Gives what is left, as an edit of the first part.
    * @param {string} doc
    * @param {Op[]} ops
-   * @param {Limits} [limits]
+   * @param {Limits & { keep?: (creation: Creation) => Promise<void> }} [limits]  `keep` is waited for before a part of the contents leaves
    * @returns {Promise<{ rev: number, first: { ops: Op[] }, rest: Delta }>}
    */
   async begin(doc, ops, limits) {
     const isWhole = !Array.isArray(ops) || !isLong(ops);
     for (let room = ROOM; ; room /= 2) {
       const [first, rest] = isWhole && room === ROOM ? [{ ops }, new Delta()] : parted(takenOver(ops), room);
+      const isKept = limits?.keep !== undefined && rest.ops.length > 0;
+      const hold = isKept ? (/** @type {Numbered} */ numbered) => limits.keep({ first: first.ops, rest: rest.ops, ...numbered }) : undefined;
       try {
-        const { ok, rev } = await this.#ask(doc, { do: "create", ops: first.ops }, true, limits);
+        const { ok, rev } = await this.#ask(doc, { do: "create", ops: first.ops }, true, { ...limits, hold });
         if (ok === "taken" || rest.ops.length === 0) return { rev, first, rest };
       } catch (error) {
         if (!isTooLong(error) || room <= LEAST_ROOM) throw error;
@@ -159,6 +163,17 @@ export class Client extends Emitter {
       if (left === undefined) throw new RichdError(Refusal.Exists, "Exists");
       return { rev, first: { ops: made }, rest: left };
     }
+  }
+
+  /**
+   * Creates a document as an earlier page began to, under the same number.
+   * @param {string} doc
+   * @param {Creation} creation
+   * @returns {Promise<{ rev: number, ops: Op[], rest: Delta }>}
+   */
+  async beginAgain(doc, { first, rest, number, lease }) {
+    const { rev } = await this.#ask(doc, { do: "create", ops: first }, true, { kept: { number, lease } });
+    return { rev, ops: first, rest: new Delta(rest) };
   }
 
   /**

@@ -2,6 +2,7 @@
 
 import { Delta, areAlike, areSame, lengthOf, valueOf } from "./delta.js";
 import { Units } from "./difference.js";
+import { hasten } from "./hastening.js";
 
 const PLACEHOLDER = "\ufffc"; // is shown for an embed that the editor doesn't have
 const MOST_TRIES = 3; // Quill 1 sets contents right the second time after it has thrown, as it is in a batch then that never ended
@@ -30,7 +31,8 @@ const removed = (names) => Object.fromEntries(names.map((name) => [name, null]))
  * Asks an editor, and reads it. All operations are as the server keeps them.
  *
  * Text stays as it was typed. Quill 1 reads the text of its page in the normal form NFC, and so counts fewer places than the page has where
- * somebody typed letters and accents apart; its class for texts is set to read them as they are, which is what Quill 2's does.
+ * somebody typed letters and accents apart; its class for texts is set to read them as they are, which is what Quill 2's does. Its class for
+ * deltas is set to compose at the speed of the change, whatever the document's length.
  */
 export class Showing {
   #quill;
@@ -52,6 +54,7 @@ export class Showing {
     this.#registry = typeof scroll?.query === "function" ? scroll : Quill.import?.("parchment"); // of Quill 2, of Quill 1
     const Text = Quill.import?.("blots/text");
     if (typeof Text?.value === "function") Text.value = (/** @type {Text} */ node) => node.data;
+    hasten(Quill.import?.("delta"));
   }
 
   get hasTold() {

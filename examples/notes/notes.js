@@ -2,9 +2,11 @@
 // is what the page's address has, as ?user=ann: who wants to know who somebody is sets something before the gateway that does.
 
 import { Delta } from "../../clients/js/delta.js";
+import { difference } from "../../clients/js/difference.js";
 import { connect } from "../../clients/js/offline.js";
 import { bind } from "../../clients/js/quill.js";
 import { Editable } from "../editor/editable.js";
+import { Versions } from "./versions.js";
 
 const PREFIX = "note-"; // of the names of the documents that are notes
 const PAUSE = 10_000; // milliseconds after which the list is asked for again
@@ -102,8 +104,34 @@ async function open(name, create) {
   note.addEventListener("doubt", ({ delta }) => tellLost({ name: "InDoubt" }, delta), { signal });
   note.presence.addEventListener("change", showPeople, { signal });
   for (const shown of [showPeople, showList, show]) shown();
+  listVersions(false);
   editor.setSelection(0, 0);
 }
+
+// Its versions.
+
+let then; // the one that is shown in place of the text
+
+function showThen(version) {
+  then = version;
+  element("then").hidden = then === undefined;
+  element("text").parentNode.hidden = !element("then").hidden;
+}
+
+function listVersions(isShown) {
+  showThen(undefined);
+  document.querySelector("aside").hidden = !isShown;
+  if (isShown) versions.list(note.name).catch(() => {}); // without a network there are none
+}
+
+const versions = new Versions({ list: document.querySelector("aside ul"), text: document.querySelector("#then div"), user, onOpen: showThen });
+element("versions").onclick = () => note && listVersions(document.querySelector("aside").hidden);
+element("again").onclick = () => {
+  editor.updateContents(difference(editor.getContents(), new Delta(then.ops)), "user");
+  listVersions(false);
+};
+
+// The bar, and the page.
 
 element("new").onclick = () => open(PREFIX + crypto.randomUUID(), [{ insert: "\n", attributes: { header: 1 } }]).catch(tellLost);
 element("delete").onclick = () => client.delete(note.name).catch(tellLost);
@@ -124,7 +152,7 @@ element("text").addEventListener("keydown", (event) => {
 /** Keeps the page itself in the browser, so that it can be loaded without a network. */
 async function keepPage() {
   await navigator.serviceWorker?.register("worker.js");
-  const files = performance.getEntriesByType("resource").map(({ name }) => new URL(name).pathname).filter((path) => path !== "/docs");
+  const files = performance.getEntriesByType("resource").map(({ name }) => new URL(name).pathname).filter((path) => !path.startsWith("/docs"));
   await (await caches.open("notes")).addAll([location.pathname, ...new Set(files)]);
 }
 

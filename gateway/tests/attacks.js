@@ -16,7 +16,9 @@ const [seconds = 10, browsers = 200] = process.argv.slice(2, 4).map(Number);
 const wanted = process.argv.slice(4);
 const PROGRAM = process.env.GATEWAY ?? path.join(ROOT, "gateway/program.js");
 const DOCUMENTS = 20;
+const MOST_HARMLESS = 900_000; // bytes a second, of whoever keeps to the limits
 const STORE = ["--cell", "1048576", "--slot", "1048576", "--slots", "16", "--docs", "256", "--sources", "512"];
+const LARGE_STORE = ["--cell", "4194304", "--slot", "4194304", "--slots", "8", "--docs", "64", "--sources", "512"];
 const as = (user) => ({ headers: { "x-user": user }, perMessageDeflate: false });
 const random = () => Math.random().toString(36).slice(2);
 const megabytes = (kilobytes) => Math.round(kilobytes / 1_024);
@@ -36,13 +38,16 @@ const lineOf = async (program) => (await program.lines.next()).value;
 /** A store, a gateway over it, and browsers that type there. */
 class Scene {
   endings = [];
+  attackers = []; // their connections
+  #typedAt = 0;
+  #processorAt = 0;
 
   after(ending) {
     this.endings.push(ending);
   }
 
-  async begin({ settings = () => ({}), command = [], data } = {}) {
-    this.store = new Richd(this, ...STORE);
+  async begin({ settings = () => ({}), command = [], data, shape = STORE } = {}) {
+    this.store = new Richd(this, ...shape);
     await this.store.serve();
     this.data = data ?? path.join(folderFor(this), "data");
     this.rights = path.join(folderFor(this), "rights.mjs");
@@ -73,10 +78,13 @@ export const onCommand = ({ doc }) => (doc === "locked" ? undefined : true);
     });
   }
 
-  /** What the browsers that type have seen since the last time. */
+  /** What the browsers that type have seen since the last time, and what the gateway has taken of a processor. */
   async typed(line = "") {
+    const [now, processor] = [performance.now(), this.processor];
+    const share = Math.round((100_000 * (processor - this.#processorAt)) / (now - this.#typedAt));
+    [this.#typedAt, this.#processorAt] = [now, processor];
     this.typers.stdin.write(line + "\n");
-    return JSON.parse(await lineOf(this.typers));
+    return { ...JSON.parse(await lineOf(this.typers)), share };
   }
 
   get memory() {
@@ -96,8 +104,37 @@ export const onCommand = ({ doc }) => (doc === "locked" ? undefined : true);
     const talk = new Talk(this.url, as(user));
     this.after(() => talk.socket.terminate());
     await Promise.race([once(talk.socket, "open"), once(talk.socket, "close")]);
+    if (talk.socket._socket) this.attackers.push(talk.socket._socket);
     await talk.ask({ do: "hello", source: token });
     return talk;
+  }
+
+  /** Bytes that the attackers have sent. */
+  get sent() {
+    return this.attackers.reduce((sum, { bytesWritten, writableLength }) => sum + bytesWritten - writableLength, 0);
+  }
+
+  /** They go. */
+  async endAttack() {
+    for (const socket of this.attackers) socket.destroy();
+    await pause(1_000);
+  }
+
+  /** One who sends as many bytes within so many seconds, as whoever types does: edits in a document of his own. */
+  async harmless(bytes) {
+    const zoe = await this.talk("zoe");
+    const text = "x".repeat(1_000);
+    const each = 1_100; // bytes of an edit's line
+    const due = Math.min(bytes, MOST_HARMLESS * seconds) / each / seconds; // edits a second
+    await zoe.ask({ do: "create", doc: "harmless", n: 1, ops: [{ insert: text }] });
+    const began = performance.now();
+    let n = 2;
+    for (; performance.now() < began + 1_000 * seconds && zoe.code === null; await pause(50)) {
+      const behind = Math.ceil((due * (performance.now() - began)) / 1_000) - (n - 2);
+      const edits = Array.from({ length: Math.min(32, behind) }, () => ({ do: "edit", doc: "harmless", n: (n += 1) - 1, base: n - 2, ops: [{ insert: text }, { delete: 1_000 }] }));
+      if (edits.length > 0) await zoe.ask(...edits);
+    }
+    return (n - 2) * each;
   }
 
   async end() {
@@ -151,6 +188,27 @@ const ATTACKS = {
     for (const { socket } of readers) for (const what of ["subscribe", "since"]) socket.send(`{"do":"${what}","doc":"d","rev":${Math.max(26, rev - 900)}}\n`);
     await until(() => waiting.replies.length === 3 || waiting.code !== null, "the replies of one that reads", 60_000);
     return { said: `${rev} revisions` };
+  },
+
+  "G1 long documents, in pieces, that are asked for and not taken": {
+    begin: (scene) => scene.begin({ shape: LARGE_STORE, settings: () => ({ limits: { lineBytes: 1 << 17, newsBytes: 1 << 17 } }) }),
+    async act(scene) {
+      const eve = await scene.talk("eve");
+      await eve.ask({ do: "create", doc: "long", n: 1, ops: [] });
+      for (let n = 2; n < 7; n += 1) await eve.ask({ do: "edit", doc: "long", n, base: n - 1, ops: [{ insert: "x".repeat(60_000) }] });
+      const silent = await talksOf(scene, "eve", 20);
+      for (const { socket } of silent) socket.pause();
+      for (const talk of silent) talk.send(...Array(20).fill({ do: "fetch", doc: "long" }));
+      const bob = await scene.talk("bob");
+      const began = performance.now();
+      let count = 0;
+      for (const end = began + 1_000 * seconds; performance.now() < end && bob.code === null; count += 1) {
+        bob.send({ do: "fetch", doc: "long" });
+        await until(() => bob.replies.length === count + 2 || bob.code !== null, "a long document");
+        if (bob.replies.at(-1).ops?.[0].insert.length !== 300_000) break;
+      }
+      return { said: `another user has it ${count} times within ${Math.round(performance.now() - began)} ms`, isGood: count > 0 };
+    },
   },
 
   async "G2 a user asks for all names"(scene) {
@@ -250,6 +308,12 @@ const ATTACKS = {
     await flood(eves, many(5_000, frame(0x00, Buffer.from(" "))), end);
     return {};
   },
+  async "G5 short lines, more than may be"(scene, end) {
+    const eves = await talksOf(scene, "eve", 4);
+    const line = Buffer.from('{"do":"unsubscribe","doc":"d"}\n');
+    await flood(eves, many(2_000, frame(0x82, line)), end);
+    return {};
+  },
   async "G5 long lines that are refused"(scene, end) {
     const eves = await talksOf(scene, "eve", 8);
     const line = Buffer.from(`{"do":"edit","doc":"d","x":[${"1,".repeat(32_000)}1]}\n`);
@@ -274,18 +338,23 @@ const ATTACKS = {
     const eve = await scene.talk("eve");
     let count = 0;
     for (; performance.now() < end && eve.code === null; count += 50) {
-      await eve.ask(...Array.from({ length: 50 }, (_, index) => ({ do: "presence", doc: `p${count + index}`.padEnd(64, "x"), at: [0, 0], rev: 0 })));
+      const asked = eve.ask(...Array.from({ length: 50 }, (_, index) => ({ do: "presence", doc: `p${count + index}`.padEnd(64, "x"), at: [0, 0], rev: 0 })));
+      await Promise.race([asked.catch(() => {}), pause(Math.max(0, end - performance.now()))]);
     }
-    return { said: `${count} documents` };
+    return { said: `${eve.replies.length - 1} documents of ${count}` };
   },
   async "G5 connections that nobody signs in"(scene, end) {
     const asked = `GET / HTTP/1.1\r\nHost: 127.0.0.1\r\nX-User: slow\r\nConnection: Upgrade\r\nUpgrade: websocket\r\nSec-WebSocket-Version: 13\r\nSec-WebSocket-Key: dGhlIHNhbXBsZSBub25jZQ==\r\n\r\n`;
     const all = [];
     scene.after(() => all.forEach((socket) => socket.destroy()));
-    for (; all.length < 2_000 && performance.now() < end; await pause(1)) all.push(net.connect(scene.port, "127.0.0.1").on("error", () => {}).on("connect", function () { this.write(asked); }));
+    for (; all.length < 2_000 && performance.now() < end; await pause(1)) {
+      const isSilent = all.length % 2 === 0;
+      all.push(net.connect(scene.port, "127.0.0.1").on("error", () => {}).on("connect", function () { if (!isSilent) this.write(asked); }));
+    }
+    scene.attackers.push(...all);
     await pause(Math.max(0, end - performance.now()));
     const open = all.filter((socket) => !socket.destroyed).length;
-    return { said: `${all.length} connections, ${open} still open` };
+    return { said: `${all.length} connections, half of them silent, ${open} still open` };
   },
 
   async "G6 rights that are taken away"(scene) {
@@ -346,7 +415,10 @@ const ATTACKS = {
   },
 };
 
-const shown = ({ edits, p50, p99 }) => `${edits} edits, p50 ${p50}, p99 ${p99} ms`;
+const shown = ({ edits, p50, p99, share }) => `${edits} edits, p50 ${p50}, p99 ${p99} ms, ${share}% of a processor`;
+const times = (one, other) => (one.p99 / Math.max(1, other.p99)).toFixed(1);
+const size = (bytes) => (bytes < 1e6 ? `${Math.ceil(bytes / 1e3)} KB` : `${(bytes / 1e6).toFixed(1)} MB`);
+const isThere = (pid) => existsSync(`/proc/${pid}`);
 const sum = (codes) => Object.values(codes).reduce((all, count) => all + count, 0);
 
 /** Each acknowledged edit stands in its document once. */
@@ -373,21 +445,32 @@ for (const [name, attack] of Object.entries(ATTACKS)) {
     await scene.typed();
     await pause(1_000 * seconds);
     const alone = await scene.typed();
-    const before = scene.processor;
+    const store = scene.store.pid;
     const began = performance.now();
     const { said = "", isGood = true } = await act(scene, began + 1_000 * seconds).catch((error) => ({ said: error.message, isGood: false }));
     await pause(Math.max(0, began + 1_000 * seconds - performance.now()));
     const beside = await scene.typed();
     const took = (performance.now() - began) / 1_000;
-    const { memory, processor } = scene;
-    const isSame = scene.gateway.exitCode === null && scene.gateway.signalCode === null;
+    const { memory, sent } = scene;
+    const isSame = () => scene.gateway.exitCode === null && scene.gateway.signalCode === null && isThere(store);
+    await scene.endAttack();
+    let [peer, bytes] = [undefined, 0];
+    if (isSame()) {
+      await scene.typed();
+      bytes = await scene.harmless(sent);
+      peer = await scene.typed();
+    }
     const { cut, refused, acknowledged } = await scene.typed("end");
+    const stays = isSame();
     await scene.store.kill();
     const { lost: gone, twice } = lost(scene.store, acknowledged);
-    const isOk = isGood && isSame && gone + twice === 0 && sum(cut) === 0;
+    const isOk = isGood && stays && gone + twice === 0 && sum(cut) === 0;
     if (!isOk) failed += 1;
-    console.log(`${isOk ? "ok      " : "FAILED  "} ${name}: alone ${shown(alone)}; beside it ${shown(beside)}; ${sum(cut)} of ${browsers} cut, ${sum(refused)} refused, `
-      + `${gone} lost, ${twice} twice; the process ${isSame ? "is the same" : "ended"}, ${memory} MiB at most, ${(processor - before).toFixed(1)} of ${took.toFixed(0)} s of a processor${said ? `; ${said}` : ""}`);
+    const harmless = peer === undefined ? "no harmless one after it" : `beside a harmless one of ${size(bytes)} ${shown(peer)}`;
+    const ratios = peer === undefined ? `p99 ${times(beside, alone)} of alone` : `p99 ${times(beside, alone)} of alone, ${times(beside, peer)} of the harmless one`;
+    console.log(`${isOk ? "ok      " : "FAILED  "} ${name}: alone ${shown(alone)}; beside it, ${size(sent)} sent, ${shown(beside)}; ${harmless}; ${ratios}; `
+      + `${sum(cut)} of ${browsers} cut, ${sum(refused)} refused, ${gone} lost, ${twice} twice; the processes ${stays ? "are the same" : "ended"}, ${memory} MiB at most, `
+      + `${took.toFixed(0)} s${said ? `; ${said}` : ""}`);
   } catch (error) {
     failed += 1;
     console.log(`FAILED   ${name}: ${error.stack}`);

@@ -124,15 +124,10 @@ test("news that are none end the session that follows, and followers go on", asy
   assert.deepEqual(ann.news, [{ doc: "d", news: 2, ops: [] }]);
 });
 
-test("a document that is longer than lineBytes is refused by 22, and news that are longer than newsBytes end a subscription", async (t) => {
+test("news that are longer than newsBytes end a subscription, and a since of so much is too old", async (t) => {
   const it = await begun(t, { limits: { lineBytes: 5_000, newsBytes: 3_000 } });
   const ann = await Talk.begin(t, it.url, "ann");
   const text = (bytes) => `[{"insert":"${"x".repeat(bytes)}"}]`;
-  it.store.instead = { what: "fetch", bytes: `{"doc":"d","ok":"doc","ops":${text(5_000)},"rev":1}\n` };
-  assert.equal((await ann.ask(FETCH)).code, 22);
-  assert.ok(it.events.some(({ event }) => event === "a document is longer than lineBytes"));
-  it.store.instead = { what: "fetch", bytes: `{"doc":"d","ok":"doc","ops":${text(4_900)},"rev":1}\n` };
-  assert.equal((await ann.ask(FETCH)).rev, 1);
   for (const message of [SINCE, SUBSCRIBE]) {
     it.store.instead = { what: "since", bytes: `{"deltas":[${text(3_000)}],"doc":"d","ok":"since","rev":2}\n` };
     assert.equal((await ann.ask(message)).code, 13);

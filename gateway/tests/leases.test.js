@@ -5,7 +5,7 @@ import { appendFileSync, readFileSync, writeFileSync } from "node:fs";
 import { open } from "node:fs/promises";
 import path from "node:path";
 import test from "node:test";
-import { Leases } from "../leases.js";
+import { Leases, NAMING } from "../leases.js";
 import { folderFor } from "./programs.js";
 import { FakeStore, Talk, gatewayFor, pause, taken, until } from "./talk.js";
 
@@ -38,6 +38,37 @@ test("other documents begin with other names, those that have sessions first", a
   const first = new Set();
   for (let k = 0; k < 20; k += 1) first.add((await book.lend(`d${k}`, "ann")).name);
   assert.deepEqual([...first].sort(), ["p0", "p1"]);
+});
+
+const FIVE = ["p0", "p1", "p2", "p3", "p4"];
+
+test("one user's documents share a few names, and under so many he sends at a time at one store", async (t) => {
+  const { clock, book } = booked(t, { names: FIVE, first: 5, naming: { ...NAMING, most: 2 } });
+  const names = async (docs, holder) => Promise.all(docs.map(async (doc) => (await book.lend(doc, holder)).name));
+  const [own] = await names(["d0"], "ann/a");
+  assert.deepEqual(new Set(await names(["d1", "d2", "d3"], "ann/a")), new Set([own]));
+  const [second] = await names(["d0"], "ann/b");
+  assert.notEqual(second, own);
+  // others have both names in a third document
+  const others = [];
+  for (let k = 0; !others.includes(own) || !others.includes(second); k += 1) others.push(...(await names(["e"], `u${k}/a`)));
+  if (others.length === FIVE.length) return t.skip("the names of others are all of them");
+  assert.equal(book.lend("e", "ann/a"), undefined);
+  assert.notEqual(book.reserve("e", "ann/c"), undefined, "who only asks isn't counted");
+  book.depart("ann/c", ["e"]);
+  clock.now += 2_000;
+  const third = await book.lend("e", "ann/a");
+  assert.ok(![own, second].includes(third.name));
+  await names(["d0"], "ann/b");
+  assert.equal(book.lend("d0", "ann/a"), undefined, "a lease that is there is used later, too");
+  clock.now += 1_000;
+  await names(["d0"], "ann/b");
+  third.begin();
+  clock.now += 1_500;
+  assert.equal(book.lend("d0", "ann/a"), undefined, "what is on its way counts, however long");
+  third.settle(1, "taken");
+  assert.equal((await book.lend("d0", "ann/a")).name, own);
+  assert.equal((await book.lend("d9", "bob/a")).epoch, 1, "and nobody else waits for her");
 });
 
 test("a lease is on the disk before it is given, and is there after a start, without a number", async (t) => {

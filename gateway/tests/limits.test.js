@@ -1,8 +1,10 @@
 // What users may take, and what is held for them.
 
 import assert from "node:assert/strict";
+import net from "node:net";
 import test from "node:test";
-import { Allowance } from "../users.js";
+import { LIMITS } from "../settings.js";
+import { Account, Allowance } from "../users.js";
 import { folderFor } from "./programs.js";
 import { FakeStore, Talk, gatewayFor, pause, until } from "./talk.js";
 
@@ -11,7 +13,8 @@ const NEVER = 1_000_000_000; // milliseconds: who reads nothing isn't cut off fo
 
 async function begun(t, settings) {
   const store = await FakeStore.begin(t);
-  return { store, ...(await gatewayFor(t, { stores: [{ name: "s1", ...store.address }], authorize: ({ headers }) => headers["x-user"], ...settings })) };
+  const served = await gatewayFor(t, { stores: [{ name: "s1", ...store.address }], authorize: ({ headers }) => headers["x-user"], ...settings });
+  return { store, ...served };
 }
 
 const as = (user) => ({ headers: { "x-user": user } });
@@ -106,7 +109,7 @@ test("who sends much that is no line is closed, and nobody else is", async (t) =
     eve.socket._socket.write(Buffer.concat([begin, ...Array(Math.ceil(AT_ONCE / cost)).fill(more)]));
     assert.equal(await eve.closed(), 4429);
     assert.equal(await new Talk(it.url, as("eve")).closed(), 4429, "and not let in again until then");
-    assert.ok(it.events.some(({ event, user, limit }) => event === "a user sends more than he may, and is closed" && user === "eve" && limit === "overhead"));
+    assert.ok(it.events.some(({ event, user, limit }) => event === "a user sends more than he may, and is closed" && user === "eve" && limit === "userOverhead"));
     assert.equal(ann.code, null);
     await ann.ask({ do: "unsubscribe", doc: "d" });
     await it.close();
@@ -123,11 +126,12 @@ test("lines aren't counted as what is no line, however long and in how many piec
     reply({ doc: "d", n: message.n, ok: "again", rev: 2 });
     await until(() => ann.replies.length === k + 2);
   }
-  assert.equal(counted(it, 'slowed_total\\{limit="overhead"\\}'), 0);
+  assert.equal(counted(it, 'slowed_total\\{limit="userOverhead"\\}'), 0);
 });
 
 test("a user's bytes a second are read and no more, and so are an address's", async (t) => {
-  for (const [limits, limit] of [[{ userBytes: 2_000 }, "bytes"], [{ addressBytes: 2_000 }, "address"]]) {
+  for (const limit of ["userBytes", "addressBytes"]) {
+    const limits = { [limit]: 2_000 };
     const it = await begun(t, { address: { header: "X-Real-IP" }, limits });
     const from = (user, address) => ({ headers: { "x-user": user, "x-real-ip": address } });
     const [ann, eve] = [await Talk.begin(t, it.url, "a", from("ann", "10.0.0.1")), await Talk.begin(t, it.url, "e", from("eve", "10.0.0.1, 10.0.0.2"))];
@@ -162,19 +166,125 @@ test("where an address has too many sessions the next one is refused, before any
   assert.match(slow.error.message, /503/);
 });
 
-test("a user is told of so many documents, over all of his sessions", async (t) => {
-  const it = await begun(t, { limits: { userDocuments: 3 } });
-  const [one, other, bob] = [await Talk.begin(t, it.url, "a", as("ann")), await Talk.begin(t, it.url, "b", as("ann")), await Talk.begin(t, it.url, "c", as("bob"))];
-  const at = (doc, place = [0, 0]) => ({ at: place, do: "presence", doc, rev: 1 });
-  for (const doc of ["d1", "d2"]) assert.equal((await one.ask(at(doc))).ok, "presence");
-  assert.equal((await other.ask(at("d1"))).ok, "presence");
-  assert.equal((await other.ask(at("d2"))).code, 60);
-  assert.equal((await other.ask({ do: "subscribe", doc: "d2", rev: 1 })).code, 60);
-  assert.equal((await one.ask(at("d1", [1, 1]))).ok, "presence", "where he is already");
-  assert.equal((await bob.ask(at("d2"))).ok, "presence");
-  await one.ask(at("d2", null));
-  assert.equal((await other.ask(at("d2"))).ok, "presence");
-  assert.equal(counted(it, "rooms_refused_total"), 2);
+test("a user, and an address, is told of so many documents, over all sessions; one more waits, and its session is closed later", async (t) => {
+  for (const limit of ["userDocuments", "addressDocuments"]) {
+    const it = await begun(t, { address: { header: "x-real-ip" }, limits: { [limit]: 3, heldSeconds: 1 } });
+    const from = (user, address) => ({ headers: { "x-user": user, "x-real-ip": address } });
+    const second = limit === "userDocuments" ? from("ann", "10.0.0.2") : from("eve", "10.0.0.1");
+    const [one, other, bob] = [await Talk.begin(t, it.url, "a", from("ann", "10.0.0.1")), await Talk.begin(t, it.url, "b", second), await Talk.begin(t, it.url, "c", from("bob", "10.0.0.3"))];
+    const at = (doc, place = [0, 0]) => ({ at: place, do: "presence", doc, rev: 1 });
+    for (const doc of ["d1", "d2"]) assert.equal((await one.ask(at(doc))).ok, "presence");
+    assert.equal((await other.ask(at("d1"))).ok, "presence");
+    other.send(at("d2"));
+    await until(() => counted(it, `slowed_total\\{limit="${limit}"\\}`) === 1);
+    assert.equal((await one.ask(at("d1", [1, 1]))).ok, "presence", "where he is already");
+    assert.equal((await bob.ask(at("d2"))).ok, "presence");
+    await one.ask(at("d2", null));
+    await until(() => other.replies.length === 3);
+    other.send({ do: "subscribe", doc: "d3", rev: 1 });
+    assert.equal(await other.closed(), 4429);
+    assert.equal(counted(it, `over_total\\{limit="${limit}"\\}`), 1);
+    assert.deepEqual([one.code, bob.code], [null, null]);
+    await one.ask(at("d4"));
+    await it.close();
+  }
+});
+
+test("whose messages are above the limit for long: of a user, or an address, the session that sends most is closed, and no other", async (t) => {
+  for (const limit of ["userMessages", "addressMessages"]) {
+    const it = await begun(t, { address: { header: "x-real-ip" }, limits: { [limit]: 20, heldSeconds: 1 } });
+    const from = (user, address) => ({ headers: { "x-user": user, "x-real-ip": address } });
+    const second = limit === "userMessages" ? from("eve", "10.0.0.2") : from("ann", "10.0.0.1");
+    const [eve, quiet, bob] = [await Talk.begin(t, it.url, "e", from("eve", "10.0.0.1")), await Talk.begin(t, it.url, "q", second), await Talk.begin(t, it.url, "b", from("bob", "10.0.0.3"))];
+    eve.send(...Array(2_000).fill({ do: "unsubscribe", doc: "d" }));
+    await bob.ask({ do: "unsubscribe", doc: "d" });
+    assert.equal(await eve.closed(), 4429);
+    assert.ok(eve.replies.length < 2_000);
+    assert.equal(counted(it, `over_total\\{limit="${limit}"\\}`), 1);
+    assert.deepEqual([quiet.code, bob.code], [null, null]);
+    await quiet.ask({ do: "unsubscribe", doc: "d" });
+    await it.close();
+  }
+});
+
+test("who is held again and again is closed, who keeps to the limit for a while isn't, and it is the one that sends most", () => {
+  let now = 0;
+  const account = new Account("user", { ...LIMITS, heldSeconds: 30 }, () => now);
+  const [one, other] = [{ sent: 1 }, { sent: 2 }];
+  for (const browser of [one, other]) account.browsers.add(/** @type {any} */ (browser));
+  assert.deepEqual(account.hold(10), { isFirst: true });
+  now = 10_900; // it was read for a moment
+  assert.deepEqual(account.hold(10), { isFirst: false });
+  now = 20_900 + 1_001;
+  assert.deepEqual(account.hold(40), { isFirst: true });
+  now += 30_000;
+  assert.deepEqual(account.hold(1), { isFirst: false, greedy: other });
+});
+
+test("whose reads of older revisions take more than their share of a session's time is read later, then closed, and others' go on", async (t) => {
+  const it = await begun(t, { limits: { userReading: 1, heldSeconds: 1 } });
+  const [eve, bob] = [await Talk.begin(t, it.url, "e", as("eve")), await Talk.begin(t, it.url, "b", as("bob"))];
+  eve.send({ do: "fetch", doc: "d", rev: 1 });
+  const { reply } = await it.store.next();
+  await pause(5_100); // the store takes so long for it, and that is more than may be taken at once
+  reply(document("d", 1));
+  await until(() => eve.replies.length === 2);
+  eve.send({ do: "fetch", doc: "d", rev: 1 });
+  await until(() => counted(it, 'slowed_total\\{limit="userReading"\\}') === 1);
+  bob.send({ do: "fetch", doc: "b", rev: 1 });
+  const { message, reply: give } = await it.store.next();
+  assert.equal(message.doc, "b");
+  give(document("b", 1));
+  await until(() => bob.replies.length === 2);
+  assert.equal(await eve.closed(), 4429);
+  assert.deepEqual([it.store.asked.length, bob.code], [0, null]);
+});
+
+test("the time of a read is its user's and his address's, and they wait for what they owe", async (t) => {
+  const it = await begun(t);
+  const store = it.gateway.stores.get("s1");
+  const held = [];
+  const accounts = ["user", "address"].map((of) => new Account(/** @type {any} */ (of), { ...LIMITS, userReading: 1, addressReading: 1 }));
+  const read = (doc, its) => store.fetch({ do: "fetch", doc, rev: 1 }, 0, () => {}, () => true, { user: doc, accounts: its, hold: (account, limit) => held.push(account.nameOf(limit)) });
+  await until(() => store.isOpen && store.open.reader === 2);
+  for (const { reading } of accounts) reading.take(100_000); // more than may be at once
+  const before = accounts.map(({ reading }) => reading.owed);
+  for (const { reading } of accounts) reading.take(-1_000 * before[1] - 1_000);
+  assert.deepEqual(accounts.map(({ reading }) => reading.owed), [0, 0]);
+  read("d", accounts);
+  const { reply } = await it.store.next();
+  await pause(200);
+  reply(document("d", 1));
+  for (const [index, of] of ["user", "address"].entries()) {
+    const { reading } = accounts[index];
+    reading.take(200_000);
+    const [owes] = [accounts[index]];
+    read("e", [owes]);
+    await until(() => held.includes(`${of}Reading`));
+    assert.equal(it.store.asked.length, 0);
+    read("f", []);
+    (await it.store.next(({ doc }) => doc === "f")).reply(document("f", 1));
+    reading.take(-1_000_000);
+    (await it.store.next(({ doc }) => doc === "e")).reply(document("e", 1));
+  }
+});
+
+test("connections that nobody has signed in are so many of an address, also where nothing comes", async (t) => {
+  const it = await begun(t, { limits: { addressUnsigned: 3 } });
+  await Talk.begin(t, it.url, "a", as("ann")); // who is signed in isn't counted there
+  const silent = Array.from({ length: 5 }, () => net.connect(it.port, "127.0.0.1").on("error", () => {}));
+  t.after(() => silent.forEach((socket) => socket.destroy()));
+  await until(() => silent.filter(({ closed }) => closed).length === 2);
+  assert.equal(counted(it, 'over_total\\{limit="addressUnsigned"\\}'), 2);
+  for (const socket of silent) socket.destroy();
+  await until(() => silent.every(({ closed }) => closed));
+  await until(async () => (await Promise.race([Talk.begin(t, it.url, "b", as("bob")).then(() => true, () => false), pause(1_000)])) === true, "another one");
+});
+
+test("where requests come by a proxy and no setting says where from, the log says so once", async (t) => {
+  const it = await begun(t);
+  for (const token of ["a", "b"]) await Talk.begin(t, it.url, token, { headers: { "x-user": "ann", "x-forwarded-for": "10.0.0.1" } });
+  assert.equal(it.events.filter(({ event }) => event.startsWith("requests come by a proxy")).length, 1);
 });
 
 test("reads of older revisions are asked for by turns of users, few at once, and nobody's other reads wait", async (t) => {

@@ -5,6 +5,7 @@ import http from "node:http";
 import test from "node:test";
 import { Etcd } from "../etcd.js";
 import { EtcdLeases } from "../leases-etcd.js";
+import { NAMING } from "../leases.js";
 import { EtcdPlaces, RuledPlaces } from "../places.js";
 import { Sweep } from "../sweep.js";
 import { EtcdProgram, folderFor, needsEtcd } from "./programs.js";
@@ -131,7 +132,7 @@ for (const [kind, needs, Program] of [["a stub of etcd", {}, FakeEtcd], ["etcd",
     await places.find("d", true);
     assert.deepEqual(await keys(), []);
     const ann = await one.lend("d", "ann", true);
-    assert.deepEqual(await keys(), ["place/d", "lease/s1/d/ann", "name/s1/d/g1-0", "maker/ann/d"]);
+    assert.deepEqual(await keys(), ["place/d", "lease/s1/d/ann", "name/s1/d/g1-0"]);
     one.release("d", "ann", ann, true);
     await until(async () => (await keys()).length === 0);
     // a second creation of the same document, from another gateway
@@ -139,14 +140,22 @@ for (const [kind, needs, Program] of [["a stub of etcd", {}, FakeEtcd], ["etcd",
     const again = await one.lend("d", "ann", true);
     const others = new EtcdPlaces({ etcd: etcd(), stores: () => STORES });
     assert.equal(await others.find("d", true), "s1");
-    assert.deepEqual([await places.countOf("ann"), await places.countOf("an")], [1, 0]);
     const other = book("g2", others);
     const bob = await other.lend("d", "bob", true);
     one.release("d", "ann", again, true);
-    await until(async () => (await keys()).length === 5); // who tried is counted until a start
-    assert.deepEqual(await keys(), ["place/d", "lease/s1/d/bob", "name/s1/d/g2-0", "maker/ann/d", "maker/bob/d"]);
-    other.release("d", "bob", bob, true);
-    await until(async () => (await keys()).length === 1);
+    await until(async () => (await keys()).length === 3);
+    assert.deepEqual(await keys(), ["place/d", "lease/s1/d/bob", "name/s1/d/g2-0"]);
+    bob.begin();
+    other.depart("bob", ["d"]);
+    bob.settle(1, "refused");
+    other.release("d", "bob", bob, true); // he has gone meanwhile
+    await until(async () => (await keys()).length === 0);
+    // whoever has made it is counted
+    await others.find("d", true);
+    await other.lend("d", "bob", true);
+    await others.created("d", "s1", "bob");
+    await others.created("d", "s1", "bob");
+    assert.deepEqual([await places.countOf("bob"), await places.countOf("bo"), await places.countOf("ann")], [1, 0, 0]);
   });
 
   it("what creations left that were never made is swept away, and nothing else", async (t) => {
@@ -223,6 +232,28 @@ for (const [kind, needs, Program] of [["a stub of etcd", {}, FakeEtcd], ["etcd",
     assert.notEqual((await other.lend("d", gone))?.name, anew.name, "who had it has another one now");
   });
 }
+
+test("a user sends under so many names of a store at a time, also with leases in etcd", async (t) => {
+  const program = new FakeEtcd(t);
+  await program.start();
+  const clock = { now: 0 };
+  const pool = async () => Array.from({ length: 40 }, (_, index) => `g-${index}`);
+  const book = new EtcdLeases({ etcd: new Etcd(program), store: "s1", pool, first: 40, term: 1_000_000, now: () => clock.now, naming: { ...NAMING, most: 1 } });
+  const ann = await book.lend("d", "ann/a");
+  assert.equal((await book.lend("e", "ann/a")).name, ann.name);
+  const others = [];
+  for (let k = 0; !others.includes(ann.name); k += 1) others.push((await book.lend("f", `u${k}/a`)).name);
+  assert.equal(await book.lend("f", "ann/a"), undefined);
+  ann.begin();
+  clock.now += 2_000;
+  assert.equal(await book.lend("f", "ann/a"), undefined, "a command is on its way");
+  ann.settle(1, "taken");
+  const other = await book.lend("f", "ann/a");
+  assert.notEqual(other.name, ann.name);
+  assert.equal(await book.lend("d", "ann/a"), undefined);
+  clock.now += 2_000;
+  assert.equal(await book.lend("d", "ann/a"), ann);
+});
 
 test("a lease that another gateway uses isn't lent anew", async (t) => {
   const program = new FakeEtcd(t);
@@ -347,14 +378,15 @@ test("a creation that a store refuses, as it is full of documents, goes to the n
 
 test("a creation that is refused leaves nothing in etcd, and one of what is there leaves the place alone", async (t) => {
   const { etcd, stores, begin } = await clustered(t, 1);
-  const { url, port } = await begin("g1");
+  const { url, port, gateway } = await begin("g1", { authorize: ({ headers }) => headers["x-user"] ?? "ann" });
+  const sessions = () => Number(/^richd_gateway_sessions (\d+)$/m.exec(gateway.metricsText())[1]);
   const ann = await Talk.begin(t, url, "ann");
   const kept = () => [...etcd.kept.keys()].filter((key) => !key.startsWith("richd/pool/"));
   let replies = 1;
   for (const code of [3, 4, 9, 14, 15, 16, 17, 20]) {
     ann.send(create("d"), { do: "edit", doc: "d", n: 2, base: 1, ops: [] });
     const [creation, edit] = [await stores[0].next(), await stores[0].next()];
-    assert.equal(kept().length, 4);
+    assert.equal(kept().length, 3);
     creation.reply({ code, error: "Refused" });
     edit.reply({ code: 6, error: "NoDocument" });
     replies += 2;
@@ -363,10 +395,43 @@ test("a creation that is refused leaves nothing in etcd, and one of what is ther
     await until(() => kept().length === 0, `nothing is left after ${code}`);
   }
   assert.deepEqual(await (await fetch(`http://127.0.0.1:${port}/docs`)).json(), { docs: [], next: null });
-  ann.send(create("d"));
-  (await stores[0].next()).reply({ code: 7, error: "Exists" });
-  await until(() => kept().length === 2);
-  assert.deepEqual(kept().sort(), ["richd/maker/anybody/d", "richd/place/d"]);
+  // whoever has gone meanwhile, also under a token that comes again, or before anything was sent
+  for (const comesAgain of [false, true]) {
+    const eve = await Talk.begin(t, url, `eve${comesAgain}`);
+    eve.send(create("d"));
+    const creation = await stores[0].next();
+    eve.socket.terminate();
+    await until(() => sessions() === 1);
+    if (comesAgain) await (await Talk.begin(t, url, `eve${comesAgain}`)).ask({ do: "lease", doc: "d" });
+    creation.reply({ code: 3, error: "BadOps" });
+    await until(() => kept().length === 0, `nothing is left of who has gone, ${comesAgain}`);
+  }
+  const lend = gateway.stores.get("s1").leases.lend;
+  for (const when of ["while it is written", "once it is written"]) {
+    const eve = await Talk.begin(t, url, "eve");
+    gateway.stores.get("s1").leases.lend = function (...words) {
+      const lent = lend.apply(this, words);
+      const end = () => eve.socket.terminate();
+      if (when === "while it is written") end();
+      return lent instanceof Promise ? lent.then(async (lease) => (end(), await pause(50), lease)) : lent;
+    };
+    eve.send(create("d"));
+    await until(() => eve.code !== null);
+    gateway.stores.get("s1").leases.lend = lend;
+    await pause(200);
+    await until(() => kept().length === 0, `nothing is left of what wasn't sent, ${when}`);
+    assert.equal(stores[0].asked.length, 0);
+  }
+  // of two who create the same at the same time one is counted
+  const bob = await Talk.begin(t, url, "bob", { headers: { "x-user": "bob" } });
+  for (const talk of [ann, bob]) talk.send(create("d"));
+  const [first, second] = [await stores[0].next(), await stores[0].next()];
+  first.reply(taken(first.message, 1));
+  second.reply({ code: 7, error: "Exists" });
+  await until(() => ann.replies.length === replies + 1 && bob.replies.length === 2);
+  const winner = ann.replies.at(-1).ok === "taken" ? "ann" : "bob";
+  await until(() => kept().length === 4);
+  assert.deepEqual(kept().filter((key) => !key.includes("/name/")).sort(), [`richd/lease/s1/d/${winner}/${winner}`, `richd/maker/${winner}/d`, "richd/place/d"]);
 });
 
 test("with etcd away known places are served, others are to be sent again, and all goes on when it is back", async (t) => {

@@ -119,6 +119,10 @@ export class Richd {
     process.kill(this.#program.pid, name);
   }
 
+  get pid() {
+    return this.#program.pid;
+  }
+
   /** The documents that the program prints: name -> revision and operations. */
   dump() {
     const lines = execFileSync(RICHD, ["dump", this.path], { encoding: "utf8", maxBuffer: 1 << 30 }).split("\n").filter(Boolean);

@@ -167,10 +167,11 @@ test("a user's sessions are closed where his rights change, and nobody else's", 
 
 /** Ann and bob follow a document of a gateway that asks what they may. */
 async function following(t, settings) {
-  const rights = { ann: true, bob: true, asked: 0, fault: false };
+  const rights = { ann: true, bob: true, asked: 0, fault: false, hangs: false, hung: 0 };
   const can = (user) => {
     rights.asked += 1;
     if (rights.fault) throw new Error("no database");
+    if (rights.hangs) return new Promise(() => (rights.hung += 1));
     return rights[user];
   };
   const it = await begun(t, { authorize: ({ headers }) => headers["x-user"], can, ...settings });
@@ -214,6 +215,14 @@ test("rights that can't be asked for again are asked for later, and nothing ends
   await news(2);
   assert.deepEqual(ann.news, [{ doc: "d", news: 2, ops: [] }]);
   Object.assign(rights, { fault: false, ann: false });
+  await until(() => ann.news.some(({ ended }) => ended === 60));
+});
+
+test("rights of which no answer comes are asked for again, too", async (t) => {
+  const { rights, ann } = await following(t, { recheck: 1 });
+  rights.hangs = true;
+  await until(() => rights.hung > 0);
+  Object.assign(rights, { hangs: false, ann: false });
   await until(() => ann.news.some(({ ended }) => ended === 60));
 });
 

@@ -63,8 +63,13 @@ test("each wrong setting is refused with a reason", async () => {
 test("the least settings have defaults", () => {
   const { name, readers, writers, guests, names, term, limits } = checked({ ...right, authorize: () => null });
   assert.deepEqual({ name, readers, writers, guests, names, term }, { name: "g", readers: 2, writers: 16, guests: 8, names: 120, term: 7 * 86_400_000 });
-  assert.deepEqual(limits, { sessions: 20_000, userSessions: 200, addressSessions: 20_000, userMessages: 2_000, userBytes: 1_048_576, userOverhead: 16_384,
-    addressBytes: 67_108_864, userNames: 4, userDocuments: 1_000, userCreations: 1_000, userCreationsHour: 100, lineBytes: 67_108_864, newsBytes: 4_194_304, waitingBytes: 268_435_456, keptBytes: 67_108_864 });
+  assert.deepEqual(limits, {
+    sessions: 20_000, userSessions: 200, addressSessions: 20_000, addressUnsigned: 1_000,
+    userMessages: 2_000, userBytes: 1_048_576, userOverhead: 16_384, userReading: 250, userDocuments: 1_000,
+    addressMessages: 20_000, addressBytes: 67_108_864, addressOverhead: 1_048_576, addressReading: 800, addressDocuments: 100_000,
+    heldSeconds: 30, userNames: 4, userCreations: 1_000, userCreationsHour: 100,
+    lineBytes: 67_108_864, newsBytes: 4_194_304, waitingBytes: 268_435_456, keptBytes: 67_108_864,
+  });
   assert.equal(checked(right).limits.userNames, 120, "without authorize all are one user");
   assert.equal(checked({ stores: [store, { ...store, name: "s2" }], etcd }).data, undefined);
 });

@@ -14,6 +14,7 @@ export async function gatewayFor(test, settings) {
   const events = [];
   const gateway = await createGateway({ data: settings.etcd ? undefined : folderFor(test), log: (event) => events.push(event), ...settings });
   const server = http.createServer((request, response) => gateway.handleRequest(request, response) || response.writeHead(404).end());
+  server.on("connection", (socket) => gateway.handleConnection(socket));
   server.on("upgrade", (request, socket, head) => gateway.handleUpgrade(request, socket, head));
   await new Promise((resolve) => server.listen(0, "127.0.0.1", resolve));
   const { port } = server.address();
@@ -32,10 +33,11 @@ export async function gatewayFor(test, settings) {
 export class Talk {
   lines = [];
   code = null; // by which it was closed
+  #parts = []; // of a line that isn't whole
 
   constructor(url, options) {
     this.socket = new WebSocket(url, options);
-    this.socket.on("message", (bytes) => this.lines.push(...bytes.toString().split("\n").slice(0, -1).map((line) => JSON.parse(line))));
+    this.socket.on("message", (bytes) => this.#take(bytes));
     this.socket.on("close", (code) => (this.code = code));
     this.socket.on("error", (error) => (this.error = error));
   }
@@ -51,6 +53,19 @@ export class Talk {
 
   send(...messages) {
     this.socket.send(messages.map((message) => (typeof message === "string" ? message : JSON.stringify(message)) + "\n").join(""));
+  }
+
+  #take(bytes) {
+    this.#parts.push(bytes);
+    if (!bytes.includes(10)) return;
+    const lines = Buffer.concat(this.#parts).toString().split("\n");
+    this.#parts = [Buffer.from(lines.pop())];
+    this.lines.push(...lines.map((line) => JSON.parse(line)));
+  }
+
+  /** Bytes of a line that isn't whole. */
+  get begun() {
+    return this.#parts.reduce((sum, { length }) => sum + length, 0);
   }
 
   get replies() {
@@ -81,7 +96,8 @@ export class Talk {
 
 /** A store that holds what comes, and answers as the test says. `hello` is answered, and so is what asks for nothing. */
 export class FakeStore {
-  /** @type {{ source: string, message: any, reply: (line: any) => void, cut: () => void }[]} */
+  /** @type {{ source: string, message: any, reply: (line: any) => void, write: (text: string) => void, unsent: () => number,
+   *   cut: () => void }[]} */
   asked = [];
   sessions = new Set();
   newest = 1_000; // a fetch or since of a later revision is refused at once
@@ -135,7 +151,7 @@ export class FakeStore {
         } else if (["fetch", "since"].includes(message.do) && message.rev > this.newest) {
           reply(message.do === "since" && this.isNowhere(message.doc) ? { code: 6, error: "NoDocument" } : { code: 12, error: "Future" });
         } else {
-          this.asked.push({ source, message, reply, cut: () => socket.destroy() });
+          this.asked.push({ source, message, reply, write: (text) => socket.write(text), unsent: () => socket.writableLength, cut: () => socket.destroy() });
         }
       }
     });

@@ -86,7 +86,7 @@ for await (const line of createInterface({ input: process.stdin })) {
   }
   waits.sort((one, other) => one - other);
   const sums = { edits: waits.length, p50: at(0.5), p99: at(0.99), cut: Object.fromEntries(cut), refused: Object.fromEntries(refused) };
-  console.log(JSON.stringify(line === "end" ? { ...sums, acknowledged } : sums));
   waits = [];
+  await new Promise((resolve) => process.stdout.write(JSON.stringify(line === "end" ? { ...sums, acknowledged } : sums) + "\n", resolve));
   if (line === "end") process.exit(0);
 }

@@ -276,7 +276,9 @@ test("a call ends by its time or its signal, and what was sent keeps its number"
 });
 
 test("a time that is undefined is that of the client", async (t) => {
-  const { client } = await scriptedPair(t, () => {}, { timeout: 50 });
+  const { server } = await scriptedPair(t, () => {});
+  const client = new Client({ ...server.address, timeout: 50 }); // which may have connected by then or not
+  t.after(() => client.close());
   for (const limits of [undefined, {}, { timeout: undefined }]) await assert.rejects(client.fetch("d", undefined, limits), { name: "Timeout" });
 });
 

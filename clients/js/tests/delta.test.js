@@ -7,8 +7,10 @@ import { readFileSync } from "node:fs";
 import os from "node:os";
 import test from "node:test";
 import { promisify } from "node:util";
-import { Delta } from "../delta.js";
+import { Delta, find, remember } from "../delta.js";
 import { difference } from "../difference.js";
+import { hasten } from "../hastening.js";
+import { cutsPair } from "../operations.js";
 import { parted } from "../parting.js";
 import { Draw } from "./draw.js";
 import { RICHD, ROOT, needsRichd } from "./program.js";
@@ -43,6 +45,46 @@ test("the rows of deltas", () => {
     assert.deepEqual(typeof result === "number" ? result : { ops: result.ops }, wanted, row);
   }
   assert.ok(count > 150, `${count} rows`);
+});
+
+test("a document that remembers where it was changed is changed, and looked into, as any other", () => {
+  const draw = new Draw(5);
+  for (let count = 0; count < 200; count += 1) {
+    let plain = draw.document();
+    let document = remember(new Delta([...plain.ops]));
+    for (let changes = 0; changes < 8; changes += 1) {
+      const change = draw.change(plain);
+      assert.deepEqual(change.invert(document), change.invert(plain));
+      assert.equal(cutsPair(change, document), cutsPair(change, plain));
+      const place = draw.below(plain.length() + 2);
+      assert.deepEqual(find(document.ops, place), find(plain.ops, place));
+      [plain, document] = [plain.compose(change), document.compose(change)];
+      assert.deepEqual(document, plain);
+    }
+  }
+});
+
+test("a page's deltas that are hastened compose as before", () => {
+  class Other {
+    constructor(ops = []) {
+      this.ops = ops;
+    }
+
+    compose(other) {
+      return new Other(new Delta(this.ops).compose(new Delta(other.ops)).ops);
+    }
+  }
+  const draw = new Draw(6);
+  const cases = Array.from({ length: 300 }, (_, number) => {
+    const long = new Delta();
+    while (long.ops.length < 70) for (const op of draw.document().ops) long.push(op);
+    const first = number % 3 === 0 ? draw.change(long) : long;
+    const at = draw.below(long.length());
+    const change = number % 2 === 0 ? draw.change(long) : new Delta().retain(at).insert("x", draw.attributes(false));
+    return [first, change, new Other(first.ops).compose(change)];
+  });
+  hasten(Other);
+  for (const [first, change, made] of cases) assert.deepEqual(new Other(first.ops).compose(change), made);
 });
 
 /** What `richd delta` prints for a case: a composition, or a transformation with the first delta first or not. */

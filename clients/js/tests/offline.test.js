@@ -62,6 +62,35 @@ for (const isTaken of [true, false]) {
   });
 }
 
+const LONG = Array.from({ length: 3_000 }, (_, line) => ({ insert: `line ${line}\n`, ...(line % 2 > 0 && { attributes: { bold: true } }) }));
+
+for (const [how, isTaken, isSameTab] of [["was taken", true, true], ["wasn't taken", false, true], ["was taken, and another tab comes", true, false]]) {
+  test(`a long creation whose page goes before it is answered is ended by the next page; it ${how}`, async (t) => {
+    let before;
+    const isOwn = ({ do: call, doc }) => call === "create" && doc === "long" && !before.isGone;
+    const goes = (session) => {
+      before.isGone = true;
+      before.page.goes();
+      session.cut();
+      return true;
+    };
+    const refuse = (message) => (!isTaken && isOwn(message) ? { do: "nothing" } : undefined);
+    const spoil = (message, session) => isOwn(message) && goes(session);
+    const { load, server, creator } = await prepared(t, { refuse, spoil });
+    const other = await load();
+    before = await load();
+    before.client.open("long", { create: LONG }).catch(() => {});
+    await until(() => before.isGone);
+    other.page.goes();
+    if (isTaken) await creator.edit("long", [{ insert: "others " }], 1);
+
+    const after = await load((isSameTab ? before : other).page.tab);
+    const wanted = `${isTaken ? "others " : ""}${textOf({ ops: LONG })}`;
+    if (isSameTab) await (await after.client.open("long")).flush();
+    await until(() => server.documents.newest("long") > 0 && textOf({ ops: server.documents.at("long") }) === wanted);
+  });
+}
+
 test("what was typed without a server is shown after a reload, and sent once there is one", async (t) => {
   let isAway = false;
   const { load, newest, server, creator } = await prepared(t, { spoil: (_, session) => isAway && session.source !== "creator" && (session.cut(), true) });
@@ -189,13 +218,14 @@ test("an edit that was sent under a lease that is lost is in doubt: it is told, 
 });
 
 test("an edit whose number others have used since is in doubt too", async (t) => {
-  let isLost = true;
+  let [isLost, lost] = [true, 0];
   const isA = (message) => isLost && message.ops?.[0]?.insert === "a";
-  const { load, newest, server } = await prepared(t, { refuse: (message) => (isA(message) ? {} : undefined), spoil: isA });
+  const spoil = (message) => isA(message) && (lost += 1) > 0;
+  const { load, newest, server } = await prepared(t, { refuse: (message) => (isA(message) ? {} : undefined), spoil });
   const before = await load();
   const document = await before.open();
   document.apply([{ insert: "a" }]);
-  await until(() => document.isKept);
+  await until(() => document.isKept && lost > 0);
   before.page.goes();
   isLost = false;
   const other = await connectPlain({ ...server.address, source: before.client.source });

@@ -6,6 +6,7 @@ import test from "node:test";
 import { Delta } from "../delta.js";
 import { bind } from "../quill.js";
 import { connect } from "../richd.js";
+import { Draw } from "./draw.js";
 import { served, until } from "./fake.js";
 import { Quill as Stub } from "./quill_stub.js";
 import { Quill as Real, needsRealQuill } from "./real_quill.js";
@@ -223,8 +224,9 @@ each("a line's end that somebody takes away at the end is put there again", asyn
   assert.deepEqual(ann.troubles, []);
 });
 
-for (const Class of [Stub, Editor]) {
-  test(`a line's end that its own user takes away at the end is put there again, in ${NAMES.get(Class)}`, async (t) => {
+for (const Class of [Stub, Editor, Real]) {
+  const needed = Class === Real ? needsRealQuill : {};
+  test(`a line's end that its own user takes away at the end is put there again, in ${NAMES.get(Class)}`, needed, async (t) => {
     const { person, settled, areAlike, text } = await prepared(t, Class, [{ insert: "Hello\n" }]);
     const ann = await person(new Class());
     ann.quill.updateContents({ ops: [{ retain: 4 }, { delete: 2 }] }, "user");
@@ -410,6 +412,23 @@ for (const typed of TEXTS) {
     assert.deepEqual([ann.troubles, bob.troubles, ann.document.state], [[], [], "saved"]);
   });
 }
+
+each("a long document is typed in, and changed, at any place", async (t, Quill) => {
+  const draw = new Draw(9);
+  const runs = Array.from({ length: 100 }, (_, run) => ({ insert: `run ${run}`, ...(run % 2 > 0 && { attributes: { bold: true } }) }));
+  const { person, settled, areAlike } = await prepared(t, Quill, [...runs, { insert: "\n" }]);
+  const [ann, bob] = [await person(), await person()];
+  for (let count = 0; count < 30; count += 1) {
+    const { quill } = draw.of([ann, bob]);
+    const place = 1 + draw.below(quill.getLength() - 4);
+    if (draw.below(2) > 0) quill.type(place, draw.of(["x", "é", "\u{1f600}"]));
+    else quill.updateContents({ ops: [{ retain: place }, draw.of([{ insert: "\n" }, { retain: 1, attributes: { italic: true } }])] }, "user");
+    if (draw.below(4) === 0) await settled(ann, bob);
+  }
+  await settled(ann, bob);
+  areAlike(ann, bob);
+  for (const { troubles } of [ann, bob]) assert.deepEqual(troubles, []);
+});
 
 each("a character that begins as its neighbour does is typed as a whole", async (t, Quill) => {
   const { person, settled, areAlike, text } = await prepared(t, Quill, [{ insert: "\u{1f601}\n" }]);

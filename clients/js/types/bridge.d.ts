@@ -10,9 +10,10 @@
  * @param {string} [options.data]  a folder that keeps which names were lent
  * @param {string} [options.quill]  a folder with Quill's files
  * @param {string} [options.pages]  a folder with pages of one's own
+ * @param {string} [options.archive]  that has the documents' versions
  * @returns {Promise<{ url: string, webSocketUrl: string, close: () => Promise<void> }>}
  */
-export function startBridge({ host, port, listenHost, listenPort, origins, data, quill, pages }: {
+export function startBridge({ host, port, listenHost, listenPort, origins, data, quill, pages, archive }: {
     host: string;
     port: number;
     listenHost?: string | undefined;
@@ -21,6 +22,7 @@ export function startBridge({ host, port, listenHost, listenPort, origins, data,
     data?: string | undefined;
     quill?: string | undefined;
     pages?: string | undefined;
+    archive?: string | undefined;
 }): Promise<{
     url: string;
     webSocketUrl: string;

@@ -29,6 +29,25 @@ export function areSame(one: {
 }, other: {
     ops: Op[];
 }): boolean;
+/**
+ * Has a document, and those that are composed of it, remember where its last change was, so that the next one is found at once. Its list of
+ * operations is in normal form, and nobody changes it.
+ * @param {Delta} document
+ */
+export function remember(document: Delta): Delta;
+/**
+ * The operation of a document that has a place, and where it starts; the number of operations where none has.
+ * @param {Op[]} ops
+ * @param {number} place
+ * @param {{ index: number, start: number }} [from]  where to look first
+ */
+export function find(ops: Op[], place: number, { index, start }?: {
+    index: number;
+    start: number;
+} | undefined): {
+    index: number;
+    start: number;
+};
 export function valueOf(attributes: Attributes | undefined, name: string): Value | null | undefined;
 /** What one change does to a text, or a document, as the inserts that make it. */
 export class Delta {

@@ -78,6 +78,13 @@ export class RichDocument extends Emitter<DocumentEvents> {
      */
     stand(editor: object, how: "typing" | "parted" | undefined): void;
     /**
+     * Whether a change begins or ends between the two halves of a character.
+     * @param {{ ops: Op[] }} change  as the server keeps it
+     */
+    cutsPair(change: {
+        ops: Op[];
+    }): boolean;
+    /**
      * Waits until all that was typed is on the server's disk.
      * @returns {Promise<number>} the revision then
      */

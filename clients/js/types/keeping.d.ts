@@ -10,8 +10,15 @@ export class Keeper {
     constructor(store: Store, key: Key);
     /** @type {Promise<void>} when nothing more will be written */
     ended: Promise<void>;
-    /** @returns {Promise<Kept | undefined>} */
-    load(): Promise<Kept | undefined>;
+    /** @returns {Promise<Kept | { creation: Creation } | undefined>} */
+    load(): Promise<Kept | {
+        creation: Creation;
+    } | undefined>;
+    /**
+     * Keeps how a document is created, before that leaves. Where the browser refuses the write it leaves all the same: then its page has it alone.
+     * @param {Creation} creation
+     */
+    keep(creation: Creation): Promise<void>;
     /**
      * Keeps a document from here on, and has it tell of it by "progress" and "unkept".
      * @param {EventTarget} document
@@ -82,4 +89,26 @@ export type Kept = {
     number?: number | undefined;
     lease?: import("./leases.js").Lease | undefined;
     typed: Op[];
+    creation?: undefined;
+};
+/**
+ * a document that is created in parts
+ */
+export type Creation = {
+    /**
+     * what it is created with
+     */
+    first: Op[];
+    /**
+     * what is inserted then
+     */
+    rest: Op[];
+    /**
+     * under which it is created
+     */
+    number: number;
+    /**
+     * under which the number counts
+     */
+    lease?: import("./leases.js").Lease | undefined;
 };

@@ -1,6 +1,8 @@
 /**
  * @typedef {import("./delta.js").Op} Op
  * @typedef {import("./limits.js").Limits} Limits
+ * @typedef {import("./line.js").Numbered} Numbered
+ * @typedef {import("./keeping.js").Creation} Creation
  * @typedef {import("./document.js").DocumentState} DocumentState
  * @typedef {import("./document.js").DocumentEvents} DocumentEvents
  * @typedef {import("./document.js").OpenOptions} OpenOptions
@@ -68,14 +70,27 @@ export class Client<More extends {
      * Creates a document with as much of its contents as a message may have. Gives what is left, as an edit of the first part.
      * @param {string} doc
      * @param {Op[]} ops
-     * @param {Limits} [limits]
+     * @param {Limits & { keep?: (creation: Creation) => Promise<void> }} [limits]  `keep` is waited for before a part of the contents leaves
      * @returns {Promise<{ rev: number, first: { ops: Op[] }, rest: Delta }>}
      */
-    begin(doc: string, ops: Op[], limits?: import("./limits.js").Limits | undefined): Promise<{
+    begin(doc: string, ops: Op[], limits?: (import("./limits.js").Limits & {
+        keep?: ((creation: Creation) => Promise<void>) | undefined;
+    }) | undefined): Promise<{
         rev: number;
         first: {
             ops: Op[];
         };
+        rest: Delta;
+    }>;
+    /**
+     * Creates a document as an earlier page began to, under the same number.
+     * @param {string} doc
+     * @param {Creation} creation
+     * @returns {Promise<{ rev: number, ops: Op[], rest: Delta }>}
+     */
+    beginAgain(doc: string, { first, rest, number, lease }: Creation): Promise<{
+        rev: number;
+        ops: Op[];
         rest: Delta;
     }>;
     /**
@@ -177,6 +192,8 @@ export class Client<More extends {
 }
 export type Op = import("./delta.js").Op;
 export type Limits = import("./limits.js").Limits;
+export type Numbered = import("./line.js").Numbered;
+export type Creation = import("./keeping.js").Creation;
 export type DocumentState = import("./document.js").DocumentState;
 export type DocumentEvents = import("./document.js").DocumentEvents;
 export type OpenOptions = import("./document.js").OpenOptions;

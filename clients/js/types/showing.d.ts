@@ -2,7 +2,8 @@
  * Asks an editor, and reads it. All operations are as the server keeps them.
  *
  * Text stays as it was typed. Quill 1 reads the text of its page in the normal form NFC, and so counts fewer places than the page has where
- * somebody typed letters and accents apart; its class for texts is set to read them as they are, which is what Quill 2's does.
+ * somebody typed letters and accents apart; its class for texts is set to read them as they are, which is what Quill 2's does. Its class for
+ * deltas is set to compose at the speed of the change, whatever the document's length.
  */
 export class Showing {
     /** @param {any} quill @param {Values} values @param {unknown} source  of what the editor is asked */

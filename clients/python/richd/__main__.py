@@ -7,9 +7,10 @@ import json
 import re
 import secrets
 import sys
-from typing import Any, List, Tuple
+from typing import Any, List
 
-from . import Closed, Refused, Unexpected, __version__, archive_commands, connect, messages, store_commands
+from . import Closed, Refused, Unexpected, __version__, archive_commands, connect, convert_commands, messages, store_commands
+from .address import Address, address_of
 from .client import Client
 from .delta import Delta, text
 from .difference import difference
@@ -18,7 +19,6 @@ from .messages import Message
 from .owner import TIMEOUT
 from .spelling import StoreError
 
-Address = Tuple[str, int]
 WRITTEN = ".health"  # the document, and the source, of `health --write`
 
 
@@ -45,7 +45,7 @@ def parser() -> argparse.ArgumentParser:
     result = argparse.ArgumentParser(prog="python -m richd", description="Looks after servers, stores and archives of richd.")
     result.add_argument("--version", action="version", version=f"richd for Python {__version__}")
     commands = result.add_subparsers(required=True, metavar="COMMAND")
-    for add in (_add, archive_commands.add, store_commands.add):
+    for add in (_add, convert_commands.add, archive_commands.add, store_commands.add):
         add(commands)
     return result
 
@@ -64,7 +64,7 @@ def _add(commands: Any) -> None:
 
     for command in (health, cat, put, follow):
         command.set_defaults(about="address")
-        command.add_argument("address", metavar="HOST:PORT", type=_address)
+        command.add_argument("address", metavar="HOST:PORT", type=address_of)
         command.add_argument("--timeout", type=float, default=TIMEOUT, metavar="SECONDS", help="for each answer; %(default)s without it")
     for command in (cat, put, follow):
         command.add_argument("doc", metavar="DOC")
@@ -75,13 +75,6 @@ def _add(commands: Any) -> None:
     name = put.add_mutually_exclusive_group(required=True)
     name.add_argument("--source", metavar="NAME", help="the name under which it is changed, which nobody else uses at the time")
     name.add_argument("--keep", metavar="FILE", help="a file that keeps such a name from run to run")
-
-
-def _address(word: str) -> Address:
-    host, colon, port = word.rpartition(":")
-    if not (host and colon and port.isdigit() and int(port) < 65_536):
-        raise argparse.ArgumentTypeError(f"{word!r} is no HOST:PORT")
-    return host.strip("[]"), int(port)
 
 
 def _health(options: argparse.Namespace) -> int:

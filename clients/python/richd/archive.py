@@ -9,12 +9,12 @@ from .archiver import Forked
 from .delta import Delta
 from .folding import EMPTY, State, Unknown, after, have_same_windows, newest_at, state_at, state_of, unfold
 from .inspection import states_in
+from .jumping import JUMP
 from .progress import Progress, silent
 from .served import StoreFile
 from .spelling import CREATED, CREATED_AGAIN, DELETED, Cell, NewStore, Shape, StoreError, cell_bytes, cell_of
 from .tables import ArchiveError, Database, Row
 
-JUMP = 1_000_000  # revisions between the newest that is archived and the first of a store that is made of it
 KINDS = {CREATED: "create", CREATED_AGAIN: "create", DELETED: "delete"}  # else "edit", an undo too
 
 When = Union[int, float]  # a revision, or a moment in seconds since 1970
@@ -146,17 +146,12 @@ def restore(
     shape = shape._replace(cell=cell or shape.cell)
     listed = database.all("SELECT doc, name, newest FROM documents ORDER BY doc")
     jumps: List[Row] = []
-    store = NewStore(path, shape)
-    try:
+    with NewStore(path, shape) as store:
         for doc, name, newest in listed:
             made = _jumped(database, doc, name, newest, batch)
             store.put(made[0])
             jumps.append((doc, made[0].rev, made[1], newest, time.time(), cell_bytes(made[0])))
             progress("documents restored", len(jumps), len(listed))
-        store.finish()
-    except BaseException:
-        store.drop()
-        raise
     seen = database.one("SELECT seen FROM batches WHERE batch = ?", (batch,))
     database.put("restores", jumps)
     database.put("notes", [(time.time(), f"{len(jumps)} documents as of batch {batch} were restored to {path}")])
@@ -278,4 +273,4 @@ def _beside(path: str, ends: Dict[int, Tuple[str, int, Optional[State]]]) -> Lis
     return faults
 
 
-__all__ = ["Forked", "Gap", "Revision", "Verified", "contents", "history", "opened", "prune", "restore", "verify"]
+__all__ = ["JUMP", "Forked", "Gap", "Revision", "Verified", "contents", "history", "opened", "prune", "restore", "verify"]

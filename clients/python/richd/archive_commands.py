@@ -58,9 +58,11 @@ def add(commands: Any) -> None:
     history.add_argument("--at", type=when, metavar="WHEN", help=f"up to this revision or time: {TIME}")
     history.add_argument("--limit", type=int, default=20, metavar="N", help="so many revisions; %(default)s without it")
     history.add_argument("--json", action="store_true", help="a line of JSON for each")
+    history.add_argument("--brief", action="store_true", help="without what changed")
     show.add_argument("--at", type=when, metavar="WHEN", help=f"the revision or time, without it the newest: {TIME}")
     diff.add_argument("first", type=when, metavar="A")
     diff.add_argument("second", type=when, metavar="B", help=f"two revisions or times: {TIME}")
+    show.add_argument("--json", action="store_true", help="a line of JSON: doc, rev, and ops, null where it is deleted")
     for command in (show, diff):
         command.add_argument("--ops", action="store_true", help="as JSON, with attributes and embeds")
     restore.add_argument("store", metavar="STORE", help="the file to make, which may not be there")
@@ -114,23 +116,38 @@ def _archive(options: argparse.Namespace) -> int:
 
 def _history(options: argparse.Namespace) -> int:
     database = archive.opened(options.database, _progress(options))
-    for line in archive.history(database, options.doc, options.limit, options.at):
-        print(json.dumps(_as_json(options.doc, line), ensure_ascii=False) if options.json else _as_text(line))
+    try:
+        for line in archive.history(database, options.doc, options.limit, options.at):
+            print(_spelled(_as_json(options.doc, line, options.brief)) if options.json else _as_text(line, options.brief))
+    except Unknown as reason:
+        return _missing(options, reason)
     return 0
 
 
-def _as_json(doc: str, line: Any) -> Dict[str, Any]:
+def _spelled(value: Any) -> str:
+    return json.dumps(value, ensure_ascii=False, separators=(",", ":"))
+
+
+def _missing(options: argparse.Namespace, reason: Unknown) -> int:
+    """Tells a program that what it asked for isn't held."""
+    if not options.json:
+        raise reason
+    print(_spelled({"doc": options.doc, "missing": str(reason)}))
+    return 1
+
+
+def _as_json(doc: str, line: Any, is_brief: bool) -> Dict[str, Any]:
     if isinstance(line, Gap):
         return {"doc": doc, "first": line.first, "last": line.last, "missing": line.why, "time": line.time}
     told: Dict[str, Any] = {"doc": doc, "rev": line.rev, "kind": line.kind, "source": line.source, "n": line.n, "time": line.time}
-    return {**told, "after": line.after, "ops": json.loads(line.delta)}
+    return {**told, "after": line.after, **({} if is_brief else {"ops": json.loads(line.delta)})}
 
 
-def _as_text(line: Any) -> str:
+def _as_text(line: Any, is_brief: bool) -> str:
     if isinstance(line, Gap):
         return f"{line.first}..{line.last} missing: {line.why} (noted {_shown(line.time)})"
     assert isinstance(line, Revision)
-    return f"{line.rev} {_shown(line.time)} {line.source} {line.n} {line.kind} {line.delta}"
+    return f"{line.rev} {_shown(line.time)} {line.source} {line.n} {line.kind}" + ("" if is_brief else f" {line.delta}")
 
 
 def _shown(seconds: float) -> str:
@@ -138,7 +155,15 @@ def _shown(seconds: float) -> str:
 
 
 def _show(options: argparse.Namespace) -> int:
-    ops = _live(archive.opened(options.database, _progress(options)), options.doc, options.at)
+    database = archive.opened(options.database, _progress(options))
+    if options.json:
+        try:
+            rev, content = archive.contents(database, options.doc, options.at)
+        except Unknown as reason:
+            return _missing(options, reason)
+        print(_spelled({"doc": options.doc, "rev": rev, "ops": content}))
+        return 0
+    ops = _live(database, options.doc, options.at)
     sys.stdout.write(json.dumps(ops, ensure_ascii=False) + "\n" if options.ops else text(ops))
     return 0
 

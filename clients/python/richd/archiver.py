@@ -22,6 +22,7 @@ from .tables import ArchiveError, Database, Row, Stolen
 EVERY = 400  # revisions of a document from one snapshot to the next, at least
 ROUND = 8 << 20  # bytes of records that one transaction takes
 PORTION = 40  # batches that are made revisions at once, while records wait
+MOST = 1 << 60  # records: all that there are
 MOST_HELD = 256 << 20  # bytes of records that wait in memory for the database
 CHECK = 0.5  # seconds: so often is looked whether the path still names the file
 PAGE = 5_000  # rows that are asked for at once
@@ -77,9 +78,7 @@ class Reader(threading.Thread):
         """Looks at the file once. Returns whether there was something new."""
         began = time.time()
         try:
-            if self._last is not None:
-                self._confirm(self._last)
-            at, records = self._file.tail(self._at)
+            at, records = self._found()
         except Lapped:
             self.is_over = True
             return False
@@ -96,16 +95,24 @@ class Reader(threading.Thread):
         self.looked = began
         return bool(records)
 
-    def _confirm(self, last: Record) -> None:
-        """What was the newest record stands where it stood."""
+    def _found(self) -> Tuple[Optional[Place], List[Record]]:
+        """All records behind the newest one that is known, which has to stand where it stood."""
+        last = self._last
+        if last is None:
+            return self._file.tail(self._at)
+        is_newest = self._file.is_newest(last.segment)
         if last.segment not in self._file.known:
             self._file.slots()
         slot = self._file.known.get(last.segment)
         if slot is None:
             raise Lapped
-        held = self._file.records(slot, last.segment, last.place, 1)
+        held = self._file.records(slot, last.segment, last.place, MOST if is_newest else 1)
         if not held or digest(held[0].body) != last.body:
             raise Lapped
+        if not is_newest:
+            return self._file.tail(self._at)
+        newest = held[-1]
+        return Place(newest.segment, newest.place + 5 + len(newest.body)), held[1:]
 
     def run(self) -> None:
         checked = 0.0

@@ -70,6 +70,8 @@ class StoreFile:
             os.close(self._file)
             raise
         self.known: Dict[int, int] = {}  # slots by their numbers, as they were seen last
+        self._newest = 0  # the newest segment's number, likewise
+        self._heads: List[Tuple[int, bool]] = []  # number and gate of each slot, likewise, up to the one that the next segment takes
 
     def close(self) -> None:
         os.close(self._file)
@@ -97,16 +99,32 @@ class StoreFile:
     def slots(self) -> Tuple[List[Tuple[int, int]], Dict[int, int]]:
         """Number and slot of each segment, the oldest first; and the slots of closed ones by what stands there for their numbers, which
         proves nothing."""
-        found, closed = [], {}
+        found: List[Tuple[int, int]] = []
+        heads: List[Tuple[int, bool]] = []
+        closed: Dict[int, int] = {}
         for slot in range(self.shape.slots):
             number, is_open = self.slot(slot)
+            if not closed:
+                heads.append((number, is_open))
             if is_open:
                 found.append((number, slot))
             else:
                 closed[number] = slot
         found.sort()
-        self.known = {**closed, **dict(found)}
+        self.known, self._heads = {**closed, **dict(found)}, heads
+        self._newest = found[-1][0] if found else 0
         return found, closed
+
+    def is_newest(self, segment: int) -> bool:
+        """Whether a segment is the newest. The next one would have taken the lowest slot that was closed, or one below it, which then has
+        another number; where a slot has changed otherwise that isn't known, and the answer is no."""
+        if segment != self._newest:
+            return False
+        for slot, (number, is_open) in enumerate(self._heads):
+            head = os.pread(self._file, HEAD, self.shape.slot_place(slot))
+            if (head[:1] == OPEN) != is_open or int.from_bytes(head[1:], "little") != number:
+                return False
+        return True
 
     def records(self, slot: int, number: int, place: int, most: int = 1 << 60) -> List[Record]:
         """The records of a segment from a place of its area on, and nothing else. Raises Lapped where the slot has another segment by now.

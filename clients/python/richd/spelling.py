@@ -16,6 +16,7 @@ from .delta import Delta, Operation, length
 OPEN = b"\xa5"
 HEAD = 9  # bytes of a slot before its area: the gate and the segment's number
 WINDOW = 16  # numbers of a source that a document remembers
+MOST_REVISIONS = (1 << 53) - 1  # of a document
 CREATED, EDITED, DELETED, CREATED_AGAIN = 1, 2, 3, 4
 
 Window = Tuple[int, List[int]]  # a source's last number, and the revisions of its last numbers
@@ -280,12 +281,22 @@ def _pair(name: str, value: Any) -> int:
 
 
 class NewStore:
-    """A file that is made a store of milestones alone. It is one once `finish` has returned: the superblock's gate is opened last."""
+    """A file that is made a store of milestones alone. It is one once `finish` has returned: the superblock's gate is opened last. Left by
+    `with` it is finished, or dropped where something was raised."""
 
     def __init__(self, path: str, shape: Shape):
         self._path, self._shape = path, shape
         self._file = os.open(path, os.O_RDWR | os.O_CREAT | os.O_EXCL | os.O_CLOEXEC, 0o600)
         os.ftruncate(self._file, shape.size())
+
+    def __enter__(self) -> NewStore:
+        return self
+
+    def __exit__(self, kind: object, *cause: object) -> None:
+        if kind is None:
+            self.finish()
+        else:
+            self.drop()
 
     def put(self, cell: Cell) -> None:
         body, shape = cell_bytes(cell), self._shape

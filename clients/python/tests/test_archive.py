@@ -4,6 +4,7 @@ import contextlib
 import io
 import json
 import os
+import shutil
 import sqlite3
 import subprocess
 import time
@@ -67,6 +68,8 @@ class Asked(Archived):
         text = self.well("history", self.archive, "gone").splitlines()
         self.assertRegex(text[0], r"^2 \d{4}-\d\d-\d\dT[\d:.]+ ann 2 delete \[\]$")
         self.assertEqual(len(self.well("history", self.archive, "d", "--limit", "1").splitlines()), 1)
+        self.assertRegex(self.well("history", self.archive, "gone", "--brief").splitlines()[0], "ann 2 delete$")
+        self.assertNotIn("ops", json.loads(self.well("history", self.archive, "d", "--brief", "--json", "--limit", "1")))
         self.assertEqual(json.loads(self.well("history", self.archive, "d", "--at", "1", "--json"))["rev"], 1)
 
     def test_a_document_as_it_was(self):
@@ -74,6 +77,10 @@ class Asked(Archived):
         self.assertEqual(self.well("show", self.archive, "d", "--at", "1"), "Hello world\n")
         ops = [{"insert": "Hello", "attributes": {"bold": True}}, {"insert": " there\n"}]
         self.assertEqual(json.loads(self.well("show", self.archive, "d", "--ops")), ops)
+        self.assertEqual(json.loads(self.well("show", self.archive, "d", "--json", "--at", "3")), {"doc": "d", "rev": 3, "ops": ops})
+        self.assertEqual(json.loads(self.well("show", self.archive, "gone", "--json")), {"doc": "gone", "rev": 2, "ops": None})
+        self.assertEqual(run("show", self.archive, "d", "--json", "--at", "9"), (1, '{"doc":"d","missing":"revision 9 isn\'t held"}\n', ""))
+        self.assertEqual(run("history", "--json", "--", self.archive, "-x"), (1, '{"doc":"-x","missing":"there is no document -x"}\n', ""))
         self.assertIn("gone is deleted at revision 2", self.refused("show", self.archive, "gone"))
         self.assertIn("revision 9 isn't held", self.refused("show", self.archive, "d", "--at", "9"))
         self.assertIn("wasn't there then", self.refused("show", self.archive, "d", "--at", "1.5"))
@@ -179,6 +186,61 @@ class Kept(Archived):
             database.execute("DELETE FROM revisions WHERE rev = 2 AND doc = 0")
         status, out, _ = run("verify", self.archive)
         self.assertEqual((status, out.splitlines()[0]), (1, "d: revisions 2 to 2 are missing, and no gap says so"))
+
+
+class PutBack(Archived):
+    """A copy of the store is put back, after edits that it lacks: revisions 4 and 5 of d, commands 3 and 4 of ann."""
+
+    def setUp(self):
+        super().setUp()
+        self.server.kill()
+        shutil.copyfile(self.store, self.other)
+        server = richd.program.Server(self.store)
+        self.addCleanup(server.kill)
+        with server.connect("ann") as ann:
+            for base in (3, 4):
+                ann.edit("d", [{"insert": "Lost: "}], base)
+        self.well("archive", self.store, self.archive)
+        server.kill()
+        self.back = self.other + ".back"
+
+    def test_nobody_is_misled(self):
+        self.assertEqual(run("jump", self.other, self.back), (0, "documents 2\n", ""))
+        self.assertEqual(self.program("check", self.back), "ok documents 2 changes 0\n")
+        before, now = ([line.split(" ", 3) for line in dump(path).splitlines()] for path in (self.other, self.back))
+        self.assertEqual([[name, int(rev) + JUMP, content] for name, rev, _, content in before], [[name, int(rev), content] for name, rev, _, content in now])
+        server = richd.program.Server(self.back)
+        self.addCleanup(server.kill)
+        with server.connect("ann", is_new=True) as ann:
+            self.assertEqual(ann.edit("d", [], 2, number=2), richd.Taken(3, again=True))  # the copy has it
+            self.assertEqual(self.code(ann.edit, "d", [], base=5, number=5), "Gap")  # after those that are lost
+            self.assertEqual(self.code(ann.edit, "d", [], base=4, number=3), "TooOld")
+            for rev in (0, 3, 4, 5, 6):  # 4 and 5 are lost, and 6 never was
+                self.assertEqual(self.code(next, iter(ann.follow("d", rev))), "TooOld")
+            self.assertEqual(self.code(ann.edit, "gone", [], base=1, number=3), "Deleted")
+            self.assertEqual(ann.edit("d", [{"insert": "On: "}], base=ann.fetch("d").rev, number=3).rev, JUMP + 4)
+
+    def test_an_archive_goes_on_once_it_is_told_to(self):
+        self.well("jump", self.other, self.back, "--by", "5000")
+        self.assertIn("doesn't continue what is archived", self.refused("archive", self.back, self.archive))
+        self.well("archive", self.back, self.archive, "--accept")
+        self.assertEqual(self.well("verify", self.archive, self.back), "")
+        self.assertRegex(self.well("history", self.archive, "d"), r"^4\.\.5003 missing: ")
+
+    def test_what_cant_be_made_leaves_no_file(self):
+        self.assertIn("File exists", self.refused("jump", self.store, self.other))
+        self.assertIn("no room to jump", self.refused("jump", self.store, self.back, "--by", str((1 << 53) - 4)))
+        self.assertIn("30 NotFormatted", self.refused("jump", "/dev/null", self.back))
+        self.assertFalse(os.path.exists(self.back))
+        for word in ("0", "-1", "many", str(1 << 53)):
+            with contextlib.redirect_stderr(io.StringIO()), self.assertRaises(SystemExit) as ended:
+                main(["jump", self.store, self.back, "--by", word])
+            self.assertEqual(ended.exception.code, 2)
+
+    def code(self, call, *words, **more):
+        with self.assertRaises(richd.Refused) as refused:
+            call(*words, **more)
+        return refused.exception.name
 
 
 def dump_of(server, store):

@@ -1,6 +1,7 @@
 """What an operator does by hand, against the program and against a server in the test's hands."""
 
 import contextlib
+import importlib.util
 import io
 import json
 import os
@@ -108,6 +109,36 @@ class Commands(Served):
         plain = [{"insert": "x" * 12_000}]
         self.assertEqual(self.run_main("put", "d", *name, "--ops", content=json.dumps(plain)), (0, "revision 5\n", ""))
         self.assertEqual(self.connect("bob").fetch("d").ops, plain)
+
+    def test_a_document_is_imported_and_exported(self):
+        name = "--keep", self.store + ".name"
+        self.assertEqual(self.run_main("import", "d", "--as", "text", *name, content="One\r\ntwo"), (0, "revision 2\n", ""))
+        self.assertEqual(self.connect("bob").fetch("d").ops, [{"insert": "One\ntwo\n"}])
+        ops = [{"retain": 3}, {"retain": 1, "attributes": {"header": 1}}, {"retain": 3, "attributes": {"bold": True}}]
+        self.connect("ann").edit("d", ops, base=2)
+        self.assertEqual(self.run_main("export", "d", "--as", "html"), (0, "<h1>One</h1>\n<p><strong>two</strong></p>\n", ""))
+        self.assertEqual(self.run_main("export", "d", "--as", "text"), (0, "One\ntwo\n", ""))
+        archived = self.store + ".archive"
+        with contextlib.redirect_stdout(io.StringIO()), contextlib.redirect_stderr(io.StringIO()):
+            self.assertEqual(main(["archive", self.store, archived, "--quiet"]), 0)
+        for place in (self.store, archived):
+            out = io.StringIO()
+            with contextlib.redirect_stdout(out):
+                self.assertEqual(main(["export", place, "d", "--as", "markdown"]), 0)
+            self.assertEqual(out.getvalue(), "# One\n\n**two**\n")
+            errors = io.StringIO()
+            with contextlib.redirect_stderr(errors):
+                self.assertEqual(main(["export", place, "nothing", "--as", "html"]), 1)
+            self.assertIn("nothing", errors.getvalue())
+
+    def test_markdown_is_imported_by_the_least_edit(self):
+        if importlib.util.find_spec("markdown_it") is None:
+            self.skipTest("there is no markdown-it-py, Debian's python3-markdown-it")
+        name = "--source", "me"
+        self.assertEqual(self.run_main("import", "d", "--as", "markdown", *name, content="# One\n\n- two\n")[0], 0)
+        self.assertEqual(self.run_main("import", "d", "--as", "markdown", *name, content="# One\n\n- two **and** more\n")[0], 0)
+        changes = [change.ops for _, change in zip(range(3), self.connect("bob").follow("d", 0))]
+        self.assertEqual(changes[2], [{"retain": 7}, {"insert": " "}, {"insert": "and", "attributes": {"bold": True}}, {"insert": " more"}])
 
     def test_what_is_refused(self):
         address = "{}:{}".format(*self.server.address)

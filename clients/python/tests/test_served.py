@@ -100,7 +100,7 @@ class Journal(unittest.TestCase):
     def test_what_is_read_is_the_committed_order(self):
         """Each archiver's reader gives the records in their order, none missing and none twice, until it finds that it was lapped."""
         read = lapped = 0
-        for seed in range(40):
+        for seed in range(60):
             drawn = random.Random(seed)
             device = Device(self, drawn)
             committed = []

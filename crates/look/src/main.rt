@@ -2,6 +2,7 @@
 //! input from it, prints its documents, and removes it, as `richd format`, `richd serve` and `richd dump` do.
 #![tactic(auto)]
 
+use server::PatientInput;
 use std::alloc::{AllocError, Global};
 use std::process::ExitCode;
 use std::{env, fs, io, process};
@@ -20,7 +21,8 @@ fn main(rt: HostRuntime) -> io::Result<ExitCode> {
     let folder = env::temp_dir(&rt)?;
     let number = process::id(rt.process());
     let path = path_in(rt.alloc(), folder.as_str(), number)?;
-    let (mut input, mut output, mut errors) = (rt.stdin(), rt.stdout(), rt.stderr());
+    let mut input = PatientInput::new(&rt, rt.stdin());
+    let (mut output, mut errors) = (rt.stdout(), rt.stderr());
     let mut status = 0;
     for command in &["format", "serve", "dump"] {
         if status == 0 {

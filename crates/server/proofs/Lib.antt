@@ -1,3 +1,5 @@
 mod Fronts
 mod Dumps
 mod Worked
+mod Serving
+mod Doing

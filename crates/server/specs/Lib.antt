@@ -2,3 +2,4 @@ pub mod Dump
 pub mod Deltas
 pub mod Checked
 pub mod Calls
+pub mod Devices

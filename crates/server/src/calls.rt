@@ -4,11 +4,13 @@
 //! `HostCalls` are to be read, and those that it calls for this in other crates: `FileDisk::open` and `create` of disk, `Addresses::listen` of
 //! sockets. No other function of the program names a file or an address, but `Standard` the null device.
 //!
-//! A file that was only read is closed by `close`, whose note has the device's past since it was opened. That a device is closed under the name
-//! by which it was opened is not in its clauses: a command's other file, which is the only other device that it has, could be meant.
+//! A file is closed by `close`, whose note has the device's past since it was opened: a command's clauses say of that past what was done, so a
+//! device in another's place meets them only where it went through the same. `leave` closes a listener likewise, with who came. That a device is
+//! closed under the name by which it was opened is not in its clauses: a command's other file could be meant.
 ghost use Rattle.std.specs.Prelude.{◌≡◌, ◌∷◌, [], List, Ok, true, false, IfOk, OnOk, OnErr};
 ghost use Rattle.disk.specs.Crash.{history_of};
-ghost use Rattle.server.specs.Calls.{Call, Found, Missed, Unseen, Opened, FailedOpening, Made, FailedMaking, Closed, Removed, Listened, FailedListening};
+ghost use Rattle.server.specs.Calls.{Call, Found, Missed, Unseen, Opened, FailedOpening, Made, FailedMaking, Closed, Removed, Listened, FailedListening, Left};
+ghost use Rattle.sockets.specs.Host.{arrivals_of};
 
 use crate::notes::Notes;
 use crate::standard::Standard;
@@ -81,7 +83,12 @@ pub(crate) trait Calls {
     /// A listener on an address, and the address that it has. It waits no longer than a beat for the next connection.
     fn listen(&mut self, address: &str) -> io::Result<(HostListener, SocketAddr)>
         ensures good { OnOk result (made self.new ≡ Listened address.now ∷ made self.old) }
+        ensures nobody { IfOk result (λ bound. arrivals_of bound.0 ≡ []) }
         ensures failed { OnErr result (made self.new ≡ FailedListening address.now ∷ made self.old) };
+
+    /// Closes a listener, and notes who came by it.
+    fn leave(&mut self, address: &str, listener: HostListener)
+        ensures { made self.new ≡ Left address.now (arrivals_of listener) ∷ made self.old };
 }
 
 /// The operating system.
@@ -173,5 +180,10 @@ impl<R: Files<File = File> + Addresses> Calls for HostCalls<'_, R> {
                 Err(reason)
             }
         }
+    }
+
+    fn leave(&mut self, address: &str, listener: HostListener) {
+        self.notes.note_left(address.as_bytes(), &listener);
+        drop(listener);
     }
 }

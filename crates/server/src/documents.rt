@@ -8,6 +8,7 @@ ghost use Rattle.recovery.specs.Found.{Found};
 ghost use Rattle.revision.specs.Pending.{record_of};
 ghost use Rattle.revision.specs.State.{State as StateValue};
 ghost use Rattle.session.specs.Output.{AppendsFront};
+ghost use Rattle.server.specs.Devices.{IsPrintedOf, dump_text};
 ghost use Rattle.server.specs.Dump as spec;
 
 use crate::inspected::Printed;
@@ -30,6 +31,8 @@ pub fn dump_store<D: Disk, O: Output>(
 ) -> Printed<D>
     ensures dumped { OnOk result.done (D.honest result.disk → (state : StateValue) → Found (D.seen disk) pick state
         → Appends (O.contents output.old) (O.contents output.new) (spec.dump_of state.documents)) }
+    ensures printed { OnOk result.done (IsPrintedOf ⟦<D as Disk>⟧ pick (dump_text ⟦<D as Disk>⟧)
+        (O.contents output.old) (O.contents output.new) disk result.disk) }
     ensures time { IsAtMostOneStep IsSync (history_of ⟦<D as Disk>⟧ disk) (history_of ⟦<D as Disk>⟧ result.disk) }
     ensures seen { D.seen result.disk ≡ D.seen disk }
 {

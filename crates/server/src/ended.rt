@@ -1,4 +1,6 @@
 //! Why the program ends with status 1 or 2.
+ghost use Rattle.std.specs.Prelude.{◌≡◌, Ok, OnOk};
+
 use disk::FileDisk;
 use refusal::Refusal;
 use serving::ServingError;
@@ -76,6 +78,27 @@ impl<'a> ProgramEnd<'a> {
             None => cause_of(new.0, new.1, refusal),
         };
         ProgramEnd::Refused(refusal, cause)
+    }
+}
+
+/// How the program ends, where serving or printing did so.
+pub(crate) fn as_ended<'a>(answer: Result<(), ServingError>) -> Result<(), ProgramEnd<'a>>
+    ensures { OnOk result (answer ≡ Ok tt) }
+{
+    Ok(answer?)
+}
+
+/// How the program ends, where bringing the store of one file to another did so.
+pub(crate) fn brought<'a>(
+    old: (&'a str, &FileDisk),
+    new: (&'a str, &FileDisk),
+    made: Result<(), Refusal>,
+) -> Result<(), ProgramEnd<'a>>
+    ensures { OnOk result (made ≡ Ok tt) }
+{
+    match made {
+        Ok(()) => Ok(()),
+        Err(refusal) => Err(ProgramEnd::over_two(old, new, refusal)),
     }
 }
 

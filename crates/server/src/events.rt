@@ -59,7 +59,7 @@ pub(crate) enum OperatorEvent<'a> {
     Idle(u64),
     /// What was counted since the start.
     Stats(Peers, WrittenBatches, &'a Counters),
-    /// The program ends by this refusal, or since standard output failed.
+    /// The program ends by this refusal, or since standard output failed, or since that was asked for.
     End(Option<Refusal>),
 }
 

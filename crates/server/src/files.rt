@@ -1,6 +1,7 @@
 //! The files of stores: one is opened, or made, or the program ends with what kept it from that.
 ghost use Rattle.std.specs.Prelude.{◌≡◌, ◌⊎◌, [], ◌∷◌, true, false, Ok, OnOk, OnErr, IfOk, IfSome, IfNone};
-ghost use Rattle.server.specs.Calls.{Found, Missed, Unseen, Opened, FailedOpening, Made, FailedMaking, Removed, IsOpened, IsMade, IsHad, IsKept};
+ghost use Rattle.server.specs.Calls.{Found, Missed, Unseen, Opened, FailedOpening, Made, FailedMaking, Removed, IsUnmade, IsMissed, IsClosed, IsUnwritten, IsRead, IsKept};
+ghost use Rattle.server.specs.Devices.{IsOpenedAnew};
 
 use crate::calls::Calls;
 use crate::ended::ProgramEnd;
@@ -19,8 +20,8 @@ pub(crate) fn disk_for<'a, C: Calls>(
     shape: Shape,
     reserve: bool,
 ) -> Result<FileDisk, ProgramEnd<'a>>
-    ensures had { IsHad path.now (C.made calls.old) (C.made calls.new) }
     ensures kept { OnOk result (IsKept path.now (C.made calls.old) (C.made calls.new)) }
+    ensures missed { OnErr result (IsMissed path.now (C.made calls.old) (C.made calls.new)) }
     // A store that is there isn't written to here.
     ensures untouched { IfOk result (λ disk. C.made calls.new ≡ Opened path.now ∷ Found path.now ∷ C.made calls.old
         → ⟦<FileDisk as Disk>⟧.past disk ≡ []) }
@@ -57,8 +58,8 @@ pub(crate) fn make_for<'a, C: Calls>(
     shape: Shape,
     reserve: bool,
 ) -> Result<FileDisk, ProgramEnd<'a>>
-    ensures made { IsMade path.now (C.made calls.old) (C.made calls.new) }
     ensures kept { OnOk result (C.made calls.new ≡ Made path.now ∷ C.made calls.old) }
+    ensures unmade { OnErr result (IsUnmade path.now (C.made calls.old) (C.made calls.new)) }
 {
     if !shape.is_in_range() {
         return Err(ProgramEnd::Refused(Refusal::BadShape, None));
@@ -142,19 +143,24 @@ pub(crate) fn without(tried: Tried, path: &str, reason: io::Error) -> ProgramEnd
     ProgramEnd::fault(tried.name(), path, reason)
 }
 
-/// The store in a file.
+/// The store in a file. Where there is none the file is closed, and nothing was written to it.
 pub(crate) fn open_store<'a, C: Calls>(
     alloc: Global,
     calls: &mut C,
     path: &'a str,
     pick: Pick,
 ) -> Result<Store<FileDisk>, ProgramEnd<'a>>
-    ensures opened { IsOpened path.now (C.made calls.old) (C.made calls.new) }
     ensures good { OnOk result (C.made calls.new ≡ Opened path.now ∷ C.made calls.old) }
+    ensures from { IfOk result (λ store. IsOpenedAnew ⟦<FileDisk as Disk>⟧ pick store) }
+    ensures refused { OnErr result (IsRead IsUnwritten path.now (C.made calls.old) (C.made calls.new)) }
 {
     let disk = open_file(calls, path)?;
     match Store::open(alloc, disk, pick) {
         Ok(store) => Ok(store),
-        Err(OpenFault { disk, refusal }) => Err(ProgramEnd::over(path, &disk, refusal)),
+        Err(OpenFault { disk, refusal }) => {
+            let ended = ProgramEnd::over(path, &disk, refusal);
+            calls.close(path, disk);
+            Err(ended)
+        }
     }
 }

@@ -60,7 +60,7 @@ mod watching;
 pub use deltas::print_answer;
 pub use documents::{dump, dump_store};
 pub use inspected::Printed;
-pub use patient::Patient;
+pub use patient::{EndingInput, Patient, PatientInput};
 pub use program::{run, run_with_args};
 pub use server_threads::serve_on;
 pub use sockets::Addresses;

@@ -2,9 +2,11 @@
 ghost use Rattle.std.specs.Prelude.{◌≡◌, ℕ, List, [], ◌∷◌};
 ghost use Rattle.std.specs.Borrow.{ftrue};
 ghost use Rattle.disk.specs.Crash.{history_of};
-ghost use Rattle.server.specs.Calls.{Call, Closed, call_of};
+ghost use Rattle.server.specs.Calls.{Call, Closed, Left, call_of};
+ghost use Rattle.sockets.specs.Host.{arrivals_of};
 
 use disk::{Disk, FileDisk};
+use sockets::HostListener;
 use std::marker::{Model, PhantomData};
 
 /// A list of calls, newest first. It takes no memory.
@@ -35,5 +37,10 @@ impl Notes {
     /// Notes that a file is closed, by its name and what its device tells. Its proof is by hand too.
     pub(crate) fn note_closed(&mut self, _path: &[u8], _disk: &FileDisk)
         ensures { self.new.calls ≡ Closed _path.now (history_of ⟦<FileDisk as Disk>⟧ _disk.now) ∷ self.old.calls }
+    {}
+
+    /// Notes that a listener is closed, by its address and what it has noted itself. Its proof is by hand too.
+    pub(crate) fn note_left(&mut self, _address: &[u8], _listener: &HostListener)
+        ensures { self.new.calls ≡ Left _address.now (arrivals_of _listener.now) ∷ self.old.calls }
     {}
 }

@@ -1,6 +1,9 @@
-//! What the program tells while it serves.
+//! What the program tells while it serves, and what ends that.
+ghost use Rattle.std.specs.Prelude.{◌≡◌, Ok, OnOk};
+
 use crate::ended::{LISTENING, ProgramEnd, cause_of, tell};
 use crate::events::{OpenedStore, OperatorEvent, WrittenBatches, milliseconds, tell_event};
+use crate::patient::EndingInput;
 use disk::FileDisk;
 use refusal::Refusal;
 use server_threads::{Counters, Moment, Peers, Watch};
@@ -16,9 +19,10 @@ const LONG: u64 = 1000;
 /// How far two lines that tell of full places lie apart at least, in milliseconds.
 const MINUTE: u64 = 60_000;
 
-/// Tells on the standard streams what happens while a store is served to those who connect.
+/// Tells on the standard streams what happens while a store is served to those who connect. Where that is asked for, the end of standard input
+/// ends the serving.
 #[derive(Drop)]
-pub(crate) struct OperatorWatch<'a, R: Wait, O, E> {
+pub(crate) struct OperatorWatch<'a, R: Wait, I, O, E> {
     rt: &'a R,
     path: &'a str,
     bound: SocketAddr,
@@ -26,7 +30,7 @@ pub(crate) struct OperatorWatch<'a, R: Wait, O, E> {
     opened: OpenedStore,
     counters: Counters,
     pace: Mutex<Pace>,
-    streams: Mutex<OperatorStreams<'a, O, E>>,
+    streams: Mutex<OperatorStreams<'a, I, O, E>>,
 }
 
 // How batches are written.
@@ -39,11 +43,14 @@ struct Pace {
 
 // The streams, and what has happened.
 #[derive(Drop)]
-struct OperatorStreams<'a, O, E> {
+struct OperatorStreams<'a, I, O, E> {
+    input: &'a mut I,
     output: &'a mut O,
     errors: &'a mut E,
     has_output_failed: bool,
     has_store_failed: bool,
+    /// The input has ended, by which the end was asked for.
+    is_asked: bool,
     listener: Option<io::Error>,
     /// The connections that were told of.
     peers: Peers,
@@ -52,7 +59,13 @@ struct OperatorStreams<'a, O, E> {
     stats_at: u64,
 }
 
-impl<'a, R: AllocGlobal + Clock + Wait, O: Write, E: Write> OperatorWatch<'a, R, O, E> {
+impl<'a, R: AllocGlobal + Clock + Wait, I: EndingInput, O: Write, E: Write> OperatorWatch<
+    'a,
+    R,
+    I,
+    O,
+    E,
+> {
     /// Of the store in this file, at this address.
     pub(crate) fn new(
         rt: &'a R,
@@ -60,9 +73,10 @@ impl<'a, R: AllocGlobal + Clock + Wait, O: Write, E: Write> OperatorWatch<'a, R,
         bound: SocketAddr,
         how: Listening<'a>,
         opened: OpenedStore,
+        input: &'a mut I,
         output: &'a mut O,
         errors: &'a mut E,
-    ) -> OperatorWatch<'a, R, O, E> {
+    ) -> OperatorWatch<'a, R, I, O, E> {
         OperatorWatch {
             rt,
             path,
@@ -71,16 +85,19 @@ impl<'a, R: AllocGlobal + Clock + Wait, O: Write, E: Write> OperatorWatch<'a, R,
             opened,
             counters: Counters::new(),
             pace: Mutex::new(Pace::new()),
-            streams: Mutex::new(OperatorStreams::new(output, errors)),
+            streams: Mutex::new(OperatorStreams::new(input, output, errors)),
         }
     }
 
-    /// Why the program ends, which served so and was answered so. A store that failed was told of at that moment.
+    /// How the program ends, which served so and was answered so: well only where that was, and the end was asked for. A store that failed was
+    /// told of at that moment.
     pub(crate) fn ended<'w>(
         self,
         how: Listening<'w>,
         served: Result<(), Refusal>,
-    ) -> ProgramEnd<'w> {
+    ) -> Result<(), ProgramEnd<'w>>
+        ensures { OnOk result (served ≡ Ok tt) }
+    {
         let OperatorWatch {
             rt,
             path: _,
@@ -94,7 +111,7 @@ impl<'a, R: AllocGlobal + Clock + Wait, O: Write, E: Write> OperatorWatch<'a, R,
         let streams = streams.into_inner();
         let ended = streams.ended(how, served);
         if how.log {
-            tell_event(rt, &OperatorEvent::End(ended.refusal()), streams.errors);
+            tell_event(rt, &OperatorEvent::End(refusal_of(&ended)), streams.errors);
         }
         ended
     }
@@ -107,7 +124,7 @@ impl<'a, R: AllocGlobal + Clock + Wait, O: Write, E: Write> OperatorWatch<'a, R,
     }
 
     // Tells of the connections that were closed, and of what was counted, where it is time to.
-    fn tell_of(&self, peers: Peers, streams: &mut OperatorStreams<'a, O, E>) {
+    fn tell_of(&self, peers: Peers, streams: &mut OperatorStreams<'a, I, O, E>) {
         let now = self.now();
         if peers.slow > streams.peers.slow {
             let closed = peers.slow - streams.peers.slow;
@@ -182,13 +199,23 @@ impl Pace {
     }
 }
 
-impl<'a, O, E> OperatorStreams<'a, O, E> {
-    fn new(output: &'a mut O, errors: &'a mut E) -> OperatorStreams<'a, O, E> {
+// The refusal by which the program ends, where it ends by one.
+fn refusal_of(ended: &Result<(), ProgramEnd<'_>>) -> Option<Refusal> {
+    match ended {
+        Ok(()) => None,
+        Err(ended) => ended.refusal(),
+    }
+}
+
+impl<'a, I: EndingInput, O, E> OperatorStreams<'a, I, O, E> {
+    fn new(input: &'a mut I, output: &'a mut O, errors: &'a mut E) -> OperatorStreams<'a, I, O, E> {
         OperatorStreams {
+            input,
             output,
             errors,
             has_output_failed: false,
             has_store_failed: false,
+            is_asked: false,
             listener: None,
             peers: Peers {
                 open: 0,
@@ -201,28 +228,46 @@ impl<'a, O, E> OperatorStreams<'a, O, E> {
         }
     }
 
-    // Why the program ends, where serving was answered so.
-    fn ended<'w>(&self, how: Listening<'w>, served: Result<(), Refusal>) -> ProgramEnd<'w> {
+    // How the program ends, where serving was answered so.
+    fn ended<'w>(
+        &self,
+        how: Listening<'w>,
+        served: Result<(), Refusal>,
+    ) -> Result<(), ProgramEnd<'w>>
+        ensures { OnOk result (served ≡ Ok tt) }
+    {
         if self.has_output_failed {
-            return ProgramEnd::Stream;
+            return Err(ProgramEnd::Stream);
         }
-        if self.has_store_failed && how.exit_on_failure {
-            return ProgramEnd::Refused(Refusal::StoreFailed, None);
+        if self.has_store_failed && (how.exit_on_failure || self.is_asked) {
+            return Err(ProgramEnd::Refused(Refusal::StoreFailed, None));
         }
         if let Err(refusal) = served {
             if !self.has_store_failed {
-                return ProgramEnd::Refused(refusal, None);
+                return Err(ProgramEnd::Refused(refusal, None));
             }
         }
-        match self.listener {
-            Some(reason) => ProgramEnd::fault(LISTENING, how.address, reason),
-            None => ProgramEnd::Refused(Refusal::Fault, None),
+        match (self.listener, served) {
+            (Some(reason), _) => Err(ProgramEnd::fault(LISTENING, how.address, reason)),
+            (None, Ok(())) if self.is_asked => Ok(()),
+            (None, _) => Err(ProgramEnd::Refused(Refusal::Fault, None)),
+        }
+    }
+
+    // Looks whether the input has ended, and remembers that.
+    fn look(&mut self) {
+        if !self.is_asked {
+            self.is_asked = self.input.has_ended();
         }
     }
 }
 
-impl<R: AllocGlobal + Clock + Wait + Sync, O: Write + Send, E: Write + Send> Watch<FileDisk>
-    for OperatorWatch<'_, R, O, E> {
+impl<
+    R: AllocGlobal + Clock + Wait + Sync,
+    I: EndingInput + Send,
+    O: Write + Send,
+    E: Write + Send,
+> Watch<FileDisk> for OperatorWatch<'_, R, I, O, E> {
     fn begun(&self, sessions: usize, seats: usize) -> bool {
         let mut streams = self.streams.lock(self.rt);
         if sessions < seats {
@@ -258,7 +303,10 @@ impl<R: AllocGlobal + Clock + Wait + Sync, O: Write + Send, E: Write + Send> Wat
         if self.how.log {
             self.tell_of(peers, &mut streams);
         }
-        !(self.how.exit_on_failure && streams.has_store_failed)
+        if self.how.until_closed {
+            streams.look();
+        }
+        !streams.is_asked && !(self.how.exit_on_failure && streams.has_store_failed)
     }
 
     fn writes(&self, at: Moment) {

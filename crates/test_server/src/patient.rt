@@ -1,5 +1,5 @@
-//! A stream that is written where it has room.
-use server::Patient;
+//! A stream that is written where it has room, and one that tells whether it has ended.
+use server::{EndingInput, Patient, PatientInput};
 use std::io::{self, Read, Write};
 use std::net::Net;
 use std::os::fd::AsRawFd;
@@ -24,10 +24,28 @@ fn word(is_taken: bool) -> &'static str {
     if is_taken { "taken" } else { "refused" }
 }
 
-/// What is written over a pipe while it has no room, once it has some, and once nobody reads it.
+/// What is written over a pipe while it has no room, once it has some, and once nobody reads it. And whether one is told to have ended.
 pub fn tried<R: Files + Net + AllocGlobal>(rt: &R) -> io::Result<String> {
     let (reader, writer) = io::pipe(rt)?;
-    over(rt, reader, writer)
+    let written = over(rt, reader, writer)?;
+    let (reader, writer) = io::pipe(rt)?;
+    let ended = ends(rt, reader, writer)?;
+    Ok(format!(in rt.alloc(); "{written}{ended}")?)
+}
+
+// Whether the end of a stream is told while nothing comes, once something came, and once nobody writes to it.
+fn ends<R: Net + AllocGlobal, I: Drop + Read + AsRawFd, W: Drop + Write>(
+    rt: &R,
+    reader: I,
+    mut writer: W,
+) -> io::Result<String> {
+    let mut stream = PatientInput::new(rt, reader);
+    let is_silent = stream.has_ended();
+    writer.write_all(b"z")?;
+    let has_come = stream.has_ended();
+    drop(writer);
+    let is_closed = stream.has_ended();
+    Ok(format!(in rt.alloc(); "ended: {is_silent} {has_come} {is_closed}\n")?)
 }
 
 fn over<R: Net + AllocGlobal, I: Drop + Read, W: Drop + Write + AsRawFd>(

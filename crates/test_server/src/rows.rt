@@ -3,7 +3,7 @@ use crate::drawn::{behind_milestones, fresh};
 use crate::edits::edits;
 use crate::files::{bytes, fill, length, same, set, taken_address};
 use crate::runs::{Broken, Ended, Given, call};
-use crate::sessions::beside;
+use crate::sessions::{Ending, beside};
 use crate::shown::{Shown, show};
 use crate::stops::{at_each_call, at_the_gate};
 use crate::{given_words, patient};
@@ -211,7 +211,8 @@ impl Table {
     >(&mut self, rt: &R, words: &[&str]) -> io::Result<String> {
         match words {
             ["store", path, size, sources] => Ok(self.format(rt, path, size, sources)?),
-            ["sessions", path] => self.sessions(rt, path),
+            ["sessions", path] => self.sessions(rt, path, Ending::Failure),
+            ["sessions", path, "until-closed"] => self.sessions(rt, path, Ending::Closed),
             ["keep", path] => self.keep(rt, path),
             ["same", path] => same(rt, path, &self.kept),
             ["lock", path] => self.lock(rt, path),
@@ -284,10 +285,10 @@ impl Table {
             + Wait
             + Clock
             + Sync,
-    >(&mut self, rt: &R, path: &str) -> io::Result<String> {
+    >(&mut self, rt: &R, path: &str, ending: Ending) -> io::Result<String> {
         let lines = String::from_utf8_lossy(rt.alloc(), &self.next.input)?;
         self.next = Next::new(rt.alloc());
-        beside(rt, path, lines.as_str())
+        beside(rt, path, lines.as_str(), ending)
     }
 
     // Keeps the bytes of a file.

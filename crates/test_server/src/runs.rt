@@ -1,5 +1,5 @@
 //! One run of the program over streams in memory.
-use server::run;
+use server::{EndingInput, run};
 use std::alloc::{AllocError, Global};
 use std::fs::File;
 use std::io::{self, ErrorKind, Read, Write};
@@ -52,6 +52,13 @@ impl Read for Pieces<'_> {
         buf[..count].copy_from_slice(&self.rest[..count]);
         self.rest = &self.rest[count..];
         Ok(count)
+    }
+}
+
+impl EndingInput for Pieces<'_> {
+    fn has_ended(&mut self) -> bool {
+        self.rest = &[];
+        true
     }
 }
 

@@ -1,7 +1,7 @@
 //! Two sessions of one server, each over a connection of its own.
 use crate::runs::Ended;
 use crate::shown::{Shown, show};
-use server::run;
+use server::{EndingInput, run};
 use std::alloc::{AllocError, Global};
 use std::fs::File;
 use std::io::{self, Read, Write};
@@ -16,6 +16,43 @@ const TRIES: u32 = 20_000;
 
 /// How long a reply is waited for, in milliseconds.
 const PATIENCE: u64 = 20_000;
+
+/// What ends a server of two sessions.
+#[derive(Clone, Copy, PartialEq, Eq)]
+pub enum Ending {
+    /// Its store fails.
+    Failure,
+    /// Its input ends, once all lines are answered.
+    Closed,
+}
+
+impl Ending {
+    fn option(self) -> &'static str {
+        match self {
+            Ending::Failure => "--exit-on-failure",
+            Ending::Closed => "--until-closed",
+        }
+    }
+}
+
+/// An input without a byte, which ends once another thread says so.
+#[derive(Drop)]
+struct Silent<'a, R: Wait> {
+    rt: &'a R,
+    is_over: &'a Mutex<bool>,
+}
+
+impl<R: Wait> Read for Silent<'_, R> {
+    fn read(&mut self, _buf: &mut [u8]) -> io::Result<usize> {
+        Ok(0)
+    }
+}
+
+impl<R: Wait> EndingInput for Silent<'_, R> {
+    fn has_ended(&mut self) -> bool {
+        *self.is_over.lock(self.rt)
+    }
+}
 
 /// What a stream was given so far, which another thread may look at.
 #[derive(Drop)]
@@ -99,11 +136,14 @@ fn asked(alloc: Global, stream: &TcpStream, line: &str) -> io::Result<String> {
     line_from(alloc, stream)
 }
 
-/// Sends each line by the session whose letter it begins with, once the line before is answered, and gives the replies.
+/// Sends each line by the session whose letter it begins with, once the line before is answered, and gives the replies. Then the server's input
+/// is over, and where that ends it, so do the sessions.
 fn converse<R: Wait + Clock + AllocGlobal + Net<Stream = TcpStream>>(
     rt: &R,
     told: &Mutex<String>,
+    is_over: &Mutex<bool>,
     lines: &str,
+    ending: Ending,
 ) -> io::Result<String> {
     let address = address(rt, told)?;
     let first = connected(rt, address.as_str())?;
@@ -113,7 +153,28 @@ fn converse<R: Wait + Clock + AllocGlobal + Net<Stream = TcpStream>>(
         let reply = reply_to(rt.alloc(), &first, &second, line)?;
         replies.push_str(reply.as_str())?;
     }
+    *is_over.lock(rt) = true;
+    if ending == Ending::Closed {
+        let (a, b) = (
+            line_from(rt.alloc(), &first)?,
+            line_from(rt.alloc(), &second)?,
+        );
+        write!(replies, "a ends:{a}\nb ends:{b}\n")?;
+    }
     Ok(replies)
+}
+
+/// The same. The server's input is over however that goes.
+fn converse_to_the_end<R: Wait + Clock + AllocGlobal + Net<Stream = TcpStream>>(
+    rt: &R,
+    told: &Mutex<String>,
+    is_over: &Mutex<bool>,
+    lines: &str,
+    ending: Ending,
+) -> io::Result<String> {
+    let replies = converse(rt, told, is_over, lines, ending);
+    *is_over.lock(rt) = true;
+    replies
 }
 
 fn reply_to(
@@ -130,7 +191,7 @@ fn reply_to(
     Ok(format!(in alloc; "b {reply}")?)
 }
 
-/// Serves the store until it fails. Its output is shared with those who look for the address.
+/// Serves the store until this ends that. Its output is shared with those who look for the address.
 fn served<
     R: Files<File = File>
         + AllocGlobal
@@ -139,16 +200,22 @@ fn served<
         + Wait
         + Clock
         + Sync,
->(rt: &R, path: &str, told: &Mutex<String>) -> Result<Ended, AllocError> {
+>(
+    rt: &R,
+    path: &str,
+    told: &Mutex<String>,
+    is_over: &Mutex<bool>,
+    ending: Ending,
+) -> Result<Ended, AllocError> {
     let words = [
         "richd",
         "serve",
         path,
         "--listen",
         "127.0.0.1:0",
-        "--exit-on-failure",
+        ending.option(),
     ];
-    let mut input: &[u8] = &[];
+    let mut input = Silent { rt, is_over };
     let mut output = Written { rt, text: told };
     let mut errors = Vec::new(rt.alloc());
     let status = run(rt, &words, &mut input, &mut output, &mut errors);
@@ -170,12 +237,13 @@ pub fn beside<
         + Wait
         + Clock
         + Sync,
->(rt: &R, path: &str, lines: &str) -> io::Result<String> {
+>(rt: &R, path: &str, lines: &str, ending: Ending) -> io::Result<String> {
     let told = Mutex::new(String::new(rt.alloc()));
+    let is_over = Mutex::new(false);
     let (replies, ended) = thread::join(
         rt,
-        || converse(rt, &told, lines),
-        || served(rt, path, &told),
+        || converse_to_the_end(rt, &told, &is_over, lines, ending),
+        || served(rt, path, &told, &is_over, ending),
     );
     let replies = replies?;
     let ended = ended?;

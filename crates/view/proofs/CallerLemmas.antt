@@ -11,6 +11,7 @@ use Rattle.atomic_table.proofs.shared.Seat.TheSendSync as place
 use Rattle.atomic_table.proofs.shared.Shared.TheSendSync as table
 use Rattle.atomic_table.proofs.send_lease.SendLease.TheSendSync as lease
 use Rattle.delta.specs.contracts.delta.Delta as delta
+use Rattle.delta.specs.contracts.op.Op as op
 use Rattle.document.specs.contracts.document.Document as document
 use Rattle.revision.specs.contracts.rule.name.Name as name
 use Rattle.revision.specs.contracts.past.sources.Sources as sources
@@ -28,8 +29,14 @@ use Rattle.view.specs.contracts.viewer.Viewer as viewer
 pub name_sync : IsSync name.the_row
 name_sync = search (sendable, crosses, maps.crosses) depth 60 fits 20000
 
+op_send : IsSend op.the_row
+op_send = search (sendable, crosses, maps.crosses) depth 60 fits 20000
+
+op_sync : IsSync op.the_row
+op_sync = search (sendable, crosses, maps.crosses) depth 60 fits 20000
+
 pub delta_sync : IsSync delta.the_row
-delta_sync = search (sendable, crosses, maps.crosses) depth 60 fits 20000
+delta_sync = search (op_send, op_sync, sendable, crosses) depth 60 fits 20000
 
 pub document_sync : IsSync document.the_row
 document_sync = search (sendable, crosses, maps.crosses) depth 60 fits 20000

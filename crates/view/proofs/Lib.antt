@@ -1,3 +1,4 @@
 pub mod CallerLemmas
 pub mod Showing
 pub mod Ordering
+pub mod Publishing

@@ -26,6 +26,8 @@ pub struct Listening<'a> {
     pub idle: u32,
     /// Whether the program ends where the store has failed.
     pub exit_on_failure: bool,
+    /// Whether the program ends, and well, where its standard input ends.
+    pub until_closed: bool,
     /// Whether a line is written on standard error for each event.
     pub log: bool,
     /// How many seconds pass from one line of counters to the next; 0 for none.
@@ -162,6 +164,7 @@ pub fn listening_in<'a>(given: &ArgMatches<'a>) -> Option<Listening<'a>> {
         address,
         idle: given.get_one("idle").unwrap_or(0),
         exit_on_failure: given.get_flag("exit-on-failure"),
+        until_closed: given.get_flag("until-closed"),
         log: given.get_flag("log"),
         stats: given.get_one("stats").unwrap_or(0),
     })
@@ -219,7 +222,13 @@ fn with_reserve<'a>(alloc: Global, command: Command<'a>) -> Result<Command<'a>, 
 fn with_listening<'a>(alloc: Global, command: Command<'a>) -> Result<Command<'a>, AllocError> {
     let command = with_listen(alloc, command)?;
     let command = with_ends(alloc, command)?;
-    with_lines(alloc, command)
+    with_lines(alloc, with_until_closed(alloc, command)?)
+}
+
+// That the end of standard input ends the program.
+fn with_until_closed<'a>(alloc: Global, command: Command<'a>) -> Result<Command<'a>, AllocError> {
+    let help = "Ends the program, with status 0, where its standard input ends";
+    with_flag_beside(alloc, command, LISTEN, "until-closed", help)
 }
 
 // When a connection ends, and when all do.

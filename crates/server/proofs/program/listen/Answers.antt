@@ -1,8 +1,11 @@
-use denote.Exit.{yes}
-use denote.Param.Send.{param_send, arg_send}
-use Rattle.disk.proofs.Crossing.{device_send}
+use Rattle.std.proofs.lemmas.Result.{on_ok_weaker}
+use Rattle.server.proofs.Serving.{listened-for, listened-well}
 use Rattle.server.proofs.program.listen.Goals as goal
 
--- the store's device goes to the thread that writes
-pub serve_on-connected-requires-send-D : goal.serve_on-connected-requires-send-D
-serve_on-connected-requires-send-D g c κs within = param_send 2 _ (arg_send _ yes _ device_send)
+pub returns-clause-serves : goal.returns-clause-serves
+returns-clause-serves g c = listened-for c.in_ok-store.ensures.good c.in-Ok.ensures.good c.serve_at-served.ensures
+
+-- where it was served well
+pub returns-clause-served : goal.returns-clause-served
+returns-clause-served g c =
+    on_ok_weaker c.ended.result (λ well. listened-well well c.in_ok-store.ensures.good c.in-Ok.ensures.good c.serve_at-served.ensures) c.ended.ensures

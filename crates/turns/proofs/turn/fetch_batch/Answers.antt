@@ -1,4 +1,6 @@
-use Rattle.std.proofs.Common.{◌≡◌, ◌∙◌, false, rules}
+use Rattle.std.proofs.Common.{◌≡◌, ◌∙◌, false, rules, subst, sym}
+use Rattle.hub.specs.Runs.{Writer}
+use Rattle.turns.specs.Counting.{IsAt}
 use Rattle.turns.proofs.Writing.{writes_none, writes_held}
 use Rattle.turns.proofs.Counting.{at_none, at_held, follows}
 use Rattle.turns.proofs.turn.fetch_batch.Goals as goal
@@ -17,6 +19,9 @@ returns-in-Ok-taken-clause-writes g c =
     let none : c.holds.result ≡ false = search rules in
     let e = c.hold.ensures in
     writes_held g.L.Life.start c.args.flusher.now c.hold.new.self c.in-Ok-taken.run'.commands e.opened c.kept.ensures e.store e.told e.committed (c.holds.ensures.held none).1 e.waiting
+
+pub returns-in-Err-clause-at : goal.returns-in-Err-clause-at
+returns-in-Err-clause-at g c = subst (λ (w : Writer). IsAt w c.args.flusher.now) (sym c.in-Err.ensures.only.1) c.requires.at
 
 pub returns-in-Err-taken-clause-at : goal.returns-in-Err-taken-clause-at
 returns-in-Err-taken-clause-at g c = at_none c.args.writer.now c.take_next.new.writer c.args.flusher.now (rw c.in-Err-taken.is at c.in-Ok.ensures.none).1 c.requires.at
