@@ -4,7 +4,7 @@ use Rattle.std.proofs.lemmas.List.{map-append}
 use mathlib.Core.List.{IsPrefix}
 use Rattle.revision.specs.Command.{Taken}
 use Rattle.revision.specs.State.{State, fold}
-use Rattle.revision.specs.Moved.{MovedEdit, IsMovedIn}
+use Rattle.revision.specs.Moved.{LateUndo, MovedEdit, IsUndoneIn, IsMovedIn}
 use Rattle.revision.proofs.CallerLemmas.{moved_stays, fold-append}
 use Rattle.world.specs.Progress.{Progress}
 use Rattle.world.specs.World.{Entry, takens}
@@ -27,3 +27,9 @@ pub moved_on_board : (start : State) (board : Progress Entry) (order : List Entr
     → IsMovedIn (fold start (takens order)) m → IsMovedIn board.state m
 moved_on_board start board order m same begun history moved =
     subst (λ s. IsMovedIn s m) (ap (λ (o : List Entry). fold start (takens o)) same ∙ (ap (λ s. fold s (takens board.order)) (sym begun) ∙ sym history.state)) moved
+
+-- what an undo is made of on a board is that in the state after its order
+pub undone_on_board : (start : State) (board : Progress Entry) (order : List Entry) (l : LateUndo) → order ≡ board.order → board.start ≡ start → IsHistory board
+    → IsUndoneIn board.state l → IsUndoneIn (fold start (takens order)) l
+undone_on_board start board order l same begun history undone =
+    subst (λ s. IsUndoneIn s l) (sym (ap (λ (o : List Entry). fold start (takens o)) same ∙ (ap (λ s. fold s (takens board.order)) (sym begun) ∙ sym history.state))) undone

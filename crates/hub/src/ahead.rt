@@ -1,13 +1,14 @@
-//! Edits that are moved on before they are submitted.
+//! Edits and undos that are made ahead, before they are submitted.
 ghost use Rattle.std.specs.Prelude.{◌≡◌, IfSome};
 ghost use mathlib.Core.List.{IsPrefix};
 ghost use Rattle.recovery.specs.Found.{commands_of};
-ghost use Rattle.revision.specs.Moved.{IsMovedIn};
+ghost use Rattle.revision.specs.Moved.{IsMovedIn, IsUndoneIn};
 ghost use Rattle.revision.specs.State.{fold};
 ghost use Rattle.world.specs.World.{takens};
 
 use published::{Life, Order, Ordered, Told};
-use revision::{Command, MovedEdit};
+use revision::{Command, LateUndo, MovedEdit};
+use std::alloc::Global;
 use std::marker::Model;
 
 /// An edit that is past what a prefix of the life's order took after its base. A seat that has it submits that edit in less time, since
@@ -43,7 +44,15 @@ impl<L: Life> Ahead<L> {
         }
     }
 
-    // Whether a command asks for an edit like this one.
+    // One that was made in the state after this prefix of the order.
+    pub(crate) fn in_state(order: Ordered<L>, moved: MovedEdit) -> Ahead<L>
+        requires { IsMovedIn (fold L.start (takens order)) moved }
+        ensures { result ≡ moved }
+    {
+        Ahead { order, moved }
+    }
+
+    // Whether a command asks for an edit like this one, or for an undo where it is one.
     pub(crate) fn is_like(&self, command: &Command) -> bool {
         self.moved.is_like(command)
     }
@@ -55,6 +64,44 @@ impl<L: Life> Ahead<L> {
     {
         order.holds(&self.order);
         &self.moved
+    }
+}
+
+// What an undo is made of, with the prefix of the order in whose state it is that.
+#[derive(Drop)]
+pub(crate) struct Asked<L: Life> {
+    order: Ordered<L>,
+    undo: LateUndo,
+}
+
+impl<L: Life> Model for Asked<L> {
+    ghost use Rattle.revision.specs.Moved as spec;
+    ghost use Rattle.revision.specs.Moved.{IsUndoneIn};
+    ghost use Rattle.revision.specs.State.{fold};
+    ghost use Rattle.world.specs.World.{takens};
+
+    ghost Value = { spec.LateUndo };
+
+    ghost view = { λ a. a.undo };
+
+    ghost invariant = { λ a. IsUndoneIn (fold L.start (takens a.order)) a.undo };
+}
+
+impl<L: Life> Asked<L> {
+    pub(crate) fn of(order: Ordered<L>, undo: LateUndo) -> Asked<L>
+        requires { IsUndoneIn (fold L.start (takens order)) undo }
+        ensures { result ≡ undo }
+    {
+        Asked { order, undo }
+    }
+
+    // The undo, made and looked at. It is the work that nobody else waits for.
+    pub(crate) fn made(self, alloc: Global) -> Option<Ahead<L>> {
+        let Asked { order, undo } = self;
+        match undo.moved(alloc) {
+            Ok(moved) => Some(Ahead::in_state(order, moved)),
+            Err(_) => None,
+        }
     }
 }
 

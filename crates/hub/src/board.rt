@@ -14,7 +14,7 @@ ghost use Rattle.hub.specs.Runs.{AreMadeThere, untaken};
 ghost use Rattle.hub.specs.Moves.{IsSubmittedTo, IsTakenOff, IsSettledOn, IsAcked, StandsAt};
 ghost use Rattle.hub.specs.Submitted.{counted_by};
 
-use crate::ahead::moved_in;
+use crate::ahead::{Asked, moved_in};
 use crate::cause::Cause;
 use crate::found::Found;
 use crate::run::{Run, copied, is_beginning, longest};
@@ -243,6 +243,14 @@ impl<D, L: Life, C> Board<D, L, C> {
         self.progress.taken()
     }
 
+    // What the undo that a command asks for is made of in the state after the whole order, where there is one. Everything is shared.
+    pub(crate) fn late_undo(&self, alloc: Global, command: &Command) -> Option<Asked<L>> {
+        match self.progress.state().late_undo(alloc, command) {
+            Some(undo) => Some(Asked::of(self.order.ordered(), undo)),
+            None => None,
+        }
+    }
+
     // The token of the whole order.
     pub(crate) fn order(&self) -> Ordered<L>
         ensures { result ≡ self.now.progress.order }
@@ -290,12 +298,13 @@ impl<D, L: Life, C> Board<D, L, C> {
             share,
             place,
             ahead: None,
+            used: None,
         })
     }
 
     /// Answers a command by the rule of acceptance. One that is taken is put behind the order and counted on the seat, and any other leaves the board and the seat alone. The
-    /// ticket has the reply, and the length of the order that has to be settled before the reply may be given, for a retry too. An edit that
-    /// the seat has moved on (`Seat::move_ahead`) is moved past what was taken since alone.
+    /// ticket has the reply, and the length of the order that has to be settled before the reply may be given, for a retry too. An edit or
+    /// an undo that the seat has made ahead is moved past what was taken since alone.
     /// Refused with `StoreFailed` where the store has failed, else as `State::plan` refuses it; nothing has changed then.
     #[tactic(auto, using(crate::proofs::Histories::counts))]
     pub fn submit(
@@ -313,8 +322,8 @@ impl<D, L: Life, C> Board<D, L, C> {
         }
         // its number is in range
         command.facts();
-        let ahead = seat.ahead_for(command);
-        let moved = moved_in(&ahead, &mut self.order);
+        seat.use_ahead(command);
+        let moved = moved_in(&seat.used, &mut self.order);
         match self.progress.submit(alloc, command, moved) {
             Ok(ticket) => {
                 keep_made(alloc, &mut self.made, &self.order, &self.progress, &ticket);

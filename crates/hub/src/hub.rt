@@ -38,8 +38,8 @@
 //!
 //! Who waits relies on others to go on: on the flusher to settle or fail what it took off, and on the thread that has settled, failed or
 //! submitted to get to its wake or notification.
-ghost use Rattle.std.specs.Prelude.{◌≡◌, ◌<◌, ◌+◌, length, map, IfOk, IfErr, OnOk, OnErr};
-ghost use Rattle.std.specs.Vec.{vec_len};
+ghost use Rattle.std.specs.Prelude.{◌≡◌, ◌<◌, ◌≤◌, ◌+◌, ℕ, List, length, map, take, IfOk, IfErr, OnOk, OnErr};
+ghost use Rattle.std.specs.Vec.{vec_len, vec_capacity};
 ghost use mathlib.Core.List.{IsPrefix};
 ghost use Rattle.recovery.specs.Found.{commands_of};
 ghost use Rattle.hub.specs.Found.{AreSubmittedAfter, IsSubmittedAfter};
@@ -49,6 +49,7 @@ ghost use Rattle.hub.specs.Placed.{StandsFirst};
 ghost use Rattle.hub.specs.Runs.{ComesNext, IsCountedBy, counts_ended};
 ghost use Rattle.hub.specs.Submitted.{counted_all, counted_by};
 ghost use Rattle.hub.specs.Moves.{ComesOff, IsSettledNext, StandsAt};
+ghost use Rattle.world.specs.World.{Entry};
 
 use crate::board::Board;
 use crate::cause::Cause;
@@ -63,7 +64,7 @@ use crate::waiting::Woken;
 use published::{Life, Ordered, Told};
 use recovery::Receipt;
 use refusal::Refusal;
-use revision::Command;
+use revision::{Action, Command};
 use std::alloc::{AllocError, Global};
 use std::sync::atomic::{AtomicU64, Ordering};
 use std::sync::{Condvar, Mutex, MutexGuard, Wait};
@@ -76,6 +77,12 @@ const LOOKS: u32 = 50;
 
 const YIELDS: u32 = 200;
 
+// Who has more commands lets others run so often at most before he takes the lock again.
+const GIVES: u32 = 5_000;
+
+// So many commands are submitted at most in one hold of the lock.
+const HOLD: usize = 16;
+
 /// A board that threads share, behind one lock. A session's threads submit and wait; the flusher's thread takes, settles and waits
 /// for work, and says where the store has failed: these calls ask for the hub's `Writer`, which that thread alone has. Who ends the hub
 /// has its `Closer`, and the tally of all its seats. A command takes the lock once. Who waits for a ticket looks at its place, which the flusher tells what is settled, and
@@ -87,6 +94,9 @@ pub struct Hub<D, L: Life> {
     places: [Mutex<Place<D, L>>; 64],
     turns: [AtomicU64; 8],
     work: Condvar,
+    // how often the lock was looked for in vain, and how often it was got then
+    asked: AtomicU64,
+    passed: AtomicU64,
 }
 
 impl<D, L: Life> Hub<D, L> {
@@ -101,6 +111,8 @@ impl<D, L: Life> Hub<D, L> {
             places: array::from_fn(|_| Mutex::new(Place::new(told.copy()))),
             turns: array::from_fn(|_| AtomicU64::new(0)),
             work: Condvar::new(),
+            asked: AtomicU64::new(0),
+            passed: AtomicU64::new(0),
         };
         (hub, writer, closer)
     }
@@ -112,6 +124,14 @@ impl<D, L: Life> Hub<D, L> {
                 return kept;
             }
         }
+        self.asked.fetch_add(1, Ordering::SeqCst);
+        let kept = self.held_late(rt);
+        self.passed.fetch_add(1, Ordering::SeqCst);
+        kept
+    }
+
+    // The board, by one who looked for it in vain.
+    fn held_late<R: Wait>(&self, rt: &R) -> MutexGuard<'_, Locked<D, L>> {
         for _ in 0..YIELDS {
             thread::yield_now();
             if let Some(kept) = self.kept.try_lock() {
@@ -146,6 +166,7 @@ impl<D, L: Life> Hub<D, L> {
         let begins = was_idle && !kept.board().is_idle();
         let settled = kept.told_of(&answer, None);
         drop(kept);
+        seat.let_go();
         self.submitted(rt, place, begins, settled);
         answer
     }
@@ -166,6 +187,7 @@ impl<D, L: Life> Hub<D, L> {
         ensures after { IsSubmittedAfter L.start told.now found.old command.now result found.new }
         ensures counts { seat.new ≡ counted_by seat.old result }
     {
+        self.make_ahead(rt, alloc, seat, command);
         let place = seat.place();
         let mut kept = self.held(rt);
         let was_idle = kept.board().is_idle();
@@ -173,12 +195,13 @@ impl<D, L: Life> Hub<D, L> {
         let begins = was_idle && !kept.board().is_idle();
         let settled = kept.told_of(&answer, None);
         drop(kept);
+        seat.let_go();
         self.submitted(rt, place, begins, settled);
         answer
     }
 
-    /// Submits commands one after another, each as `submit_after` does, under one hold of the board's lock: the answers are in their order,
-    /// and each one's order begins with what the one before it found. Refused as out of memory alone, where there is none for the list,
+    /// Submits commands one after another, each as `submit_after` does: the answers are in their order, and each one's order begins with what the
+    /// one before it found. The lock is let go after some of them, so others' commands may come between. Refused as out of memory alone, where there is none for the list,
     /// which is made first, and then nothing is submitted or found.
     pub fn submit_all_after<R: Wait>(
         &self,
@@ -197,14 +220,81 @@ impl<D, L: Life> Hub<D, L> {
         ensures unfound { OnErr result (found.new ≡ found.old) }
     {
         let mut answers = Vec::with_capacity(alloc, commands.len())?;
+        let mut from = 0;
+        while from < commands.len() {
+            let end = end_of_hold(commands, from);
+            self.submit_some(rt, alloc, seat, commands, from, end, told, found, &mut answers);
+            from = end;
+            if from < commands.len() {
+                self.give_way();
+            }
+        }
+        Ok(answers)
+    }
+
+    // Submits the commands from one on up to another under one hold of the lock, as `Locked::submit_some_after` does. What the first of them
+    // is where it is an undo is made ahead.
+    fn submit_some<R: Wait>(
+        &self,
+        rt: &R,
+        alloc: Global,
+        seat: &mut Seat<L>,
+        commands: &[&Command],
+        from: usize,
+        end: usize,
+        told: &Told<D, L>,
+        found: &mut Found<L>,
+        answers: &mut Vec<Result<Ticket<L>, SubmitError<L>>>,
+    )
+        requires range { from < end }
+        requires within { end ≤ length commands.now }
+        requires so_far { vec_len answers.old ≡ from }
+        requires room { length commands.now ≤ vec_capacity answers.old }
+        ensures after { (begin : List Entry)
+            → AreSubmittedAfter L.start told.now begin (map (λ command. command.now) (take from commands.now)) answers.old.items found.old
+            → AreSubmittedAfter L.start told.now begin (map (λ command. command.now) (take end commands.now)) answers.new.items found.new }
+        ensures as_many { vec_len answers.new ≡ end }
+        ensures room { length commands.now ≤ vec_capacity answers.new }
+        ensures counts { (count : ℕ) → seat.old ≡ counted_all count answers.old.items → seat.new ≡ counted_all count answers.new.items }
+    {
+        self.make_ahead(rt, alloc, seat, commands[from]);
         let place = seat.place();
         let mut kept = self.held(rt);
         let was_idle = kept.board().is_idle();
-        let settled = kept.submit_all_after(alloc, seat, commands, told, found, &mut answers);
+        let settled = kept.submit_some_after(alloc, seat, commands, from, end, told, found, answers);
         let begins = was_idle && !kept.board().is_idle();
         drop(kept);
+        seat.let_go();
         self.submitted(rt, place, begins, settled);
-        Ok(answers)
+    }
+
+    // Makes an undo ahead, over what the board's state shares, with the lock free: the seat has it then for its next command.
+    fn make_ahead<R: Wait>(&self, rt: &R, alloc: Global, seat: &mut Seat<L>, command: &Command)
+        ensures { seat.new ≡ seat.old }
+    {
+        if !is_undo(command) {
+            return;
+        }
+        let kept = self.held(rt);
+        let asked = kept.late_undo(alloc, command);
+        drop(kept);
+        let Some(asked) = asked else {
+            return;
+        };
+        if let Some(ahead) = asked.made(alloc) {
+            seat.look_ahead(alloc, ahead);
+        }
+    }
+
+    // Lets those have the board that looked for it in vain so far, before the next of many commands takes its lock again.
+    fn give_way(&self) {
+        let asked = self.asked.load(Ordering::SeqCst);
+        for _ in 0..GIVES {
+            if self.passed.load(Ordering::SeqCst) >= asked {
+                return;
+            }
+            thread::yield_now();
+        }
     }
 
     // Once the lock is free again: notifies the flusher where it has something to do that it hadn't, and tells a seat's place of what holds
@@ -359,6 +449,8 @@ impl<D, L: Life> Hub<D, L> {
             places: _places,
             turns: _turns,
             work: _work,
+            asked: _asked,
+            passed: _passed,
         } = self;
         kept.into_inner().into_board(writer, closer)
     }
@@ -377,4 +469,27 @@ impl<D, L: Life> Hub<D, L> {
     {
         self.held(rt).board().ordered()
     }
+}
+
+// whether a command asks for an undo
+fn is_undo(command: &Command) -> bool {
+    match command.action() {
+        Action::Undo => true,
+        _ => false,
+    }
+}
+
+// Where the hold of the lock ends that begins with one of many commands: after 16 of them, and before the next undo, which is made ahead.
+fn end_of_hold(commands: &[&Command], from: usize) -> usize
+    requires { from < length commands.now }
+    ensures more { from < result }
+    ensures within { result ≤ length commands.now }
+{
+    let last = commands.len().min(from.saturating_add(HOLD));
+    for i in from + 1..last {
+        if is_undo(commands[i]) {
+            return i;
+        }
+    }
+    last
 }

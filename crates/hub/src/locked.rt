@@ -1,5 +1,5 @@
 //! What lies under the hub's lock, and the two rights to change it that a session doesn't have.
-ghost use Rattle.std.specs.Prelude.{◌≡◌, ◌↔◌, ◌<◌, ◌≤◌, ◌+◌, ◌++◌, ◌∷◌, true, false, [], Some, None, Ok, length, map, set, get_or, replicate, IfOk, IfErr, IsErrOf, OnOk, OnErr};
+ghost use Rattle.std.specs.Prelude.{◌≡◌, ◌↔◌, ◌<◌, ◌≤◌, ℕ, List, ◌+◌, ◌++◌, ◌∷◌, true, false, [], Some, None, Ok, length, map, take, set, get_or, replicate, IfOk, IfErr, IsErrOf, OnOk, OnErr};
 ghost use Rattle.std.specs.Vec.{vec_len, vec_capacity};
 ghost use mathlib.Core.List.{IsPrefix};
 ghost use Rattle.revision.specs.Acceptance.{answer};
@@ -8,9 +8,11 @@ ghost use Rattle.hub.specs.Found.{AreSubmittedAfter, IsGivenAt, IsSubmittedAfter
 ghost use Rattle.hub.specs.Given.{IsStopped, as_board};
 ghost use Rattle.hub.specs.Runs.{ComesNext, IsCountedBy, counts_ended, untaken};
 ghost use Rattle.hub.specs.Submitted.{counted_all, counted_by};
+ghost use Rattle.world.specs.World.{Entry};
 ghost use Rattle.hub.specs.Waiting.{AreWoken, NobodyIsForgotten, StillRightly, WaitsRightly, WakesAll, nobody, and_for, OrdersAlone};
 ghost use Rattle.hub.specs.Moves.{IsSubmittedTo, IsTakenOff, ComesOff, settled_with, IsSettledNext, IsAcked, StandsAt};
 
+use crate::ahead::Asked;
 use crate::board::Board;
 use crate::cause::Cause;
 use crate::found::Found;
@@ -308,26 +310,37 @@ impl<D, L: Life> Locked<D, L> {
         answer
     }
 
-    // Submits commands one after another, each as `submit_after` does, and puts what comes of them into a list, which has room for them. It
-    // gives the token of what is settled, where that holds one of the tickets already.
-    pub(crate) fn submit_all_after(
+    // What the undo that a command asks for is made of, as `Board::late_undo` gives it.
+    pub(crate) fn late_undo(&self, alloc: Global, command: &Command) -> Option<Asked<L>> {
+        self.board.late_undo(alloc, command)
+    }
+
+    // Submits the commands from one on up to another, each as `submit_after` does, and puts what comes of them into a list behind what came of
+    // those before, which has room for them. It gives the token of what is settled, where that holds one of the tickets already.
+    pub(crate) fn submit_some_after(
         &mut self,
         alloc: Global,
         seat: &mut Seat<L>,
         commands: &[&Command],
+        from: usize,
+        end: usize,
         told: &Told<D, L>,
         found: &mut Found<L>,
         answers: &mut Vec<Result<Ticket<L>, SubmitError<L>>>,
     ) -> Option<Told<D, L>>
-        requires empty { answers.old.items ≡ [] }
+        requires range { from ≤ end }
+        requires within { end ≤ length commands.now }
+        requires so_far { vec_len answers.old ≡ from }
         requires room { length commands.now ≤ vec_capacity answers.old }
-        ensures after { AreSubmittedAfter L.start told.now found.old (map (λ command. command.now) commands.now) answers.new.items found.new }
-        ensures as_many { vec_len answers.new ≡ length commands.now }
-        ensures counts { seat.new ≡ counted_all seat.old answers.new.items }
+        ensures after { (begin : List Entry) → AreSubmittedAfter L.start told.now begin (map (λ command. command.now) (take from commands.now)) answers.old.items found.old
+            → AreSubmittedAfter L.start told.now begin (map (λ command. command.now) (take end commands.now)) answers.new.items found.new }
+        ensures as_many { vec_len answers.new ≡ end }
+        ensures room { length commands.now ≤ vec_capacity answers.new }
+        ensures counts { (count : ℕ) → seat.old ≡ counted_all count answers.old.items → seat.new ≡ counted_all count answers.new.items }
         ensures others { OrdersAlone self.old self.new }
     {
         let mut settled = None;
-        for i in 0..commands.len() {
+        for i in from..end {
             let answer = self.submit_after(alloc, seat, commands[i], told, found);
             settled = self.told_of(&answer, settled);
             push_in_room(answers, answer);

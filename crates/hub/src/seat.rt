@@ -8,6 +8,7 @@ ghost use Rattle.hub.specs.Placed.{IsPlaced, StandsFirst};
 use crate::ahead::Ahead;
 use published::{Life, Ordered, Told};
 use revision::{Command, Reply};
+use std::alloc::Global;
 use std::marker::Model;
 use std::sync::ledger::{Book, Share};
 
@@ -21,6 +22,8 @@ pub struct Seat<L: Life> {
     pub(crate) share: Share<L>,
     pub(crate) place: usize,
     pub(crate) ahead: Option<Vec<Ahead<L>>>,
+    // What was made ahead for the command that is submitted, or for one before it. It is let go of once the lock is free.
+    pub(crate) used: Option<Ahead<L>>,
 }
 
 impl<L: Life> Model for Seat<L> {
@@ -41,14 +44,36 @@ impl<L: Life> Seat<L> {
         self.ahead = Some(ahead);
     }
 
-    // the next edit that is moved on already, where a command asks for it
-    pub(crate) fn ahead_for(&mut self, command: &Command) -> Option<Ahead<L>>
+    // gives the seat what is made ahead for its very next command, before what it has, as far as memory goes
+    pub(crate) fn look_ahead(&mut self, alloc: Global, next: Ahead<L>)
         ensures { self.new ≡ self.old }
     {
-        match &mut self.ahead {
+        let mut ahead = match self.ahead.take() {
+            Some(ahead) => ahead,
+            None => Vec::new(alloc),
+        };
+        let _ = ahead.push(next);
+        self.ahead = Some(ahead);
+    }
+
+    // uses the next edit or undo that was made ahead, where a command asks for it
+    pub(crate) fn use_ahead(&mut self, command: &Command)
+        ensures { self.new ≡ self.old }
+    {
+        let next = match &mut self.ahead {
             Some(ahead) => next_for(ahead, command),
             None => None,
+        };
+        if next.is_some() {
+            self.used = next;
         }
+    }
+
+    // lets go of what was used
+    pub(crate) fn let_go(&mut self)
+        ensures { self.new ≡ self.old }
+    {
+        self.used = None;
     }
 
     // where it waits

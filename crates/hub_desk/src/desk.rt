@@ -27,9 +27,9 @@ use std::marker::Model;
 use std::sync::Wait;
 use view::Viewer;
 
-/// An edit on a base that lies so many revisions back is moved on before it is submitted. Moving it past fewer takes less time than to look
-/// for them here.
-const LATE: usize = 64;
+/// An edit is moved on before it is submitted where its operations times those that were taken since its base are so many, as of a typed letter
+/// that is late by 64 others. Moving it past fewer takes less time than to look for them here.
+const LATE: usize = 256;
 
 /// Answers each command once it is settled at the hub, by its ticket and the token of what is published, and shows what is published. It
 /// owns a seat of the hub and a viewer of the same run, for one session after another. Contracts see it as the published batches that it was
@@ -165,7 +165,7 @@ impl<D, L: Life, R: Wait> HubDesk<'_, D, L, R> {
         }
     }
 
-    // An edit that is late by many revisions, moved on past what the view shows. None where the command is no such edit, where nothing is
+    // An edit that has much to be moved past, moved on past what the view shows. None where the command is no such edit, where nothing is
     // shown, and where memory runs out. The deltas are shared inside the view, and the edit is moved outside of it.
     fn moved_on(&mut self, alloc: Global, command: &Command) -> Option<Ahead<L>>
         ensures { self.new ≡ self.old }
@@ -185,7 +185,7 @@ impl<D, L: Life, R: Wait> HubDesk<'_, D, L, R> {
         }
     }
 
-    // Moves those edits on that are late by many revisions, before any of these commands is submitted, as far as memory goes.
+    // Moves those edits on that have much to be moved past, before any of these commands is submitted, as far as memory goes.
     fn move_on(&mut self, alloc: Global, commands: &[&Command])
         ensures { self.new ≡ self.old }
     {

@@ -9,7 +9,7 @@ pub use Rattle.revision.proofs.Keeping.{empty_is_state, growing_keeps, adopting_
 pub use Rattle.revision.proofs.Changing.{from_itself, from_twice, from_newest, from_longer, step_makes}
 pub use Rattle.revision.proofs.MadeDocuments.{made_more, made_before, made_first, made_rest}
 pub use Rattle.revision.proofs.Replays.{stand-take, stand-drop}
-pub use Rattle.revision.proofs.MovedOn.{late_is_moved, moved_stays, above-count}
+pub use Rattle.revision.proofs.MovedOn.{late_is_moved, undone_is_moved, moved_stays, above-count}
 pub use Rattle.revision.proofs.Folded.{fold-append, limits-fold}
 pub use Rattle.revision.proofs.PendingRecords.{record_at_place}
 pub use Rattle.revision.proofs.OneMore.{none-past}

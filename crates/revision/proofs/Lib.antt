@@ -13,6 +13,7 @@ mod Noted
 mod Outcomes
 pub mod MadeDocuments
 pub mod MovedOn
+mod MadeAhead
 mod Named
 mod Following
 mod Light

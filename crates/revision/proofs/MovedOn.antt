@@ -1,17 +1,20 @@
 -- Edits that were moved on stay so, whatever is taken.
-use Rattle.std.proofs.Common.{◌≡◌, ℕ, zero, suc, ◌+◌, ◌-◌, ◌≤◌, max, Option, Some, None, List, [], ◌∷◌, ◌++◌, length, take, drop, length-append, refl, sym, ap, ap₂, subst, ◌∙◌, arith, true}
-use Rattle.std.specs.Prelude.{slice_get}
+use Rattle.std.proofs.Common.{◌≡◌, ℕ, zero, suc, ◌+◌, ◌-◌, ◌<◌, ◌≤◌, max, Option, Some, None, List, [], ◌∷◌, ◌++◌, length, take, drop, length-append, refl, sym, ap, ap₂, subst, ◌∙◌, arith, true, false}
+use Rattle.std.specs.Prelude.{slice_get, IfSome}
 use Rattle.std.proofs.lemmas.Option.{same_Some}
-use Rattle.std.proofs.lemmas.List.{map-append, length-map, length-drop, take_all, take-append-le, drop-append-le}
+use Rattle.std.proofs.lemmas.List.{map-append, length-map, length-drop, drop-drop, take_all, take-append-le, drop-append-le}
 use Rattle.delta.specs.Operation.{Operation}
 use Rattle.revision.specs.Command.{Step, Edits, Deletes, Revives, Taken}
 use Rattle.xform.specs.After.{second_past}
-use Rattle.revision.specs.Late.{late, HasRoom}
-use Rattle.revision.specs.Past.{Past, Change, newest, deltas_of, deltas_above, with_change, with_step}
+use Rattle.delta.specs.Element.{Element}
+use Rattle.revision.specs.Late.{late, all_inserted, HasRoom}
+use Rattle.compose.specs.Many.{applied}
+use Rattle.revision.specs.Past.{Past, Change, Content, newest, deltas_of, deltas_above, content_at, units_at, undo_of, newest_units, way_back, way_back_late, with_change, with_step}
 use Rattle.revision.specs.State.{DocumentRecord, State, change_of, record_after, find, set_document, grown}
-use Rattle.revision.specs.Moved.{MovedEdit, IsLateIn, IsMovedPast, IsMovedIn, LateIsMoved, MovedStays}
-use Rattle.revision.proofs.Floors.{newest-from, deltas-from}
-use Rattle.revision.proofs.Room.{room-past}
+use Rattle.revision.specs.Moved.{MovedEdit, IsLateIn, IsMovedPast, IsMovedIn, LateIsMoved, UndoneIsMoved, MovedStays}
+use Rattle.revision.proofs.Floors.{content-from, deltas-from}
+use Rattle.revision.proofs.Changing.{step_makes}
+use Rattle.revision.proofs.Room.{room-past, room-back}
 use Rattle.revision.proofs.Taking.{found_at}
 
 -- past some of these and then past the others
@@ -39,6 +42,27 @@ pub past_rest : (count : ℕ) (edit delta : List Operation) (since : List (List 
     → late delta (take (length since - count) (drop count since)) ≡ late edit since
 past_rest count edit delta since is = ap₂ late is (rest_is count since) ∙ past_parts count edit since
 
+-- an undo as of a later revision, past the deltas after that
+pub late_back : (count : ℕ) (units : List Element) (deltas : List (List Operation)) → 0 < length deltas
+    → late (way_back_late units (take (count + 1) deltas)) (drop count (drop 1 deltas)) ≡ way_back_late units deltas
+late_back count units [] some = absurd (omega (arith, some))
+late_back count units (taken ∷ others) some =
+    let more : count + 1 ≡ suc count = omega arith in
+    ap (λ n. late (way_back_late units (take n (taken ∷ others))) (drop count others)) more ∙ past_parts count (way_back units taken) others
+
+pub room_back_late : (count : ℕ) (units : List Element) (deltas : List (List Operation)) → 0 < length deltas → length units + all_inserted deltas ≤ 2 ^ 48
+    → HasRoom (way_back_late units (take (count + 1) deltas)) (drop count (drop 1 deltas))
+room_back_late count units [] some room = absurd (omega (arith, some))
+room_back_late count units (taken ∷ others) some room =
+    let more : suc count ≡ count + 1 = omega arith in
+    subst (λ n. HasRoom (way_back_late units (take n (taken ∷ others))) (drop count others)) more (room_parts count (way_back units taken) others (room-back units taken others room))
+
+-- the deltas above a revision are those above the one before it without the first
+pub above-next : (past : Past) (revision : ℕ) → past.floor < revision → drop 1 (deltas_above past (revision - 1)) ≡ deltas_above past revision
+above-next past revision held =
+    let place : (revision - 1 - past.floor) + 1 ≡ revision - past.floor = omega (arith, held) in
+    drop-drop 1 (revision - 1 - past.floor) (deltas_of past) ∙ ap (λ n. drop n (deltas_of past)) place
+
 -- how many deltas there are above a revision
 pub above-count : (past : Past) (revision : ℕ) → past.floor ≤ revision → revision ≤ newest past → revision + length (deltas_above past revision) ≡ newest past
 above-count past revision held made =
@@ -48,11 +72,32 @@ pub late_is_moved : LateIsMoved
 late_is_moved state l is = record {
   found = is.found;
   there = is.there;
-  past = λ held. (
-    omega (arith, above-count is.found.past l.base is.held is.made, ap length is.since),
-    ap (late l.edit) (is.since ∙ (sym (take_all (length (deltas_above is.found.past l.base)) (deltas_above is.found.past l.base) (omega arith)) ∙ ap (λ since. take (length since) (deltas_above is.found.past l.base)) (sym is.since))),
-  );
+  past = record {
+    made = omega (arith, above-count is.found.past l.base is.held is.made, ap length is.since);
+    moved = λ edits held.
+        ap (late l.edit) (is.since ∙ (sym (take_all (length (deltas_above is.found.past l.base)) (deltas_above is.found.past l.base) (omega arith)) ∙ ap (λ since. take (length since) (deltas_above is.found.past l.base)) (sym is.since)));
+    back = λ undoes. absurd (cc);
+    on = λ now. tt;
+  };
 }
+
+pub undone_is_moved : UndoneIsMoved
+undone_is_moved state l is =
+    let past : Past = is.found.past in
+    let above : List (List Operation) = deltas_above past (l.revision - 1) in
+    let count : (l.revision - 1) + length above ≡ newest past = above-count past (l.revision - 1) (omega (arith, is.held)) (omega (arith, is.held, is.made)) in
+    let as_many : length l.deltas ≡ length above = ap length is.deltas in
+    let all : length above ≤ length l.deltas - 1 + 1 = omega (arith, as_many) in
+    record {
+      found = is.found;
+      there = is.there;
+      past = record {
+        made = omega (arith, count, as_many, is.held, is.made);
+        moved = λ edits. absurd (cc);
+        back = λ undoes held. ap₂ way_back_late is.before (is.deltas ∙ sym (take_all (length l.deltas - 1 + 1) above all));
+        on = λ now. is.units;
+      };
+    }
 
 -- the first deltas above a revision stay where there is one more
 first-stay : (past : Past) (change : Change) (revision count : ℕ) → past.floor ≤ revision → revision + count ≤ newest past
@@ -67,27 +112,70 @@ first-stay past change revision count held made =
     ∙ (ap (take count) (drop-append-le k deltas (change.delta ∷ []) inside) ∙ take-append-le count (drop k deltas) (change.delta ∷ []) enough)
 
 module _ (m : MovedEdit) (past : Past) (is : IsMovedPast past m) (change : Change) where
-  moved-change : (keep : ℕ) → IsMovedPast (with_change keep past change) m
-  moved-change keep held =
-      let more : Past = record past { changes = past.changes ++ change ∷ [] } in
-      let floor : ℕ = max past.floor (newest past + 1 - keep) in
-      let one-more : newest more ≡ newest past + 1 = omega (arith, length-append past.changes (change ∷ [])) in
-      let above : past.floor ≤ floor = omega arith in
-      let reached : floor ≤ newest more = omega (arith, one-more) in
-      let below : past.floor ≤ m.base = omega (arith, above, held) in
-      let before = is below in (
-        omega (arith, before.0, one-more, newest-from more floor above reached),
-        before.1 ∙ ap (late m.edit) (sym (ap (take m.count) (deltas-from more floor above m.base held) ∙ first-stay past change m.base m.count below before.0)),
-      )
+  -- where it was looked at, something was taken since
+  no-longer : (after : Past) → newest after ≡ newest past + 1 → m.base + m.count ≡ newest after → ⊥
+  no-longer after one-more now = omega (arith, one-more, now, is.made)
 
-  -- no base from before is held any more
-  moved-away : newest past + 1 ≤ m.base → ⊥
-  moved-away held = omega (arith, held, (is (omega (arith, held))).0)
+  module _ (keep : ℕ) where
+    more : Past
+    more = record past { changes = past.changes ++ change ∷ [] }
+
+    floor : ℕ
+    floor = max past.floor (newest past + 1 - keep)
+
+    one-more : newest more ≡ newest past + 1
+    one-more = omega (arith, length-append past.changes (change ∷ []))
+
+    above : past.floor ≤ floor
+    above = omega arith
+
+    moved-then : m.undoes ≡ false → floor ≤ m.base → m.delta ≡ late m.edit (take m.count (deltas_above (with_change keep past change) m.base))
+    moved-then edits held =
+        is.moved edits (omega (arith, above, held))
+        ∙ ap (late m.edit) (sym (ap (take m.count) (deltas-from more floor above m.base held) ∙ first-stay past change m.base m.count (omega (arith, above, held)) is.made))
+
+    -- what stands before the base stays too
+    before-then : floor < m.base → (content_at (with_change keep past change) (m.base - 1)).units ≡ (content_at past (m.base - 1)).units
+    before-then held =
+        let k : ℕ = m.base - 1 - past.floor in
+        let within : k ≤ length (deltas_of past) = omega (arith, is.made, above, held, length-map past.changes (λ (c : Change). c.delta)) in
+        ap (λ (c : Content). c.units) (content-from more floor above (m.base - 1) (omega (arith, held)))
+        ∙ ap (applied past.content.units)
+        (ap (take k) (map-append (λ (c : Change). c.delta) past.changes (change ∷ [])) ∙ take-append-le k (deltas_of past) (change.delta ∷ []) within)
+
+    back-then : m.undoes ≡ true → floor < m.base
+        → m.delta ≡ way_back_late (content_at (with_change keep past change) (m.base - 1)).units (take (m.count + 1) (deltas_above (with_change keep past change) (m.base - 1)))
+    back-then undoes held =
+        is.back undoes (omega (arith, above, held))
+        ∙ ap₂ way_back_late (sym (before-then held))
+        (sym (ap (take (m.count + 1)) (deltas-from more floor above (m.base - 1) (omega (arith, held)))
+        ∙ first-stay past change (m.base - 1) (m.count + 1) (omega (arith, above, held)) (omega (arith, is.made, above, held))))
 
   moved-step : (keep : ℕ) (step : Step) → IsMovedPast (with_step keep past step change) m
-  moved-step keep Edits = moved-change keep
-  moved-step keep Deletes = λ held. absurd (moved-away held)
-  moved-step keep Revives = λ held. absurd (moved-away held)
+  moved-step keep Edits =
+      let then : newest (with_change keep past change) ≡ newest past + 1 = (step_makes keep past Edits change).0 in
+      record {
+        made = omega (arith, is.made, then);
+        moved = moved-then keep;
+        back = back-then keep;
+        on = λ now. absurd (no-longer (with_change keep past change) then now);
+      }
+  moved-step keep Deletes =
+      let then : newest (with_step keep past Deletes change) ≡ newest past + 1 = (step_makes keep past Deletes change).0 in
+      record {
+        made = omega (arith, is.made, then);
+        moved = λ edits held. absurd (omega (arith, held, is.made));
+        back = λ undoes held. absurd (omega (arith, held, is.made));
+        on = λ now. absurd (no-longer (with_step keep past Deletes change) then now);
+      }
+  moved-step keep Revives =
+      let then : newest (with_step keep past Revives change) ≡ newest past + 1 = (step_makes keep past Revives change).0 in
+      record {
+        made = omega (arith, is.made, then);
+        moved = λ edits held. absurd (omega (arith, held, is.made));
+        back = λ undoes held. absurd (omega (arith, held, is.made));
+        on = λ now. absurd (no-longer (with_step keep past Revives change) then now);
+      }
 
 -- it is so of the document of its number among these
 record IsMovedAmong (documents : List DocumentRecord) (number : ℕ) (m : MovedEdit) : Type 0 where
@@ -150,3 +238,44 @@ late_here state name number found base edit here held made = record {
   made = made;
   since = refl;
 }
+
+-- an undo that was made ahead, where the past holds what it takes back
+module _ (past : Past) (m : MovedEdit) (is : IsMovedPast past m) (undoes : m.undoes ≡ true) (revision : ℕ) (base : m.base ≡ revision)
+    (held : past.floor < revision) (there : revision ≤ newest past) where
+  abbrev before : List Element
+  before = units_at past.floor past.content.units (deltas_of past) (revision - 1)
+
+  abbrev above : List (List Operation)
+  above = deltas_above past (revision - 1)
+
+  above-long : (revision - 1) + length above ≡ newest past
+  above-long = above-count past (revision - 1) (omega (arith, held)) (omega (arith, there))
+
+  some : 0 < length above
+  some = omega (arith, above-long, held, there)
+
+  as-of : m.delta ≡ way_back_late before (take (m.count + 1) above)
+  as-of =
+      subst (λ r. m.delta ≡ way_back_late (units_at past.floor past.content.units (deltas_of past) (r - 1)) (take (m.count + 1) (deltas_above past (r - 1)))) base
+      (is.back undoes (subst (λ r. past.floor < r) (sym base) held))
+
+  pub since-long : revision + length (deltas_above past revision) ≡ newest past
+  since-long = above-count past revision (omega (arith, held)) there
+
+  pub since-count : m.count ≤ length (deltas_above past revision)
+  since-count = omega (arith, is.made, base, since-long)
+
+  pub undo-past : late m.delta (drop m.count (deltas_above past revision)) ≡ undo_of past.floor past.content.units (deltas_of past) revision
+  undo-past =
+      ap₂ (λ d (l : List (List Operation)). late d (drop m.count l)) as-of (sym (above-next past revision held)) ∙ late_back m.count before above some
+
+  pub undo-room : ((count : ℕ) → HasRoom (way_back_late before (take (count + 1) above)) (drop count (deltas_above past revision)))
+      → HasRoom m.delta (drop m.count (deltas_above past revision))
+  undo-room room = subst (λ d. HasRoom d (drop m.count (deltas_above past revision))) (sym as-of) (room m.count)
+
+  pub undo-whole : m.count ≡ length (deltas_above past revision) → m.delta ≡ undo_of past.floor past.content.units (deltas_of past) revision
+  undo-whole whole =
+      as-of ∙ ap (way_back_late before) (take_all (m.count + 1) above (omega (arith, whole, above-long, since-long, held)))
+
+  pub undo-on : m.count ≡ length (deltas_above past revision) → IfSome m.units (λ units. units ≡ newest_units past)
+  undo-on whole = is.on (omega (arith, whole, base, since-long))

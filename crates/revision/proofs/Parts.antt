@@ -134,6 +134,15 @@ module _ (parts : Parts) (is : AreParts parts) (now : Prepared) (same : seen par
       let short = short-between (revision - parts.start) parts.count parts.units parts.deltas is.short in
       room_for_undo _ _ (short-first _ _ short) few (short-inserts _ _ stand short)
 
+  pub undo_room_seen : length (content_at now.past revision).units + all_inserted (deltas_above now.past revision) ≤ 2 ^ 48
+  undo_room_seen = omega (arith, undo_room, ap length before_is, ap all_inserted left_is)
+
+  pub left_seen : drop (revision - parts.start) (take parts.count parts.deltas) ≡ deltas_above now.past revision
+  left_seen = sym left_is
+
+  pub before_seen : applied parts.units (take (revision - parts.start) (take parts.count parts.deltas)) ≡ (content_at now.past revision).units
+  before_seen = sym before_is
+
   -- and what undoes the change after it is computed from what is kept
   pub undo_is : way_back_late (applied parts.units (take (revision - parts.start) (take parts.count parts.deltas))) (drop (revision - parts.start) (take parts.count parts.deltas))
       ≡ way_back_late (content_at now.past revision).units (deltas_above now.past revision)

@@ -226,6 +226,21 @@ module _ (state : State) (number : ℕ) (found : DocumentRecord) (command : Comm
       let live = lives (is_live found) (delete state number found command) taken next.1 in
       delete_grows live.0 next.0 live.1
 
+-- what is taken of an undo is the next revision by the delta that undoes its source's last one
+pub undo_taken : (state : State) (number : ℕ) (found : DocumentRecord) (command : Command) (taken : Taken)
+    → answer_to state command Undo (Some (number, found)) ≡ Takes taken
+    → taken ≡ next_revision number found command Edits
+    (undo_of found.past.floor found.past.content.units (deltas_of found.past) (last_revision (window_of command.source (sources_of found))))
+undo_taken state number found command taken h =
+    let window : Window = window_of command.source (sources_of found) in
+    let asked : Taken = next_revision number found command Edits (undo_of found.past.floor found.past.content.units (deltas_of found.past) (last_revision window)) in
+    let next = number_next window command.number (if_live found (undo state number found command)) taken h in
+    let live = lives (is_live found) (undo state number found command) taken next.1 in
+    let none = passed (window.number == 0) (Refuses NothingToUndo) _ taken (λ e. cc) live.1 in
+    let old = passed (nat_le (last_revision window) found.past.floor) (Refuses TooOld) _ taken (λ e. cc) none.1 in
+    let spent = passed (revision_of found == last_of_all) (Refuses RevisionsSpent) _ taken (λ e. cc) old.1 in
+    sym (taken_kept state.limits (units_of found) (sources_of found) asked taken spent.1).same
+
 fresh_grows : (state : State) (command : Command) (taken : Taken) (action : Action) → find command.name 0 state.documents ≡ None
     → answer_to state command action None ≡ Takes taken → grows state taken ≡ true
 fresh_grows state command taken (Create delta) fresh h = new_grows state command delta taken fresh h

@@ -19,6 +19,7 @@ pub mod Sources
 pub mod Documents
 pub mod Readings
 pub mod Planned
+pub mod Reckoned
 pub mod Invariants
 pub mod steps
 mod Examples

@@ -13,3 +13,4 @@ pub mod Index
 pub mod ChangedAt
 pub mod DocumentsView
 pub mod NameAt
+pub mod Looking

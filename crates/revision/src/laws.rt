@@ -4,7 +4,7 @@ ghost use Rattle.std.specs.Str.{is_utf8};
 ghost use Rattle.utf16.specs.Units.{units_of};
 ghost use Rattle.revision.specs.Spellable.{IsText};
 ghost use Rattle.revision.specs.Acceptance.{TakenGrows};
-ghost use Rattle.revision.specs.Moved.{LateIsMoved, MovedStays};
+ghost use Rattle.revision.specs.Moved.{LateIsMoved, UndoneIsMoved, MovedStays};
 ghost use Rattle.revision.specs.Made.{MadeMore, MadeBefore, MadeFirst, MadeRest};
 ghost use Rattle.revision.specs.Parting.{PartsTold};
 ghost use Rattle.revision.specs.Replay.{PartsStand};
@@ -110,9 +110,10 @@ pub fn made_documents()
     ensures rest { MadeRest }
 {}
 
-/// An edit that is late in a state is moved there by the deltas since its base, and what is moved in a state stays so, whatever is taken
-/// then.
+/// An edit that is late in a state is moved there by the deltas since its base, an undo by those since its revision, and what is moved in a state
+/// stays so, whatever is taken then.
 pub fn moved_edits_stay()
     ensures moved { LateIsMoved }
+    ensures undone { UndoneIsMoved }
     ensures stays { MovedStays }
 {}

@@ -33,7 +33,7 @@ use delta::Delta;
 pub use doc_state::DocState;
 use document::Document;
 use kept_document::Kept;
-pub use moved::{LateEdit, MovedEdit};
+pub use moved::{LateEdit, LateUndo, MovedEdit};
 pub use replaying::Replay;
 pub use sources::Sources;
 pub(crate) use sources::{Found, window_in};

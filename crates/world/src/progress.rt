@@ -98,8 +98,8 @@ impl Progress {
         self.settled
     }
 
-    /// Answers a command by the rule of acceptance, where it is an edit by one that may have been moved on already (`State::plan_moved`). One
-    /// that is taken is put behind the order, and any other leaves all as it stands. The ticket has the reply and the length of the order
+    /// Answers a command by the rule of acceptance, where it is an edit or an undo by one that may have been made ahead (`State::plan_moved`,
+    /// `State::made_ahead`). One that is taken is put behind the order, and any other leaves all as it stands. The ticket has the reply and the length of the order
     /// after it, which has to be settled before the reply may be given, for a retry too. Refused as `State::plan` refuses it, and then nothing
     /// has changed.
     pub fn submit(
@@ -120,7 +120,8 @@ impl Progress {
         let rev = taken.revision();
         self.order.reserve(1)?;
         self.unsettled.reserve(1)?;
-        self.state.add(alloc, &taken)?;
+        let made = self.state.made_ahead(command, &taken, moved);
+        self.state.add_made(alloc, &taken, made)?;
         let entry = Entry::new(command, taken);
         self.order.push(Noted::of(&entry))?;
         self.unsettled.push(entry)?;

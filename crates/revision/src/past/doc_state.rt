@@ -1,15 +1,16 @@
 //! A document as a state holds it.
-ghost use Rattle.std.specs.Prelude.{◌≡◌, ◌+◌, ◌≤◌, ◌<◌, ◌^◌, ◌∷◌, ◌++◌, ◌-◌, true, [], length, is_some, unwrap_or, IfOk, IfSome, OnOk, OnErr};
+ghost use Rattle.std.specs.Prelude.{◌≡◌, ◌+◌, ◌≤◌, ◌<◌, ◌^◌, ◌∷◌, ◌++◌, ◌-◌, true, [], length, take, drop, is_some, unwrap_or, IfOk, IfSome, OnOk, OnErr};
 ghost use Rattle.delta.specs.Operation.{base_of, out_of};
 ghost use Rattle.delta.specs.Gaps.{counted, apply};
 ghost use Rattle.revision.specs.Floors.{raised};
-ghost use Rattle.revision.specs.Late.{late as late_edit, HasCommandRoom};
+ghost use Rattle.revision.specs.Late.{late as late_edit, all_inserted, HasCommandRoom};
 ghost use Rattle.compose.specs.Many.{applied};
 ghost use Rattle.revision.specs.Moved.{IsMovedPast};
-ghost use Rattle.revision.specs.Past.{empty_past, StandInTurn, newest, content_at, sources_at, deltas_of, deltas_above, undo_of, is_content, suits as spec_suits, units_after, next_by, with_steps, prepared_content, prepared_units, prepared_revision};
+ghost use Rattle.revision.specs.Past.{empty_past, StandInTurn, newest, units_at, content_at, sources_at, deltas_of, deltas_above, undo_of, is_content, suits as spec_suits, units_after, next_by, with_steps, prepared_content, prepared_units, prepared_revision};
 ghost use Rattle.document.specs.Outcome.{IsAccepted};
 ghost use Rattle.revision.specs.Replay.{IsReplay};
 ghost use Rattle.revision.specs.Invariants.{IsLimits};
+ghost use Rattle.revision.specs.Reckoned.{IsReckoned};
 ghost use Rattle.attributes.specs.Map.{get};
 ghost use Rattle.revision.specs.Name.{is_source_name};
 ghost use Rattle.revision.specs.Sources.{window_of};
@@ -23,7 +24,8 @@ use super::noting::{Change, after_taken, change_on, note, note_on};
 use super::replaying::Replay;
 use super::source_table::SourceTable;
 use super::sources::{Found, Sources};
-use crate::rule::{Limits, Name, Taken, Window};
+use super::undoing::WayBack;
+use crate::rule::{Limits, Name, Reckoned, Taken, Window};
 use delta::Delta;
 use document::Document;
 use std::alloc::{AllocError, Global};
@@ -432,5 +434,77 @@ impl DocState {
             revision) }
     {
         self.past.undo(alloc, revision)
+    }
+
+    // What the undo of a revision above the floor is made of, as `Past::way_back` gives it.
+    pub(crate) fn way_back(&self, alloc: Global, revision: u64) -> Result<WayBack, AllocError>
+        requires held { self.now.past.past.floor < revision }
+        requires there { revision ≤ newest self.now.past.past }
+        ensures stand { IfOk result (λ way. StandInTurn way.document way.deltas.items) }
+        ensures held { IfOk result (λ way. way.place < length way.deltas.items) }
+        ensures room { IfOk result (λ way. length (applied way.document (take way.place way.deltas.items))
+            + all_inserted (drop way.place way.deltas.items) ≤ 2 ^ 48) }
+        ensures before { IfOk result (λ way. applied way.document (take way.place way.deltas.items)
+            ≡ units_at self.now.past.past.floor self.now.past.past.content.units (deltas_of self.now.past.past)
+            (revision - 1)) }
+        ensures after { IfOk result (λ way. drop way.place way.deltas.items ≡ deltas_above self.now.past.past (revision - 1)) }
+    {
+        self.past.way_back(alloc, revision)
+    }
+
+    // The delta that undoes a revision, as `undo` gives it, with what is reckoned of it on the document, where the undo may have been made ahead. That of another document or revision is
+    // left aside, and what was reckoned is used only where nothing was taken since.
+    pub(crate) fn undone_by(
+        &self,
+        alloc: Global,
+        number: u32,
+        revision: u64,
+        moved: Option<&MovedEdit>,
+    ) -> Result<(Delta, Reckoned), AllocError>
+        requires held { self.now.past.past.floor < revision }
+        requires there { revision ≤ newest self.now.past.past }
+        requires moved { IfSome moved (λ m. m.now.document ≡ number → IsMovedPast self.now.past.past m.now) }
+        ensures undo { IfOk result (λ back. back.0
+            ≡ undo_of self.now.past.past.floor self.now.past.past.content.units (deltas_of self.now.past.past)
+            revision) }
+        ensures reckoned { IfOk result (λ back. IsReckoned (units_of (record_of self.now)) back.0 back.1) }
+    {
+        if let Some(moved) = moved {
+            if moved.is_undo_of(number, revision) {
+                return self.undone_after(alloc, revision, moved);
+            }
+        }
+        let back = self.undo(alloc, revision)?;
+        let reckoned = Reckoned::on(&self.document, &back);
+        Ok((back, reckoned))
+    }
+
+    // The same by an undo of this revision that was made ahead.
+    fn undone_after(
+        &self,
+        alloc: Global,
+        revision: u64,
+        moved: &MovedEdit,
+    ) -> Result<(Delta, Reckoned), AllocError>
+        requires held { self.now.past.past.floor < revision }
+        requires there { revision ≤ newest self.now.past.past }
+        requires moved { IsMovedPast self.now.past.past moved.now }
+        requires undoes { moved.now.undoes ≡ true }
+        requires base { moved.now.base ≡ revision }
+        ensures undo { IfOk result (λ back. back.0
+            ≡ undo_of self.now.past.past.floor self.now.past.past.content.units (deltas_of self.now.past.past)
+            revision) }
+        ensures reckoned { IfOk result (λ back. IsReckoned (units_of (record_of self.now)) back.0 back.1) }
+    {
+        let since = self.past.since_undone(revision);
+        if moved.count() == since.len() {
+            if let Some(reckoned) = moved.reckoned() {
+                let back = moved.copy_of_delta(alloc)?;
+                return Ok((back, reckoned));
+            }
+        }
+        let back = moved.undo_past(alloc, since)?;
+        let reckoned = Reckoned::on(&self.document, &back);
+        Ok((back, reckoned))
     }
 }

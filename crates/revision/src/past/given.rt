@@ -72,6 +72,19 @@ impl<'a> Given<'a> {
         }
     }
 
+    /// A command that is lent, and continues what was prepared, with the document that it leaves, where that is at hand.
+    pub(crate) fn continuing_with(taken: &'a Taken, made: Option<&'a Document>) -> Given<'a>
+        ensures command { command_of result.command ≡ taken.now }
+        ensures given { (state : StateValue) → grows state taken.now ≡ true
+            → IfSome made.entry (λ document. IsMade state taken.now document.now) → IsGiven state result }
+    {
+        Given {
+            command: Handed::Lent(taken),
+            continues: true,
+            made,
+        }
+    }
+
     /// A command that is given away.
     pub(crate) fn owned(taken: Taken) -> Given<'a>
         ensures command { command_of result.command ≡ taken }

@@ -1,6 +1,6 @@
 //! What was taken is added to the state.
-ghost use Rattle.std.specs.Prelude.{◌≡◌, ◌↔◌, ◌⊎◌, true, false, IfOk, IfErr, OnOk, OnErr, IsErrOf};
-ghost use Rattle.revision.specs.Made.{AreMade};
+ghost use Rattle.std.specs.Prelude.{◌≡◌, ◌↔◌, ◌⊎◌, true, false, IfSome, IfOk, IfErr, OnOk, OnErr, IsErrOf};
+ghost use Rattle.revision.specs.Made.{AreMade, IsMade};
 ghost use Rattle.revision.specs.State.{grows, grown, fold, all_grow, first_grows};
 
 use super::given::Given;
@@ -71,6 +71,27 @@ impl State {
         ensures unchanged { OnErr result (self.new ≡ self.old) }
     {
         if let Err(refusal) = self.documents.prepare(alloc, Given::continuing(taken)) {
+            return Err(refusal.as_alloc_error());
+        }
+        self.documents.accept();
+        self.documents.prune(alloc, taken.document_number());
+        Ok(())
+    }
+
+    /// Adds a command that continues the state, as `add` does. The document that it leaves may be given: it is then taken over, and not made.
+    pub fn add_made(
+        &mut self,
+        alloc: Global,
+        taken: &Taken,
+        made: Option<&Document>,
+    ) -> Result<(), AllocError>
+        requires grow { grows self.old taken.now ≡ true }
+        requires made { IfSome made (λ document. IsMade self.old taken.now document.now) }
+        ensures ok { OnOk result (self.new ≡ grown self.old taken.now) }
+        ensures unchanged { OnErr result (self.new ≡ self.old) }
+    {
+        let given = Given::continuing_with(taken, made);
+        if let Err(refusal) = self.documents.prepare(alloc, given) {
             return Err(refusal.as_alloc_error());
         }
         self.documents.accept();

@@ -428,5 +428,16 @@ pub(crate) fn edit_width(source: &Name, delta: &Delta) -> u64
     ensures width { result ≡ min (23 + length source.now + 0 + wide.delta_width delta.now) (2 ^ 64 - 1) }
     ensures short { result < 2 ^ 32 → IsSpellable delta.now }
 {
-    delta_width(delta).saturating_add(23 + source.len())
+    edit_width_by(source, delta, delta_width(delta))
+}
+
+/// The same where it is known how many bytes the delta's spelling has.
+pub(crate) fn edit_width_by(source: &Name, delta: &Delta, width: u64) -> u64
+    requires width { width ≡ min (wide.delta_width delta.now) (2 ^ 64 - 1) }
+    requires short { width < 2 ^ 32 → IsSpellable delta.now }
+    ensures width { result ≡ min (23 + length source.now + 0 + wide.delta_width delta.now) (2 ^ 64 - 1) }
+    ensures short { result < 2 ^ 32 → IsSpellable delta.now }
+{
+    let _ = delta;
+    width.saturating_add(23 + source.len())
 }

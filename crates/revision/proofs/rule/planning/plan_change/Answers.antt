@@ -17,7 +17,7 @@ returns-in-Err-clause-due c =
     inr (change_answers c.args.state.now c.args.command.now c.args.delta c.limits-limits.result c.document.result.now c.sources.result.now c.limits-limits.ensures.limits
     c.args.number (record_of c.args.found.now) c.document.ensures c.sources.ensures (Refuses c.in-Err.refusal) fresh
     (c.in-Err.ensures.err asked
-    (asked_next c.args.number (record_of c.args.found.now) c.args.command.now c.document.result.now c.args.delta c.source-source.result.now c.edit_width-width.result c.source-source.ensures.source c.edit_width-width.ensures.width)))
+    (asked_next c.args.number (record_of c.args.found.now) c.args.command.now c.document.result.now c.args.delta c.source-source.result.now c.edit_width_by-width.result c.source-source.ensures.source c.edit_width_by-width.ensures.width)))
 
 pub returns-clause-due : goal.returns-clause-due
 returns-clause-due c =
@@ -30,7 +30,7 @@ returns-clause-due c =
     change_answers c.args.state.now c.args.command.now c.args.delta c.limits-limits.result c.document.result.now c.sources.result.now c.limits-limits.ensures.limits
     c.args.number (record_of c.args.found.now) c.document.ensures c.sources.ensures (Takes asked) fresh
     (c.in_default.ensures.ok asked
-    (asked_next c.args.number (record_of c.args.found.now) c.args.command.now c.document.result.now c.args.delta c.source-source.result.now c.edit_width-width.result c.source-source.ensures.source c.edit_width-width.ensures.width))
+    (asked_next c.args.number (record_of c.args.found.now) c.args.command.now c.document.result.now c.args.delta c.source-source.result.now c.edit_width_by-width.result c.source-source.ensures.source c.edit_width_by-width.ensures.width))
     ∙ ap Takes (same ∙ sym c.with_width.ensures ∙ sym c.placed.ensures)
 
 pub returns-in_err-source-clause-memory : goal.returns-in_err-source-clause-memory
@@ -41,7 +41,7 @@ returns-in_err-source-clause-memory c =
     ap takes_command (change_answers c.args.state.now c.args.command.now c.args.delta c.limits-limits.result c.document.result.now c.sources.result.now c.limits-limits.ensures.limits
     c.args.number (record_of c.args.found.now) c.document.ensures c.sources.ensures (Takes asked) fresh
     (c.in_default.ensures.ok asked
-    (asked_next c.args.number (record_of c.args.found.now) c.args.command.now c.document.result.now c.args.delta c.source-source.result.now c.edit_width-width.result c.source-source.ensures.source c.edit_width-width.ensures.width)))
+    (asked_next c.args.number (record_of c.args.found.now) c.args.command.now c.document.result.now c.args.delta c.source-source.result.now c.edit_width_by-width.result c.source-source.ensures.source c.edit_width_by-width.ensures.width)))
 
 pub returns-in_err-delta-clause-memory : goal.returns-in_err-delta-clause-memory
 returns-in_err-delta-clause-memory c =
@@ -51,7 +51,7 @@ returns-in_err-delta-clause-memory c =
     ap takes_command (change_answers c.args.state.now c.args.command.now c.args.delta c.limits-limits.result c.document.result.now c.sources.result.now c.limits-limits.ensures.limits
     c.args.number (record_of c.args.found.now) c.document.ensures c.sources.ensures (Takes asked) fresh
     (c.in_default.ensures.ok asked
-    (asked_next c.args.number (record_of c.args.found.now) c.args.command.now c.document.result.now c.args.delta c.source-source.result.now c.edit_width-width.result c.source-source.ensures.source c.edit_width-width.ensures.width)))
+    (asked_next c.args.number (record_of c.args.found.now) c.args.command.now c.document.result.now c.args.delta c.source-source.result.now c.edit_width_by-width.result c.source-source.ensures.source c.edit_width_by-width.ensures.width)))
 
 abbrev reckoned : Taken → ℕ
 reckoned t = min (width_of t) (2 ^ 64 - 1)
@@ -59,7 +59,7 @@ reckoned t = min (width_of t) (2 ^ 64 - 1)
 pub with_width-requires : goal.with_width-requires
 with_width-requires c =
     record {
-      width = c.edit_width-width.ensures.width
+      width = c.edit_width_by-width.ensures.width
           ∙ sym (ap reckoned c.edit-taken.ensures
           ∙ ap₂ (λ (s : List ℕ) (d : List Operation). min (23 + length s + 0 + delta_width d) (2 ^ 64 - 1)) c.in_ok-source.ensures.ok c.in_ok-delta.ensures.same);
     }

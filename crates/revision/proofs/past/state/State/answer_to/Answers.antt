@@ -17,6 +17,8 @@ plan_edit-requires-clause-moved c =
 pub plan_undo-requires : goal.plan_undo-requires
 plan_undo-requires c = record {
   past = found_past c.args.self.now c.name.result.now c.in-Some-found-2.number (record_of c.in-Some-found-2.found.now) c.facts.ensures.state (sym c.in-Some-found-2.ensures);
+  moved = IfSome_then c.args.moved c.requires.moved
+      (λ m is. moved_here c.args.self.now c.name.result.now c.in-Some-found-2.number (record_of c.in-Some-found-2.found.now) m.now is (sym c.in-Some-found-2.ensures));
 }
 
 pub plan_existing-requires : goal.plan_existing-requires
