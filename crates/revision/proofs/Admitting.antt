@@ -1,5 +1,5 @@
 -- What the answers to edits and undos stand on: what a source has, and what is taken on a document.
-use Rattle.std.proofs.Common.{◌≡◌, ℕ, ◌+◌, ◌-◌, ◌^◌, ◌<◌, ◌≤◌, ◌⊎◌, ◌↔◌, ⊎_elim, min, IfOk, inl, inr, Result, Ok, Err, true, false, List, [], length, Option, Some, None, refl, sym, ap, subst, ◌∙◌, arith}
+use Rattle.std.proofs.Common.{◌≡◌, ℕ, ◌+◌, ◌-◌, ◌^◌, ◌<◌, ◌≤◌, ◌⊎◌, ◌↔◌, ⊎_elim, min, cond, Bool, IfOk, inl, inr, Result, Ok, Err, true, false, List, [], length, Option, Some, None, refl, sym, ap, subst, ◌∙◌, arith}
 use Rattle.std.specs.Prelude.{◌==◌, nat_le, nat_lt, unwrap_or}
 use Rattle.refusal.specs.declared.Refusal.{Refusal}
 use Rattle.refusal.specs.declared.Refusal.TheVariants.{PastEnd, CutsPair, TooHeavy, TooWide, Stranger, NoMemory}
@@ -12,7 +12,7 @@ use Rattle.document.specs.Weight as document
 use Rattle.revision.specs.Acceptance.{Answer, answer, reply_and_state, TakenAt, take_on, take_within, Takes, Repeats, Refuses, change, create_new, create_next, delete_next, next_revision, creation}
 use Rattle.revision.specs.Command.{Action, Create, Edit, Undo, Delete, Command, Step, Edits, Deletes, Revives, Taken, name_width, step_width, width_of}
 use Rattle.revision.specs.Parting.{parts_pair}
-use Rattle.revision.specs.Planned.{IsAsked, IsDeletion, Gives, PlanGrows, IsDecided, may_want_memory}
+use Rattle.revision.specs.Planned.{IsAsked, IsDeletion, Gives, PlanGrows, IsDecided, rests_on_delta, may_want_memory}
 use Rattle.revision.specs.declared.rule.planning.Reply as replied
 use Rattle.revision.specs.declared.rule.planning.Reply.TheVariants as replies
 use Rattle.revision.specs.declared.rule.planning.Plan as program
@@ -309,3 +309,19 @@ taken_without_memory state command plan taken is due = now (subst (λ p. Gives (
   where
     now : answer state command ≡ Takes taken → may_want_memory command.action (answer state command) ≡ true
     now takes = ap (may_want_memory command.action) takes ∙ taken_may_want command.action taken
+
+-- where the newest revision isn't the last that there is, the answer to a change rests on its delta
+pub rests_on_change : (state : State) (number : ℕ) (found : DocumentRecord) (command : Command) (delta : List Operation) → (revision_of found == last_of_all) ≡ false
+    → rests_on_delta (change state number found command delta) ≡ true
+rests_on_change state number found command delta fresh =
+    let asked : Taken = next_revision number found command Edits delta in
+    rw fresh (rests (reaches_past asked.delta (units_of found)) (parts_pair asked.delta (units_of found))
+    (nat_lt state.limits.weight (weight_after state.limits (units_of found) (sources_of found) asked)) (nat_lt state.limits.width (width_of asked)) asked)
+  where
+    rests : (past cut heavy wide : Bool) (taken : Taken)
+        → rests_on_delta (cond past (Refuses PastEnd) (cond cut (Refuses CutsPair) (cond heavy (Refuses TooHeavy) (cond wide (Refuses TooWide) (Takes taken))))) ≡ true
+    rests true cut heavy wide taken = refl
+    rests false true heavy wide taken = refl
+    rests false false true wide taken = refl
+    rests false false false true taken = refl
+    rests false false false false taken = refl

@@ -1,6 +1,10 @@
 -- Edits that were moved on stay so, whatever is taken.
-use Rattle.std.proofs.Common.{◌≡◌, ℕ, zero, suc, ◌+◌, ◌-◌, ◌<◌, ◌≤◌, max, Option, Some, None, List, [], ◌∷◌, ◌++◌, length, take, drop, length-append, refl, sym, ap, ap₂, subst, ◌∙◌, arith, true, false}
-use Rattle.std.specs.Prelude.{slice_get, IfSome}
+use Rattle.std.proofs.Common.{◌≡◌, ℕ, zero, suc, ◌+◌, ◌-◌, ◌<◌, ◌≤◌, ◌^◌, max, Option, Some, None, List, [], ◌∷◌, ◌++◌, length, take, drop, length-append, refl, sym, ap, ap₂, subst, ◌∙◌, arith, true, false}
+use Rattle.std.specs.Prelude.{slice_get, IfSome, MatchOption}
+use Rattle.std.specs.Borrow.{Bor}
+use Rattle.delta.specs.Gaps.{counted, apply}
+use Rattle.revision.specs.Reckoned.{IsReckoned}
+use Rattle.revision.specs.declared.rule.reckoned.Reckoned.{Reckoned}
 use Rattle.std.proofs.lemmas.Option.{same_Some}
 use Rattle.std.proofs.lemmas.List.{map-append, length-map, length-drop, drop-drop, take_all, take-append-le, drop-append-le}
 use Rattle.delta.specs.Operation.{Operation}
@@ -117,38 +121,38 @@ module _ (m : MovedEdit) (past : Past) (is : IsMovedPast past m) (change : Chang
   no-longer after one-more now = omega (arith, one-more, now, is.made)
 
   module _ (keep : ℕ) where
-    more : Past
-    more = record past { changes = past.changes ++ change ∷ [] }
+    abbrev longer : Past
+    longer = record past { changes = past.changes ++ change ∷ [] }
 
-    floor : ℕ
-    floor = max past.floor (newest past + 1 - keep)
+    abbrev higher : ℕ
+    higher = max past.floor (newest past + 1 - keep)
 
-    one-more : newest more ≡ newest past + 1
+    one-more : newest longer ≡ newest past + 1
     one-more = omega (arith, length-append past.changes (change ∷ []))
 
-    above : past.floor ≤ floor
+    above : past.floor ≤ higher
     above = omega arith
 
-    moved-then : m.undoes ≡ false → floor ≤ m.base → m.delta ≡ late m.edit (take m.count (deltas_above (with_change keep past change) m.base))
+    moved-then : m.undoes ≡ false → higher ≤ m.base → m.delta ≡ late m.edit (take m.count (deltas_above (with_change keep past change) m.base))
     moved-then edits held =
         is.moved edits (omega (arith, above, held))
-        ∙ ap (late m.edit) (sym (ap (take m.count) (deltas-from more floor above m.base held) ∙ first-stay past change m.base m.count (omega (arith, above, held)) is.made))
+        ∙ ap (late m.edit) (sym (ap (take m.count) (deltas-from longer higher above m.base held) ∙ first-stay past change m.base m.count (omega (arith, above, held)) is.made))
 
     -- what stands before the base stays too
-    before-then : floor < m.base → (content_at (with_change keep past change) (m.base - 1)).units ≡ (content_at past (m.base - 1)).units
+    before-then : higher < m.base → (content_at (with_change keep past change) (m.base - 1)).units ≡ (content_at past (m.base - 1)).units
     before-then held =
         let k : ℕ = m.base - 1 - past.floor in
         let within : k ≤ length (deltas_of past) = omega (arith, is.made, above, held, length-map past.changes (λ (c : Change). c.delta)) in
-        ap (λ (c : Content). c.units) (content-from more floor above (m.base - 1) (omega (arith, held)))
+        ap (λ (c : Content). c.units) (content-from longer higher above (m.base - 1) (omega (arith, held)))
         ∙ ap (applied past.content.units)
         (ap (take k) (map-append (λ (c : Change). c.delta) past.changes (change ∷ [])) ∙ take-append-le k (deltas_of past) (change.delta ∷ []) within)
 
-    back-then : m.undoes ≡ true → floor < m.base
+    back-then : m.undoes ≡ true → higher < m.base
         → m.delta ≡ way_back_late (content_at (with_change keep past change) (m.base - 1)).units (take (m.count + 1) (deltas_above (with_change keep past change) (m.base - 1)))
     back-then undoes held =
         is.back undoes (omega (arith, above, held))
         ∙ ap₂ way_back_late (sym (before-then held))
-        (sym (ap (take (m.count + 1)) (deltas-from more floor above (m.base - 1) (omega (arith, held)))
+        (sym (ap (take (m.count + 1)) (deltas-from longer higher above (m.base - 1) (omega (arith, held)))
         ∙ first-stay past change (m.base - 1) (m.count + 1) (omega (arith, above, held)) (omega (arith, is.made, above, held))))
 
   moved-step : (keep : ℕ) (step : Step) → IsMovedPast (with_step keep past step change) m
@@ -242,19 +246,19 @@ late_here state name number found base edit here held made = record {
 -- an undo that was made ahead, where the past holds what it takes back
 module _ (past : Past) (m : MovedEdit) (is : IsMovedPast past m) (undoes : m.undoes ≡ true) (revision : ℕ) (base : m.base ≡ revision)
     (held : past.floor < revision) (there : revision ≤ newest past) where
-  abbrev before : List Element
-  before = units_at past.floor past.content.units (deltas_of past) (revision - 1)
+  abbrev stood : List Element
+  stood = units_at past.floor past.content.units (deltas_of past) (revision - 1)
 
-  abbrev above : List (List Operation)
-  above = deltas_above past (revision - 1)
+  abbrev onward : List (List Operation)
+  onward = deltas_above past (revision - 1)
 
-  above-long : (revision - 1) + length above ≡ newest past
-  above-long = above-count past (revision - 1) (omega (arith, held)) (omega (arith, there))
+  onward-long : (revision - 1) + length onward ≡ newest past
+  onward-long = above-count past (revision - 1) (omega (arith, held)) (omega (arith, there))
 
-  some : 0 < length above
-  some = omega (arith, above-long, held, there)
+  some : 0 < length onward
+  some = omega (arith, onward-long, held, there)
 
-  as-of : m.delta ≡ way_back_late before (take (m.count + 1) above)
+  as-of : m.delta ≡ way_back_late stood (take (m.count + 1) onward)
   as-of =
       subst (λ r. m.delta ≡ way_back_late (units_at past.floor past.content.units (deltas_of past) (r - 1)) (take (m.count + 1) (deltas_above past (r - 1)))) base
       (is.back undoes (subst (λ r. past.floor < r) (sym base) held))
@@ -267,15 +271,29 @@ module _ (past : Past) (m : MovedEdit) (is : IsMovedPast past m) (undoes : m.und
 
   pub undo-past : late m.delta (drop m.count (deltas_above past revision)) ≡ undo_of past.floor past.content.units (deltas_of past) revision
   undo-past =
-      ap₂ (λ d (l : List (List Operation)). late d (drop m.count l)) as-of (sym (above-next past revision held)) ∙ late_back m.count before above some
+      ap₂ (λ d (l : List (List Operation)). late d (drop m.count l)) as-of (sym (above-next past revision held)) ∙ late_back m.count stood onward some
 
-  pub undo-room : ((count : ℕ) → HasRoom (way_back_late before (take (count + 1) above)) (drop count (deltas_above past revision)))
+  pub undo-room : ((count : ℕ) → HasRoom (way_back_late stood (take (count + 1) onward)) (drop count (deltas_above past revision)))
       → HasRoom m.delta (drop m.count (deltas_above past revision))
   undo-room room = subst (λ d. HasRoom d (drop m.count (deltas_above past revision))) (sym as-of) (room m.count)
 
   pub undo-whole : m.count ≡ length (deltas_above past revision) → m.delta ≡ undo_of past.floor past.content.units (deltas_of past) revision
   undo-whole whole =
-      as-of ∙ ap (way_back_late before) (take_all (m.count + 1) above (omega (arith, whole, above-long, since-long, held)))
+      as-of ∙ ap (way_back_late stood) (take_all (m.count + 1) onward (omega (arith, whole, onward-long, since-long, held)))
 
   pub undo-on : m.count ≡ length (deltas_above past revision) → IfSome m.units (λ units. units ≡ newest_units past)
   undo-on whole = is.on (omega (arith, whole, base, since-long))
+
+-- what is looked at on units is so on equal ones
+pub looked_is : (units : Option (List Element)) (here : List Element) (delta back : List Operation) (result : Option (Bor (List Element))) (P : List Element → Type 0)
+    → MatchOption units (result ≡ None) (λ on. IfSome result (λ after. after.now ≡ apply on (counted delta))) → IfSome units (λ on. on ≡ here) → delta ≡ back
+    → ((after : List Element) → after ≡ apply here (counted back) → P after) → IfSome result (λ after. P after.now)
+looked_is None here delta back result P none on same all = subst (λ r. IfSome r (λ after. P after.now)) (sym none) tt
+looked_is (Some at) here delta back None P has on same all = tt
+looked_is (Some at) here delta back (Some after) P has on same all = all after.now (has ∙ ap₂ (λ y e. apply y (counted e)) on same)
+
+pub reckoned_is : (units : Option (List Element)) (here : List Element) (delta : List Operation) (result : Option Reckoned) (reckoned : Reckoned)
+    → MatchOption units (result ≡ None) (λ on. IfSome result (IsReckoned on delta)) → IfSome units (λ on. on ≡ here) → result ≡ Some reckoned
+    → IsReckoned here delta reckoned
+reckoned_is None here delta result reckoned none on is = cc
+reckoned_is (Some at) here delta result reckoned has on is = subst (λ u. IsReckoned u delta reckoned) on (subst (λ o. IfSome o (IsReckoned at delta)) is has)

@@ -452,8 +452,8 @@ impl DocState {
         self.past.way_back(alloc, revision)
     }
 
-    // The delta that undoes a revision, as `undo` gives it, with what is reckoned of it on the document, where the undo may have been made ahead. That of another document or revision is
-    // left aside, and what was reckoned is used only where nothing was taken since.
+    // The delta that undoes a revision, as `undo` gives it, with what is reckoned of it on the document, where the undo may have been made
+    // ahead. That of another document or revision is left aside, and what was reckoned is used only where nothing was taken since.
     pub(crate) fn undone_by(
         &self,
         alloc: Global,

@@ -6,6 +6,7 @@ ghost use Rattle.revision.specs.Acceptance.{answer, by_number, take_on, if_live,
 ghost use Rattle.revision.specs.Command.{Taken as Change, IsShortDelta};
 ghost use Rattle.revision.specs.Invariants.{IsPast};
 ghost use Rattle.revision.specs.Moved.{IsMovedIn, IsMovedPast};
+ghost use Rattle.revision.specs.Past.{undo_of, deltas_of};
 ghost use Rattle.revision.specs.Pending.{record_of};
 ghost use Rattle.revision.specs.Sources.{window_of};
 ghost use Rattle.revision.specs.State.{revision_of, units_of, sources_of, last_of_all, has_place as spec_has_place};
@@ -362,9 +363,37 @@ fn plan_undo(
     if found.revision() == LAST {
         return Err(Refusal::RevisionsSpent);
     }
+    plan_undone(
+        alloc, state, number, found, command, last, own.place, moved,
+    )
+}
+
+// the next revision of a document by what undoes this one; the newest one isn't the last that there is
+fn plan_undone(
+    alloc: Global,
+    state: &State,
+    number: u32,
+    found: &DocState,
+    command: &Command,
+    last: u64,
+    place_hint: usize,
+    moved: Option<&MovedEdit>,
+) -> Result<Plan, Refusal>
+    requires past { IsPast state.now.limits (record_of found.now).past }
+    requires unspent { revision_of (record_of found.now) ≢ last_of_all }
+    requires held { (record_of found.now).past.floor < last }
+    requires there { last ≤ revision_of (record_of found.now) }
+    requires moved { IfSome moved (λ m. m.now.document ≡ number → IsMovedPast (record_of found.now).past m.now) }
+    ensures due { Gives result (change state.now number (record_of found.now) command.now
+        (undo_of (record_of found.now).past.floor (record_of found.now).past.content.units
+        (deltas_of (record_of found.now).past) last)) }
+    ensures memory { IsErrOf result Refusal.NoMemory → rests_on_delta (change state.now number (record_of found.now) command.now
+        (undo_of (record_of found.now).past.floor (record_of found.now).past.content.units
+        (deltas_of (record_of found.now).past) last)) ≡ true }
+{
     let (delta, reckoned) = found.undone_by(alloc, number, last, moved)?;
     plan_change(
-        alloc, state, number, found, command, delta, reckoned, own.place,
+        alloc, state, number, found, command, delta, reckoned, place_hint,
     )
 }
 

@@ -3,7 +3,7 @@ use Rattle.std.proofs.lemmas.List.{length-drop}
 use Rattle.delta.specs.Operation.{Operation}
 use Rattle.compose.specs.Many.{applied}
 use Rattle.revision.specs.Late.{all_inserted}
-use Rattle.revision.specs.Past.{AreKept, StandInTurn}
+use Rattle.revision.specs.Past.{newest, AreKept, StandInTurn}
 use Rattle.revision.specs.steps.PastView.{parts_of}
 use Rattle.revision.proofs.Parts.{below_newest, undo_room_seen, left_seen, before_seen}
 use Rattle.revision.proofs.Beginnings.{taken_stand, taken_before, taken_after}
@@ -18,8 +18,8 @@ returns c =
     let base = c.beginning-from.result.1.now in
     let kept = subst (AreKept parts.start parts.count parts.units parts.deltas) (sym c.as_slice.ensures.value) c.self.invariant.kept in
     let base_is : base ≡ applied parts.units (take (from - parts.start) parts.deltas) = c.beginning-from.ensures.there parts.count parts.deltas kept in
-    let held = omega (arith, c.requires.held) in
-    let made = omega (arith, c.requires.there) in
+    let held : c.args.self.now.past.floor ≤ before = omega (arith, c.requires.held) in
+    let made : before ≤ newest c.args.self.now.past = omega (arith, c.requires.there) in
     let there = below_newest parts c.self.invariant c.args.self.now c.self.view_is before held made in
     let slice = take (parts.count - (from - parts.start)) (drop (from - parts.start) parts.deltas) in
     let place = before - from in
