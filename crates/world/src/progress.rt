@@ -99,9 +99,9 @@ impl Progress {
     }
 
     /// Answers a command by the rule of acceptance, where it is an edit or an undo by one that may have been made ahead (`State::plan_moved`,
-    /// `State::made_ahead`). One that is taken is put behind the order, and any other leaves all as it stands. The ticket has the reply and the length of the order
-    /// after it, which has to be settled before the reply may be given, for a retry too. Refused as `State::plan` refuses it, and then nothing
-    /// has changed.
+    /// `State::made_ahead`). One that is taken is put behind the order, and any other leaves all as it stands. The ticket has the reply and
+    /// the length of the order after it, which has to be settled before the reply may be given, for a retry too. Refused as `State::plan`
+    /// refuses it, and then nothing has changed.
     pub fn submit(
         &mut self,
         alloc: Global,
