@@ -1,4 +1,4 @@
-use Rattle.std.proofs.Common.{◌≡◌, ◌<◌, ◌+◌, ◌-◌, List, length, take, drop, subst, sym, ◌∙◌, arith}
+use Rattle.std.proofs.Common.{◌≡◌, ◌<◌, ◌≤◌, ◌+◌, ◌-◌, List, length, take, drop, subst, sym, ◌∙◌, arith}
 use Rattle.delta.specs.Operation.{Operation}
 use Rattle.revision.specs.Late.{HasRoom}
 use Rattle.revision.specs.Past.{newest, units_at, deltas_of, deltas_above, way_back_late}
