@@ -223,7 +223,17 @@ impl<D, L: Life> Hub<D, L> {
         let mut from = 0;
         while from < commands.len() {
             let end = end_of_hold(commands, from);
-            self.submit_some(rt, alloc, seat, commands, from, end, told, found, &mut answers);
+            self.submit_some(
+                rt,
+                alloc,
+                seat,
+                commands,
+                from,
+                end,
+                told,
+                found,
+                &mut answers,
+            );
             from = end;
             if from < commands.len() {
                 self.give_way();
@@ -261,7 +271,9 @@ impl<D, L: Life> Hub<D, L> {
         let place = seat.place();
         let mut kept = self.held(rt);
         let was_idle = kept.board().is_idle();
-        let settled = kept.submit_some_after(alloc, seat, commands, from, end, told, found, answers);
+        let settled = kept.submit_some_after(
+            alloc, seat, commands, from, end, told, found, answers,
+        );
         let begins = was_idle && !kept.board().is_idle();
         drop(kept);
         seat.let_go();

@@ -39,7 +39,8 @@ mod rule;
 mod step;
 
 pub use past::{
-    DocState, LateEdit, LateUndo, MovedEdit, Past, PrepareError, PreparedState, Replay, Sources, State,
+    DocState, LateEdit, LateUndo, MovedEdit, Past, PrepareError, PreparedState, Replay, Sources,
+    State,
 };
 pub use rule::{
     Action, Batch, Command, LONGEST, Limits, Name, Plan, Reply, Taken, Taker, Window, delta_width,

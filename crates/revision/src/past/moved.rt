@@ -338,7 +338,13 @@ impl State {
         if !found.is_live() || revision <= found.floor() || found.revision() < revision {
             return None;
         }
-        match undo_by(alloc, document, found, revision, u64::from(self.limits().weight())) {
+        match undo_by(
+            alloc,
+            document,
+            found,
+            revision,
+            u64::from(self.limits().weight()),
+        ) {
             Ok(undo) => Some(undo),
             Err(_) => None,
         }

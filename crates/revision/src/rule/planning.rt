@@ -363,9 +363,7 @@ fn plan_undo(
     if found.revision() == LAST {
         return Err(Refusal::RevisionsSpent);
     }
-    plan_undone(
-        alloc, state, number, found, command, last, own.place, moved,
-    )
+    plan_undone(alloc, state, number, found, command, last, own.place, moved)
 }
 
 // the next revision of a document by what undoes this one; the newest one isn't the last that there is

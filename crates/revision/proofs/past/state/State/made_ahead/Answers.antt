@@ -32,8 +32,15 @@ returns c =
     let held : found.past.floor < revision = omega (arith, c.if-revision-floor.false, c.floor.ensures) in
     let there : revision ≤ newest found.past = omega (arith, c.if-revision.false, c.revision.ensures.revision) in
     let whole : m.count ≡ length (deltas_above found.past revision) =
-    omega (arith, c.if-revision-count.false, c.if-revision.false, c.revision.ensures.revision, c.revision-else-revision.ensures.revision, c.count.ensures,
-    since-long found.past m moved undoes revision base held there) in
+    omega (
+      arith,
+      c.if-revision-count.false,
+      c.if-revision.false,
+      c.revision.ensures.revision,
+      c.revision-else-revision.ensures.revision,
+      c.count.ensures,
+      since-long found.past m moved undoes revision base held there,
+    ) in
     let revision_is : revision ≡ last_revision (window_of command.source (sources_of found)) =
     c.last_revision-revision.ensures ∙ ap last_revision (c.window.ensures ∙ ap (λ s. window_of s (sources_of found)) c.source.ensures.source) in
     let action : command.action ≡ Undo = sym c.action.ensures.action ∙ ap action_of c.in-Undo.is in
