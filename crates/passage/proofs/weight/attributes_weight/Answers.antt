@@ -1,8 +1,8 @@
 use Rattle.std.proofs.Common.{arith, ap, ◌∙◌}
 use Rattle.std.proofs.lemmas.List.{take_all}
-use Rattle.document.specs.Weight.{entries_weight}
-use Rattle.document.proofs.Weighing.{entries_more}
-use Rattle.document.proofs.run.attributes_weight.Goals as goal
+use Rattle.passage.specs.Weight.{entries_weight}
+use Rattle.passage.proofs.Weighing.{entries_more}
+use Rattle.passage.proofs.weight.attributes_weight.Goals as goal
 
 pub loop-key-preserved : goal.loop-key-preserved
 loop-key-preserved c =

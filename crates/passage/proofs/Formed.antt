@@ -3,7 +3,7 @@ use Rattle.std.proofs.Common.{◌<◌, ◌≤◌, ℕ, zero, suc, Bool, true, fa
 use Rattle.std.proofs.lemmas.Bool.{and_parts, leb-true, ltb-true, false≢true}
 use Rattle.std.specs.Char.Utf16.{is_high_surrogate}
 use Rattle.delta.specs.Element.{Element, Item, code_unit, embed}
-use Rattle.document.specs.Pairs.{IsHighItem, IsLowItem, IsPair, IsHighAt, IsLowAt, IsPairAt, IsWithinPair, IsWellFormed}
+use Rattle.passage.specs.Pairs.{IsHighItem, IsLowItem, IsPair, IsHighAt, IsLowAt, IsPairAt, IsWithinPair, IsWellFormed}
 
 -- neither half of a pair
 abbrev pub IsSingle : Element → Type 0

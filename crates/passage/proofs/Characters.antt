@@ -12,8 +12,8 @@ use Rattle.attributes.specs.Scalar.{Scalar}
 use Rattle.utf16.specs.Units.{units_of, units_of_chars, IsHigh, IsLow}
 use Rattle.utf16.proofs.CallerLemmas.{pair_of-large}
 use Rattle.delta.specs.Element.{lettered, letters, embedded}
-use Rattle.document.specs.Pairs.{IsWellFormed}
-use Rattle.document.proofs.Formed.{Formed, IsSingle, Formed-single, well_formed-of_formed}
+use Rattle.passage.specs.Pairs.{IsWellFormed}
+use Rattle.passage.proofs.Formed.{Formed, IsSingle, Formed-single, well_formed-of_formed}
 
 -- a character below U+10000 is neither half of a pair
 single_character : (c : ℕ) (a : Attributes) → IsScalar c → IsSingle (lettered c a)

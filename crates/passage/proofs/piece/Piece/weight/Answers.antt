@@ -1,7 +1,7 @@
 use Rattle.std.proofs.Common.{◌-◌, ◌^◌, min, ap, ◌∙◌}
-use Rattle.document.specs.Weight.{attributes_weight, weight_of}
-use Rattle.document.proofs.Measured.{dressed_weight, dressed_itself}
-use Rattle.document.proofs.run.Piece.weight.Goals as goal
+use Rattle.passage.specs.Weight.{attributes_weight, weight_of}
+use Rattle.passage.proofs.Weighing.{dressed_weight, dressed_itself}
+use Rattle.passage.proofs.piece.Piece.weight.Goals as goal
 
 pub returns : goal.returns
 returns c =

@@ -1,0 +1,6 @@
+pub mod Formed
+pub mod Characters
+pub mod Letters
+pub mod Weighing
+pub mod Laid
+pub mod Longer

@@ -1,0 +1,4 @@
+pub mod Pairs
+pub mod Weight
+pub mod Pieces
+pub mod Laid
