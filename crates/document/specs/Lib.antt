@@ -5,7 +5,6 @@ pub mod Outcome
 pub mod Making
 pub mod steps
 pub mod Pieces
-pub mod Runs
-pub mod Chunks
+pub mod Parts
 pub mod Laws
 mod Examples

@@ -1,344 +1,336 @@
-//! Chunks in the making.
-ghost use Rattle.std.specs.Prelude.{◌≡◌, ◌≢◌, ◌+◌, ◌-◌, ◌<◌, ◌≤◌, ◌^◌, ◌↔◌, ◌++◌, [], ◌∷◌, length, Some, IfOk, IfSome, IfNone, OnOk, IsTrue, MatchBool, MatchResult};
+//! Documents in the making.
+ghost use Rattle.std.specs.Prelude.{◌≡◌, ◌+◌, ◌<◌, ◌^◌, ◌++◌, [], ◌∷◌, length, IfOk, OnOk};
 ghost use Rattle.utf16.specs.Units.{units_of};
-ghost use Rattle.delta.specs.Element.{letters};
-ghost use Rattle.document.specs.Chunks.{runs_of_chunks, IsChunk, AreSized};
-ghost use Rattle.document.specs.Runs.{units_of_runs, IsApart, TakesText, last_attributes, first_attributes, text_attributes};
+ghost use Rattle.delta.specs.Element.{letters, embedded};
+ghost use Rattle.document.specs.Pairs.{IsWellFormed};
+ghost use Rattle.document.specs.Parts.{units_of_parts, AreParts};
 
-use crate::chunk::Chunk;
-use crate::runs::{extend, merge_into, share_all};
-use crate::shared::SharedRun;
-use attributes::Attrs;
+use crate::chunk::{Chunk, Group};
+use crate::closing::{close_groups, push_chunk, share_chunks, share_groups};
+use attributes::{Attrs, Key, Known, Value};
+use passage::{Passage, Rest, cut_text};
 use std::alloc::{AllocError, Global};
 use std::marker::Model;
 use std::mem;
 
-/// A chunk has at most so many runs.
+/// A chunk has about so many runs and so many bytes of text at most: it is parted where it has more, and never has twice as many.
 const MOST: usize = 128;
+const TEXT: usize = 2048;
 
-/// Chunks that are made have so many runs at least, but where there is one alone.
+/// A chunk with fewer runs and fewer bytes goes together with the next one.
 const FEW: usize = 32;
+const LITTLE: usize = 512;
 
-/// Chunks that grow at their end, seen as the list of all runs: chunks that are made, and up to 256 loose runs after them, which
-/// become one or two more chunks.
+/// A group has at least so many chunks, but for the last.
+const SOME: usize = 8;
+
+/// So many chunks may wait for their group.
+const WAITING: usize = 64;
+
+/// So much room for text a chunk is made with besides what comes of another chunk.
+const SPARE: usize = 32;
+
+/// A document that grows at its end, seen as its units: groups and chunks that are made, and runs after them, which become one or
+/// two chunks.
 #[derive(Drop)]
-pub struct ChunkBuilder {
+pub(crate) struct ChunkBuilder {
+    groups: Vec<Group>,
     made: Vec<Chunk>,
-    loose: Vec<SharedRun>,
+    open: Passage,
+    known: Known,
 }
 
 impl Model for ChunkBuilder {
-    ghost use Rattle.std.specs.Prelude.{◌≤◌, ◌++◌, length, List};
+    ghost use Rattle.std.specs.Prelude.{◌++◌, List};
     ghost use Rattle.std.specs.Coded.{coded_list};
     ghost use Rattle.delta.specs.Element.{Element};
     ghost use Rattle.delta.specs.ElementCode.{element_code};
-    ghost use Rattle.document.specs.Chunks.{runs_of_chunks, AreSized};
+    ghost use Rattle.document.specs.Parts.{units_of_parts, AreParts};
 
-    ghost Value = { List (List Element) };
+    ghost Value = { List Element };
 
-    ghost coded = { coded_list (coded_list element_code) };
+    ghost coded = { coded_list element_code };
 
-    ghost view = { λ b. runs_of_chunks b.made.items ++ b.loose.items };
+    ghost view = { λ b. units_of_parts b.groups.items ++ (units_of_parts b.made.items ++ b.open) };
 
-    ghost invariant = { λ b. AreSized b.made.items × (length b.loose.items ≤ 256) };
+    ghost invariant = { λ b. AreParts b.groups.items × AreParts b.made.items };
 }
 
 impl ChunkBuilder {
-    /// No chunk. It takes no memory.
-    pub fn new(alloc: Global) -> Self
+    /// Nothing. It takes no memory.
+    pub(crate) fn new(alloc: Global) -> Self
         ensures { result ≡ [] }
     {
         ChunkBuilder {
+            groups: Vec::new(alloc),
             made: Vec::new(alloc),
-            loose: Vec::new(alloc),
+            open: Passage::new(alloc),
+            known: Known::new(alloc),
         }
     }
 
-    /// Takes a text into the last run, where that is a text of equal attributes, and says whether it is.
-    pub fn merge_last(
+    /// Puts a text with so many code units at the end, in pieces where it is long.
+    pub(crate) fn put_text(
         &mut self,
         alloc: Global,
         text: &str,
         units: u64,
         attrs: &Attrs,
-    ) -> Result<bool, AllocError>
+    ) -> Result<(), AllocError>
         requires counted { units ≡ length (units_of text.now) }
-        requires bound { length (units_of_runs self.old) + units < 2 ^ 64 }
-        ensures ok { IfOk result (λ yes. MatchBool yes
-            (TakesText self.old self.new (letters (units_of text.now) attrs.now) attrs.now)
-            ((last_attributes self.old ≢ Some attrs.now) × (self.new ≡ self.old))) }
+        requires bound { length self.old + units < 2 ^ 64 }
+        ensures ok { OnOk result (self.new ≡ self.old ++ letters (units_of text.now) attrs.now) }
     {
-        if self.loose.is_empty() && !self.takes(attrs) {
-            return Ok(false);
+        let attrs = self.known.share(alloc, attrs.copy(alloc)?)?;
+        let mut rest = text;
+        let mut left = units;
+        while !rest.is_empty() {
+            let (front, count, back) = cut_text(rest, left, TEXT);
+            self.put_piece(alloc, front, count, &attrs)?;
+            rest = back;
+            left -= count;
         }
-        refill(alloc, &mut self.made, &mut self.loose)?;
-        let merged = merge_into(alloc, &mut self.loose, text, units, attrs)?;
-        Ok(merged)
-    }
-
-    /// Puts a run at the end, whatever the last one is.
-    pub fn push(&mut self, alloc: Global, run: SharedRun) -> Result<(), AllocError>
-        requires bound { length (units_of_runs self.old) < 2 ^ 64 }
-        ensures ok { OnOk result (self.new ≡ self.old ++ run ∷ []) }
-    {
-        make_room(alloc, &mut self.made, &mut self.loose, 1)?;
-        self.loose.push(run)?;
         Ok(())
     }
 
-    /// Puts one more owner of each of these runs at the end, whatever the last one is.
-    pub fn extend(&mut self, alloc: Global, runs: &[SharedRun]) -> Result<(), AllocError>
-        requires bound { length (units_of_runs self.old) < 2 ^ 64 }
-        requires few { length runs.now ≤ 128 }
-        ensures ok { OnOk result (self.new ≡ self.old ++ runs.now) }
+    // puts a short text at the end
+    fn put_piece(
+        &mut self,
+        alloc: Global,
+        text: &str,
+        units: u64,
+        attrs: &Attrs,
+    ) -> Result<(), AllocError>
+        requires counted { units ≡ length (units_of text.now) }
+        requires short { length text.now < 2 ^ 32 }
+        requires bound { length self.old + units < 2 ^ 64 }
+        ensures ok { OnOk result (self.new ≡ self.old ++ letters (units_of text.now) attrs.now) }
     {
-        make_room(alloc, &mut self.made, &mut self.loose, runs.len())?;
-        self.loose.reserve(runs.len())?;
-        extend(&mut self.loose, runs)?;
+        self.make_room(alloc, (text.len(), 1))?;
+        let open = mem::replace(&mut self.open, Passage::new(alloc));
+        self.open = open.with_text(alloc, text, units, attrs)?;
         Ok(())
     }
 
-    /// Whether a chunk may stand at the end as it is: it doesn't merge with the last run, and it and the loose runs before it have
-    /// each enough runs for a chunk.
-    pub fn goes_before(&self, chunk: &Chunk) -> bool
-        ensures { IsTrue result → IsApart (last_attributes self.now) (first_attributes chunk.now) }
+    /// Puts an embed at the end.
+    pub(crate) fn put_embed(
+        &mut self,
+        alloc: Global,
+        key: Key,
+        value: Value,
+        attrs: &Attrs,
+    ) -> Result<(), AllocError>
+        requires bound { length self.old < 2 ^ 64 }
+        ensures ok { OnOk result (self.new ≡ self.old ++ embedded key value attrs.now ∷ []) }
     {
-        let few = (!self.loose.is_empty() && self.loose.len() < FEW) || chunk.runs().len() < FEW;
-        !few && self.is_apart(chunk.first())
+        let attrs = self.known.share(alloc, attrs.copy(alloc)?)?;
+        self.make_room(alloc, (0, 1))?;
+        let open = mem::replace(&mut self.open, Passage::new(alloc));
+        self.open = open.with_embed(alloc, key, value, &attrs)?;
+        Ok(())
     }
 
-    /// Whether a run doesn't merge with the last one.
-    pub fn is_apart(&self, run: &SharedRun) -> bool
-        ensures { IsTrue result → IsApart (last_attributes self.now) (text_attributes run.now) }
+    /// Puts runs at the end. A chunk that begins with them has room for so many bytes and runs more.
+    pub(crate) fn put_rest(
+        &mut self,
+        alloc: Global,
+        more: &Rest<'_>,
+        room: (usize, usize),
+    ) -> Result<(), AllocError>
+        requires bound { length self.old + length more.now < 2 ^ 64 }
+        ensures ok { OnOk result (self.new ≡ self.old ++ more.now) }
     {
-        match self.last() {
-            Some(last) => !last.joins(run),
-            None => true,
-        }
+        self.make_room(alloc, more.sizes())?;
+        let open = self.begun(alloc, more.sizes(), room)?;
+        self.open = open.with_rest(alloc, more)?;
+        Ok(())
     }
 
-    // whether the last run is a text of these attributes
-    fn takes(&self, attrs: &Attrs) -> bool
-        ensures { IsTrue result ↔ (last_attributes self.now ≡ Some attrs.now) }
+    // takes the open runs out, with room for these and those more where there is none
+    fn begun(
+        &mut self,
+        alloc: Global,
+        more: (usize, usize),
+        room: (usize, usize),
+    ) -> Result<Passage, AllocError>
+        ensures { IfOk result (λ open. self.new ++ open ≡ self.old) }
     {
-        match self.last() {
-            Some(last) => last.takes(attrs),
-            None => false,
+        let open = mem::replace(&mut self.open, Passage::new(alloc));
+        if !open.rest().is_empty() {
+            return Ok(open);
         }
+        let bytes = more.0.saturating_add(room.0).saturating_add(SPARE);
+        let runs = more.1.saturating_add(room.1).saturating_add(3);
+        Passage::with_room(alloc, bytes, runs)
     }
 
-    // the last run
-    fn last(&self) -> Option<&SharedRun>
-        ensures some { IfSome result (λ last. last_attributes self.now ≡ text_attributes last.now) }
-        ensures none { IfNone result (self.now ≡ []) }
-    {
-        let loose = self.loose.len();
-        if loose > 0 {
-            return Some(&self.loose[loose - 1]);
-        }
-        let made = self.made.len();
-        if made > 0 {
-            return Some(self.made[made - 1].last());
-        }
-        None
-    }
-
-    /// Puts one more owner of each of these chunks at the end, whatever the last run is.
-    pub fn extend_chunks(&mut self, alloc: Global, chunks: &[Chunk]) -> Result<(), AllocError>
-        requires sized { AreSized chunks.now }
-        requires bound { length (units_of_runs self.old) < 2 ^ 64 }
-        ensures ok { OnOk result (self.new ≡ self.old ++ runs_of_chunks chunks.now) }
+    /// Puts chunks at the end: one more owner of each, but for the first where that or what stands before it is too little for a
+    /// chunk.
+    pub(crate) fn put_chunks(&mut self, alloc: Global, chunks: &[Chunk]) -> Result<(), AllocError>
+        requires chunks { AreParts chunks.now }
+        requires bound { length self.old + length (units_of_parts chunks.now) < 2 ^ 64 }
+        ensures ok { OnOk result (self.new ≡ self.old ++ units_of_parts chunks.now) }
     {
         if chunks.is_empty() {
             return Ok(());
         }
-        close(alloc, &mut self.made, &mut self.loose)?;
-        self.made.reserve(chunks.len())?;
-        extend_made(&mut self.made, chunks)?;
+        let first = chunks[0].rest();
+        if is_few(first.sizes()) || self.has_few() {
+            self.put_rest(alloc, &first, (0, 0))?;
+            return self.put_whole_chunks(alloc, &chunks[1..]);
+        }
+        self.put_whole_chunks(alloc, chunks)
+    }
+
+    // puts one more owner of each of these chunks at the end
+    fn put_whole_chunks(&mut self, alloc: Global, chunks: &[Chunk]) -> Result<(), AllocError>
+        requires chunks { AreParts chunks.now }
+        requires bound { length self.old + length (units_of_parts chunks.now) < 2 ^ 64 }
+        ensures ok { OnOk result (self.new ≡ self.old ++ units_of_parts chunks.now) }
+    {
+        if chunks.is_empty() {
+            return Ok(());
+        }
+        self.close(alloc)?;
+        if self.made.len() > WAITING {
+            close_groups(alloc, &mut self.groups, &mut self.made)?;
+        }
+        share_chunks(&mut self.made, chunks)
+    }
+
+    /// Puts groups at the end: one more owner of each, but for the first where that or what stands before it is too little for a
+    /// group.
+    pub(crate) fn put_groups(&mut self, alloc: Global, groups: &[Group]) -> Result<(), AllocError>
+        requires groups { AreParts groups.now }
+        requires bound { length self.old + length (units_of_parts groups.now) < 2 ^ 64 }
+        ensures ok { OnOk result (self.new ≡ self.old ++ units_of_parts groups.now) }
+    {
+        if groups.is_empty() {
+            return Ok(());
+        }
+        let first = groups[0].chunks();
+        let waits = !self.made.is_empty() && self.made.len() < SOME;
+        if waits || first.len() < SOME || self.has_few() {
+            self.put_chunks(alloc, first)?;
+            return self.put_whole_groups(alloc, &groups[1..]);
+        }
+        self.put_whole_groups(alloc, groups)
+    }
+
+    // puts one more owner of each of these groups at the end
+    fn put_whole_groups(&mut self, alloc: Global, groups: &[Group]) -> Result<(), AllocError>
+        requires groups { AreParts groups.now }
+        requires bound { length self.old + length (units_of_parts groups.now) < 2 ^ 64 }
+        ensures ok { OnOk result (self.new ≡ self.old ++ units_of_parts groups.now) }
+    {
+        if groups.is_empty() {
+            return Ok(());
+        }
+        self.close(alloc)?;
+        close_groups(alloc, &mut self.groups, &mut self.made)?;
+        share_groups(&mut self.groups, groups)
+    }
+
+    /// The groups.
+    pub(crate) fn finish(mut self, alloc: Global) -> Result<Vec<Group>, AllocError>
+        requires bound { length self < 2 ^ 64 }
+        ensures units { IfOk result (λ groups. units_of_parts groups.items ≡ self) }
+        ensures groups { IfOk result (λ groups. AreParts groups.items) }
+    {
+        self.take_back(alloc)?;
+        self.close(alloc)?;
+        close_groups(alloc, &mut self.groups, &mut self.made)?;
+        let ChunkBuilder {
+            mut groups,
+            made: _,
+            open: _,
+            known: _,
+        } = self;
+        groups.shrink_to_fit();
+        Ok(groups)
+    }
+
+    // takes the runs of the last chunk out, to the front of the open ones, where these are few
+    fn take_back(&mut self, alloc: Global) -> Result<(), AllocError>
+        ensures ok { OnOk result (self.new ≡ self.old) }
+    {
+        if !self.has_few() {
+            return Ok(());
+        }
+        let last = match self.made.pop() {
+            Some(last) => last,
+            // behind whole groups what is little stays as it is
+            None => return Ok(()),
+        };
+        let (bytes, runs) = self.open.rest().sizes();
+        let (more_bytes, more_runs) = last.rest().sizes();
+        let joined = Passage::with_room(
+            alloc,
+            bytes.saturating_add(more_bytes),
+            runs.saturating_add(more_runs),
+        )?;
+        let joined = joined.with_rest(alloc, &last.rest())?;
+        self.open = joined.with_rest(alloc, &self.open.rest())?;
         Ok(())
     }
 
-    /// The runs of one chunk, or else the same runs once more.
-    pub fn into_one(self) -> Result<Vec<SharedRun>, ChunkBuilder>
-        ensures { MatchResult result (λ runs. (runs.items ≡ self) × IsChunk runs.items) (λ same. same ≡ self) }
+    // whether there are open runs, too few for a chunk
+    fn has_few(&self) -> bool {
+        let open = self.open.rest();
+        !open.is_empty() && is_few(open.sizes())
+    }
+
+    // has place for so many bytes and runs more
+    fn make_room(&mut self, alloc: Global, more: (usize, usize)) -> Result<(), AllocError>
+        requires bound { length self.old < 2 ^ 64 }
+        ensures ok { OnOk result (self.new ≡ self.old) }
     {
-        if self.made.is_empty() && !self.loose.is_empty() && self.loose.len() <= MOST {
-            let ChunkBuilder { made: _, loose } = self;
-            return Ok(loose);
+        let sizes = self.open.rest().sizes();
+        if is_too_much(sizes, more) && is_over(sizes) {
+            self.part(alloc)?;
         }
-        Err(self)
+        if is_too_much(self.open.rest().sizes(), more) {
+            self.close(alloc)?;
+        }
+        Ok(())
     }
 
-    /// The chunks.
-    pub fn finish(mut self, alloc: Global) -> Result<Vec<Chunk>, AllocError>
-        requires bound { length (units_of_runs self) < 2 ^ 64 }
-        ensures runs { IfOk result (λ chunks. runs_of_chunks chunks.items ≡ self) }
-        ensures sized { IfOk result (λ chunks. AreSized chunks.items) }
+    // makes a chunk of the front half of the open runs
+    fn part(&mut self, alloc: Global) -> Result<(), AllocError>
+        requires bound { length self.old < 2 ^ 64 }
+        ensures ok { OnOk result (self.new ≡ self.old) }
     {
-        gather(alloc, &mut self.made, &mut self.loose)?;
-        close(alloc, &mut self.made, &mut self.loose)?;
-        let ChunkBuilder { made, loose: _ } = self;
-        Ok(made)
+        let (front, back) = self.open.halved(alloc, TEXT)?;
+        push_chunk(alloc, &mut self.made, front)?;
+        self.open = back;
+        Ok(())
     }
-}
 
-// takes the runs of the last chunk out, where there is no loose run
-fn refill(
-    alloc: Global,
-    made: &mut Vec<Chunk>,
-    loose: &mut Vec<SharedRun>,
-) -> Result<(), AllocError>
-    requires sized { AreSized made.old.items }
-    requires few { length loose.old.items ≤ 256 }
-    ensures runs { OnOk result (runs_of_chunks made.new.items ++ loose.new.items
-        ≡ runs_of_chunks made.old.items ++ loose.old.items) }
-    ensures sized { AreSized made.new.items }
-    ensures some { OnOk result (0 < length (runs_of_chunks made.old.items ++ loose.old.items)
-        → 0 < length loose.new.items) }
-    ensures few { length loose.new.items ≤ 256 }
-{
-    if loose.is_empty() && !made.is_empty() {
-        take_back(alloc, made, loose)?;
-    }
-    Ok(())
-}
-
-// takes the runs of the last chunk out, where the loose ones are few
-fn gather(
-    alloc: Global,
-    made: &mut Vec<Chunk>,
-    loose: &mut Vec<SharedRun>,
-) -> Result<(), AllocError>
-    requires sized { AreSized made.old.items }
-    requires few { length loose.old.items ≤ 256 }
-    ensures runs { OnOk result (runs_of_chunks made.new.items ++ loose.new.items
-        ≡ runs_of_chunks made.old.items ++ loose.old.items) }
-    ensures sized { AreSized made.new.items }
-    ensures few { length loose.new.items ≤ 256 }
-{
-    if !loose.is_empty() && loose.len() < FEW && !made.is_empty() {
-        take_back(alloc, made, loose)?;
-    }
-    Ok(())
-}
-
-// takes the runs of the last chunk out, to the front of the loose ones
-fn take_back(
-    alloc: Global,
-    made: &mut Vec<Chunk>,
-    loose: &mut Vec<SharedRun>,
-) -> Result<(), AllocError>
-    requires some { 0 < length made.old.items }
-    requires sized { AreSized made.old.items }
-    requires few { length loose.old.items < 32 }
-    ensures runs { OnOk result (runs_of_chunks made.new.items ++ loose.new.items
-        ≡ runs_of_chunks made.old.items ++ loose.old.items) }
-    ensures sized { AreSized made.new.items }
-    ensures some { OnOk result (0 < length loose.new.items) }
-    ensures few { length loose.new.items ≤ 256 }
-{
-    let last = match made.pop() {
-        Some(last) => last,
-        None => unreachable!(),
-    };
-    let mut runs = share_all(alloc, last.runs())?;
-    runs.append(loose)?;
-    *loose = runs;
-    Ok(())
-}
-
-// has place for so many more loose runs
-fn make_room(
-    alloc: Global,
-    made: &mut Vec<Chunk>,
-    loose: &mut Vec<SharedRun>,
-    more: usize,
-) -> Result<(), AllocError>
-    requires bound { length (units_of_runs (runs_of_chunks made.old.items ++ loose.old.items)) < 2 ^ 64 }
-    requires sized { AreSized made.old.items }
-    requires few { length loose.old.items ≤ 256 }
-    requires more { more ≤ 128 }
-    ensures runs { OnOk result (runs_of_chunks made.new.items ++ loose.new.items
-        ≡ runs_of_chunks made.old.items ++ loose.old.items) }
-    ensures sized { AreSized made.new.items }
-    ensures room { OnOk result (length loose.new.items + more ≤ 256) }
-    ensures few { length loose.new.items ≤ 256 }
-{
-    if loose.len() + more > 2 * MOST {
-        close_front(alloc, made, loose)?;
-    }
-    Ok(())
-}
-
-// makes chunks of the loose runs
-fn close(alloc: Global, made: &mut Vec<Chunk>, loose: &mut Vec<SharedRun>) -> Result<(), AllocError>
-    requires bound { length (units_of_runs (runs_of_chunks made.old.items ++ loose.old.items)) < 2 ^ 64 }
-    requires sized { AreSized made.old.items }
-    requires few { length loose.old.items ≤ 256 }
-    ensures runs { OnOk result (runs_of_chunks made.new.items ≡ runs_of_chunks made.old.items ++ loose.old.items) }
-    ensures sized { AreSized made.new.items }
-    ensures none { OnOk result (loose.new.items ≡ []) }
-    ensures few { length loose.new.items ≤ 256 }
-{
-    make_room(alloc, made, loose, MOST)?;
-    if !loose.is_empty() {
-        let runs = mem::replace(loose, Vec::new(alloc));
-        made.push(Chunk::new(alloc, runs)?)?;
-    }
-    Ok(())
-}
-
-// makes a chunk of the front half of more than 128 loose runs
-fn close_front(
-    alloc: Global,
-    made: &mut Vec<Chunk>,
-    loose: &mut Vec<SharedRun>,
-) -> Result<(), AllocError>
-    requires bound { length (units_of_runs (runs_of_chunks made.old.items ++ loose.old.items)) < 2 ^ 64 }
-    requires sized { AreSized made.old.items }
-    requires many { 128 < length loose.old.items }
-    requires few { length loose.old.items ≤ 256 }
-    ensures runs { OnOk result (runs_of_chunks made.new.items ++ loose.new.items
-        ≡ runs_of_chunks made.old.items ++ loose.old.items) }
-    ensures sized { AreSized made.new.items }
-    ensures some { OnOk result (0 < length loose.new.items) }
-    ensures few { length loose.new.items ≤ 256 }
-    ensures half { OnOk result (length loose.new.items ≤ 128) }
-{
-    let back = split_half(alloc, loose)?;
-    let front = mem::replace(loose, back);
-    made.push(Chunk::new(alloc, front)?)?;
-    Ok(())
-}
-
-// takes the back half of runs out
-fn split_half(alloc: Global, runs: &mut Vec<SharedRun>) -> Result<Vec<SharedRun>, AllocError>
-    requires many { 128 < length runs.old.items }
-    requires few { length runs.old.items ≤ 256 }
-    ensures parts { IfOk result (λ back. runs.new.items ++ back.items ≡ runs.old.items) }
-    ensures front { OnOk result (IsChunk runs.new.items) }
-    ensures back { IfOk result (λ back. IsChunk back.items) }
-    ensures few { length runs.new.items ≤ 256 }
-{
-    let half = runs.len() / 2;
-    let mut back = Vec::with_capacity(alloc, runs.len() - half)?;
-    for _ in half..runs.len() {
-        match runs.pop() {
-            Some(run) => back.push(run)?,
-            None => unreachable!(),
+    // makes chunks of the open runs
+    fn close(&mut self, alloc: Global) -> Result<(), AllocError>
+        requires bound { length self.old < 2 ^ 64 }
+        ensures ok { OnOk result (self.new ≡ self.old) }
+    {
+        if is_over(self.open.rest().sizes()) {
+            self.part(alloc)?;
         }
+        let open = mem::replace(&mut self.open, Passage::new(alloc));
+        push_chunk(alloc, &mut self.made, open)?;
+        Ok(())
     }
-    back.reverse();
-    Ok(back)
 }
 
-/// Puts one more owner of each of these chunks at the end.
-pub fn extend_made(made: &mut Vec<Chunk>, chunks: &[Chunk]) -> Result<(), AllocError>
-    ensures items { OnOk result (made.new.items ≡ made.old.items ++ chunks.now) }
-    ensures sized { AreSized made.old.items → AreSized chunks.now → AreSized made.new.items }
-{
-    for chunk in chunks {
-        made.push(chunk.share()?)?;
-    }
-    Ok(())
+// whether so many bytes and runs are more than a chunk has
+fn is_over(sizes: (usize, usize)) -> bool {
+    sizes.0 > TEXT || sizes.1 > MOST
+}
+
+// whether so many bytes and runs are too little for a chunk
+fn is_few(sizes: (usize, usize)) -> bool {
+    sizes.0 < LITTLE && sizes.1 < FEW
+}
+
+// whether so many bytes and runs with so many more are twice what a chunk has, or more
+fn is_too_much(sizes: (usize, usize), more: (usize, usize)) -> bool {
+    sizes.0.saturating_add(more.0) > 2 * TEXT || sizes.1.saturating_add(more.1) > 2 * MOST
 }

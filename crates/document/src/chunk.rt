@@ -1,24 +1,28 @@
-//! Chunks of runs, which documents have together.
-ghost use Rattle.std.specs.Prelude.{◌≡◌, ◌≢◌, ◌+◌, ◌-◌, min, ◌<◌, ◌^◌, length, IfOk, OnOk, OnErr, MatchBool, Some};
-ghost use Rattle.utf16.specs.Units.{units_of};
-ghost use Rattle.delta.specs.Element.{letters};
-ghost use Rattle.document.specs.Chunks.{IsChunk};
-ghost use Rattle.document.specs.Runs.{units_of_runs, last_attributes, first_attributes, text_attributes, TakesText};
+//! Chunks of runs and groups of chunks, which documents have together.
+ghost use Rattle.std.specs.Prelude.{◌≡◌, ◌-◌, min, ◌<◌, ◌^◌, length, IfOk};
+ghost use Rattle.document.specs.Pairs.{IsWellFormed};
+ghost use Rattle.document.specs.Parts.{units_of_parts, AreParts};
 ghost use Rattle.document.specs.Weight.{weight_of};
 
-use crate::runs::{merge_into, share_all};
-use crate::shared::SharedRun;
-use crate::weights::{runs_units, runs_weight, text_weight};
-use attributes::Attrs;
+use crate::weights::{chunks_units, chunks_weight};
+use passage::{Passage, Rest};
 use std::alloc::{AllocError, Global};
 use std::marker::Model;
 use std::sync::Arc;
 
-/// 1 to 128 runs that any number of documents own together, seen as the list of these runs. Its number of code units and its
-/// weight are kept beside the runs, so that whoever steps over a chunk doesn't look into it.
+/// Some runs, which any number of documents own together, seen as their units. Its number of code units and its weight are kept
+/// beside the runs, so that whoever steps over a chunk doesn't look into it.
 #[derive(Drop)]
-pub struct Chunk {
-    runs: Arc<Vec<SharedRun>>,
+pub(crate) struct Chunk {
+    runs: Arc<Passage>,
+    units: u64,
+    weight: u64,
+}
+
+/// Some chunks, which any number of documents own together, seen as their units, with the same counts.
+#[derive(Drop)]
+pub(crate) struct Group {
+    chunks: Arc<Vec<Chunk>>,
     units: u64,
     weight: u64,
 }
@@ -30,29 +34,47 @@ impl Model for Chunk {
     ghost use Rattle.std.specs.Arc.{arc_value};
     ghost use Rattle.delta.specs.Element.{Element};
     ghost use Rattle.delta.specs.ElementCode.{element_code};
-    ghost use Rattle.document.specs.Runs.{units_of_runs};
-    ghost use Rattle.document.specs.Chunks.{IsChunk};
 
-    ghost Value = { List (List Element) };
+    ghost Value = { List Element };
 
-    ghost coded = { coded_list (coded_list element_code) };
+    ghost coded = { coded_list element_code };
 
-    ghost view = { λ c. (arc_value c.runs).items };
+    ghost view = { λ c. arc_value c.runs };
 
-    ghost invariant = { λ c. (c.units ≡ length (units_of_runs (arc_value c.runs).items))
-        × (c.weight ≡ min (weight_of (units_of_runs (arc_value c.runs).items)) (2 ^ 64 - 1))
-        × IsChunk (arc_value c.runs).items };
+    ghost invariant = { λ c. (c.units ≡ length (arc_value c.runs))
+        × (c.weight ≡ min (weight_of (arc_value c.runs)) (2 ^ 64 - 1)) };
+}
+
+impl Model for Group {
+    ghost use Rattle.std.specs.Prelude.{◌≡◌, ◌-◌, ◌^◌, min, length, List};
+    ghost use Rattle.document.specs.Weight.{weight_of};
+    ghost use Rattle.document.specs.Parts.{units_of_parts, AreParts};
+    ghost use Rattle.std.specs.Coded.{coded_list};
+    ghost use Rattle.std.specs.Arc.{arc_value};
+    ghost use Rattle.delta.specs.Element.{Element};
+    ghost use Rattle.delta.specs.ElementCode.{element_code};
+
+    ghost Value = { List Element };
+
+    ghost coded = { coded_list element_code };
+
+    ghost view = { λ g. units_of_parts (arc_value g.chunks).items };
+
+    ghost invariant = { λ g. (g.units ≡ length (units_of_parts (arc_value g.chunks).items))
+        × (g.weight ≡ min (weight_of (units_of_parts (arc_value g.chunks).items)) (2 ^ 64 - 1))
+        × AreParts (arc_value g.chunks).items };
 }
 
 impl Chunk {
     /// A chunk of these runs, with one owner.
-    pub(crate) fn new(alloc: Global, runs: Vec<SharedRun>) -> Result<Self, AllocError>
-        requires sized { IsChunk runs.items }
-        requires bound { length (units_of_runs runs.items) < 2 ^ 64 }
-        ensures runs { IfOk result (λ chunk. chunk ≡ runs.items) }
+    pub(crate) fn new(alloc: Global, runs: Passage) -> Result<Self, AllocError>
+        requires { length runs < 2 ^ 64 }
+        ensures same { IfOk result (λ chunk. chunk ≡ runs) }
+        ensures well_formed { IfOk result (λ chunk. IsWellFormed chunk) }
     {
-        let units = runs_units(runs.as_slice());
-        let weight = runs_weight(runs.as_slice());
+        let runs = runs.fitted();
+        let units = runs.rest().units();
+        let weight = runs.rest().weight();
         match Arc::new(alloc, runs) {
             Ok(runs) => Ok(Chunk {
                 runs,
@@ -61,25 +83,6 @@ impl Chunk {
             }),
             Err(_) => Err(AllocError),
         }
-    }
-
-    /// Has these runs in place of its own. Where the chunk has one owner that takes no memory.
-    pub(crate) fn replace(&mut self, alloc: Global, runs: Vec<SharedRun>) -> Result<(), AllocError>
-        requires sized { IsChunk runs.items }
-        requires bound { length (units_of_runs runs.items) < 2 ^ 64 }
-        ensures ok { OnOk result (self.new ≡ runs.items) }
-        ensures err { OnErr result (self.new ≡ self.old) }
-    {
-        let units = runs_units(runs.as_slice());
-        let weight = runs_weight(runs.as_slice());
-        if let Some(own) = Arc::get_mut(&mut self.runs) {
-            *own = runs;
-            self.units = units;
-            self.weight = weight;
-            return Ok(());
-        }
-        *self = Chunk::new(alloc, runs)?;
-        Ok(())
     }
 
     /// One more owner of the chunk. It takes no memory: refused only where the chunk can have no more owners.
@@ -94,72 +97,78 @@ impl Chunk {
         })
     }
 
-    /// Its runs, 1 to 128 of them. It takes no memory.
-    pub fn runs(&self) -> &[SharedRun]
-        ensures runs { result.now ≡ self.now }
-        ensures sized { IsChunk self.now }
+    /// Its runs. It takes no memory.
+    pub(crate) fn rest(&self) -> Rest<'_>
+        ensures { result ≡ self.now }
     {
-        self.runs.as_slice()
+        self.runs.rest()
     }
 
     /// How many code units it has; an embed counts as one. In constant time.
-    pub fn len16(&self) -> u64
-        ensures { result ≡ length (units_of_runs self.now) }
+    pub(crate) fn len16(&self) -> u64
+        ensures { result ≡ length self.now }
     {
         self.units
     }
 
     /// Its weight, as `Document::weight` counts it, and 2^64 - 1 where that is more. In constant time.
-    pub fn weight(&self) -> u64
-        ensures { result ≡ min (weight_of (units_of_runs self.now)) (2 ^ 64 - 1) }
+    pub(crate) fn weight(&self) -> u64
+        ensures { result ≡ min (weight_of self.now) (2 ^ 64 - 1) }
     {
         self.weight
     }
+}
 
-    /// Its first run.
-    pub(crate) fn first(&self) -> &SharedRun
-        ensures { first_attributes self.now ≡ text_attributes result.now }
+impl Group {
+    /// A group of these chunks, with one owner.
+    pub(crate) fn new(alloc: Global, chunks: Vec<Chunk>) -> Result<Self, AllocError>
+        requires chunks { AreParts chunks.items }
+        requires bound { length (units_of_parts chunks.items) < 2 ^ 64 }
+        ensures same { IfOk result (λ group. group ≡ units_of_parts chunks.items) }
     {
-        &self.runs[0]
+        let units = chunks_units(chunks.as_slice());
+        let weight = chunks_weight(chunks.as_slice());
+        match Arc::new(alloc, chunks) {
+            Ok(chunks) => Ok(Group {
+                chunks,
+                units,
+                weight,
+            }),
+            Err(_) => Err(AllocError),
+        }
     }
 
-    /// Its last run.
-    pub(crate) fn last(&self) -> &SharedRun
-        ensures { last_attributes self.now ≡ text_attributes result.now }
+    /// One more owner of the group. It takes no memory: refused only where the group can have no more owners.
+    pub(crate) fn share(&self) -> Result<Self, AllocError>
+        ensures same { IfOk result (λ group. group ≡ self.now) }
     {
-        let len = self.runs.len();
-        &self.runs[len - 1]
+        let chunks = Arc::try_clone(&self.chunks)?;
+        Ok(Group {
+            chunks,
+            units: self.units,
+            weight: self.weight,
+        })
     }
 
-    /// Takes a text into the last run, where that is a text of equal attributes, and says whether it is. The chunk is changed in
-    /// place where it has one owner, and is else made anew for this one.
-    pub(crate) fn merge_last(
-        &mut self,
-        alloc: Global,
-        text: &str,
-        units: u64,
-        attrs: &Attrs,
-    ) -> Result<bool, AllocError>
-        requires counted { units ≡ length (units_of text.now) }
-        requires bound { length (units_of_runs self.old) + units < 2 ^ 64 }
-        ensures ok { IfOk result (λ yes. MatchBool yes
-            (TakesText self.old self.new (letters (units_of text.now) attrs.now) attrs.now)
-            ((last_attributes self.old ≢ Some attrs.now) × (self.new ≡ self.old))) }
-        ensures err { OnErr result (self.new ≡ self.old) }
+    /// Its chunks. It takes no memory.
+    pub(crate) fn chunks(&self) -> &[Chunk]
+        ensures units { units_of_parts result.now ≡ self.now }
+        ensures chunks { AreParts result.now }
     {
-        if !self.last().takes(attrs) {
-            return Ok(false);
-        }
-        let more = text_weight(text, units, attrs);
-        if let Some(runs) = Arc::get_mut(&mut self.runs) {
-            merge_into(alloc, runs, text, units, attrs)?;
-            self.weight = self.weight.saturating_add(more);
-            self.units += units;
-            return Ok(true);
-        }
-        let mut runs = share_all(alloc, self.runs.as_slice())?;
-        merge_into(alloc, &mut runs, text, units, attrs)?;
-        *self = Chunk::new(alloc, runs)?;
-        Ok(true)
+        self.chunks.as_slice()
+    }
+
+    /// How many code units it has; an embed counts as one. In constant time.
+    pub(crate) fn len16(&self) -> u64
+        ensures { result ≡ length self.now }
+    {
+        self.units
+    }
+
+    /// Its weight, as `Document::weight` counts it, and 2^64 - 1 where that is more. In constant time.
+    pub(crate) fn weight(&self) -> u64
+        ensures { result ≡ min (weight_of self.now) (2 ^ 64 - 1) }
+    {
+        self.weight
     }
 }

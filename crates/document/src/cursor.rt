@@ -1,58 +1,57 @@
-//! A walk over the units of runs, piece by piece.
-ghost use Rattle.std.specs.Prelude.{◌≡◌, ◌-◌, ◌^◌, min, ◌≤◌, ◌<◌, ◌++◌, length, IfOk, IfSome, OnOk, OnErr, None, IsOkUnless, take};
-ghost use Rattle.document.specs.Pairs.{IsWithinPair};
-ghost use Rattle.document.specs.Chunks.{units_of_chunks, AreChunks};
+//! A walk over the units of a document, piece by piece.
+ghost use Rattle.std.specs.Prelude.{◌≡◌, ◌-◌, ◌^◌, min, ◌≤◌, ◌<◌, ◌++◌, length, IfOk, OnOk, OnErr, IsOkUnless, take};
+ghost use Rattle.document.specs.Pairs.{IsWithinPair, IsWellFormed};
+ghost use Rattle.document.specs.Parts.{units_of_parts, AreParts};
 ghost use Rattle.document.specs.Weight.{weight_of};
 ghost use Rattle.document.specs.steps.Passes.{IsSteppedOver};
 ghost use Rattle.document.specs.Pieces.{piece_units, begun_units, IsPiece, IsBegun};
-ghost use Rattle.document.specs.Runs.{units_of_runs, AreRuns, IsRun};
 
-use crate::chunk::Chunk;
-use crate::run::Piece;
-use crate::shared::SharedRun;
+use crate::chunk::{Chunk, Group};
 use crate::walk::skip;
-use crate::weights::{chunks_weight, runs_weight};
+use crate::weights::{chunks_weight, groups_weight};
+use passage::{Piece, Rest};
 use std::marker::Model;
 use utf16::{Cut, split_counted};
 
-/// A place in a document, seen as the units from there on. It is what is left of a run, the runs after it in its chunk, and the
-/// chunks after that.
+/// A place in a document, seen as the units from there on. It is what is left of a run, the runs after it in its chunk, the chunks
+/// after that in its group, and the groups after that.
 #[derive(Drop)]
 pub struct Cursor<'a> {
     begun: Option<Piece<'a>>,
-    runs: &'a [SharedRun],
+    rest: Rest<'a>,
     chunks: &'a [Chunk],
+    groups: &'a [Group],
 }
 
 impl<'a> Model for Cursor<'a> {
-    ghost use Rattle.std.specs.Prelude.{◌++◌, ◌≤◌, length, List};
+    ghost use Rattle.std.specs.Prelude.{◌++◌, List};
     ghost use Rattle.std.specs.Coded.{coded_list};
     ghost use Rattle.delta.specs.Element.{Element};
     ghost use Rattle.delta.specs.ElementCode.{element_code};
     ghost use Rattle.document.specs.Pieces.{begun_units, IsBegun};
-    ghost use Rattle.document.specs.Chunks.{units_of_chunks, AreChunks};
-    ghost use Rattle.document.specs.Runs.{units_of_runs, AreRuns};
+    ghost use Rattle.document.specs.Parts.{units_of_parts, AreParts};
 
     ghost Value = { List Element };
 
     ghost coded = { coded_list element_code };
 
-    ghost view = { λ c. begun_units c.begun ++ (units_of_runs c.runs.now ++ units_of_chunks c.chunks.now) };
+    ghost view = { λ c. begun_units c.begun
+        ++ (c.rest ++ (units_of_parts c.chunks.now ++ units_of_parts c.groups.now)) };
 
-    ghost invariant = { λ c. IsBegun c.begun × AreRuns c.runs.now × (length c.runs.now ≤ 128)
-        × AreChunks c.chunks.now };
+    ghost invariant = { λ c. IsBegun c.begun × AreParts c.chunks.now × AreParts c.groups.now };
 }
 
 impl<'a> Cursor<'a> {
-    /// The start of the chunks.
-    pub(crate) fn new(chunks: &'a [Chunk]) -> Self
-        requires { AreChunks chunks.now }
-        ensures { result ≡ units_of_chunks chunks.now }
+    /// The start of the groups.
+    pub(crate) fn new(groups: &'a [Group]) -> Self
+        requires { AreParts groups.now }
+        ensures { result ≡ units_of_parts groups.now }
     {
         Cursor {
             begun: None,
-            runs: &[],
-            chunks,
+            rest: Rest::none(),
+            chunks: &[],
+            groups,
         }
     }
 
@@ -62,13 +61,14 @@ impl<'a> Cursor<'a> {
     {
         Cursor {
             begun: self.begun,
-            runs: self.runs,
+            rest: self.rest.again(),
             chunks: self.chunks,
+            groups: self.groups,
         }
     }
 
-    /// Steps over so many code units, and looks into none of the chunks and runs that these have as a whole; refused where that would
-    /// part a pair, and then the cursor may have moved.
+    /// Steps over so many code units, and looks into none of the groups, chunks and runs that these have as a whole; refused where that
+    /// would part a pair, and then the cursor may have moved.
     pub fn skip(&mut self, len: u64) -> Result<(), Cut>
         requires { len ≤ length self.old }
         ensures passed { OnOk result (IsSteppedOver self.old self.new len) }
@@ -90,82 +90,75 @@ impl<'a> Cursor<'a> {
         ensures parted { OnErr result (IsWithinPair self.old most) }
         ensures only { IsOkUnless result Cut.InPair }
     {
-        let (whole, runs, chunks) = first(self.begun, self.runs, self.chunks);
+        let (whole, place) = first(self.begun, &self.rest, self.chunks, self.groups);
         let (piece, left) = cut(whole, most)?;
         self.begun = left;
-        self.runs = runs;
-        self.chunks = chunks;
+        self.rest = place.rest;
+        self.chunks = place.chunks;
+        self.groups = place.groups;
         Ok(piece)
-    }
-
-    /// The next run, and steps over it, where it stands there as a whole and has at most so many code units.
-    pub(crate) fn next_run(&mut self, most: u64) -> Option<&'a SharedRun>
-        ensures parts { IfSome result (λ run. run.now ++ self.new ≡ self.old) }
-        ensures run { IfSome result (λ run. IsRun run.now) }
-        ensures most { IfSome result (λ run. length run.now ≤ most) }
-        ensures none { (result ≡ None) → (self.new ≡ self.old) }
-    {
-        if self.begun.is_some() {
-            return None;
-        }
-        let (runs, chunks) = entered(self.runs, self.chunks);
-        if runs.is_empty() {
-            return None;
-        }
-        let run = &runs[0];
-        if run.units() > most {
-            return None;
-        }
-        self.runs = &runs[1..];
-        self.chunks = chunks;
-        Some(run)
     }
 
     /// The runs up to the chunk's end that stand there as a whole and have at most so many code units together, with that number,
     /// and steps over them.
-    pub(crate) fn next_runs(&mut self, most: u64) -> (&'a [SharedRun], u64)
-        ensures parts { units_of_runs result.0.now ++ self.new ≡ self.old }
-        ensures runs { AreRuns result.0.now }
-        ensures few { length result.0.now ≤ 128 }
-        ensures units { result.1 ≡ length (units_of_runs result.0.now) }
+    pub(crate) fn next_runs(&mut self, most: u64) -> (Rest<'a>, u64)
+        ensures parts { result.0 ++ self.new ≡ self.old }
+        ensures well_formed { IsWellFormed result.0 }
+        ensures units { result.1 ≡ length result.0 }
         ensures none { (result.1 ≡ 0) → (self.new ≡ self.old) }
         ensures most { result.1 ≤ most }
     {
         if self.begun.is_some() {
-            return (&[], 0);
+            return (Rest::none(), 0);
         }
-        let (runs, chunks) = entered(self.runs, self.chunks);
-        let (count, units) = whole_runs(runs, most);
-        let (front, back) = runs.split_at(count);
-        self.runs = back;
-        self.chunks = chunks;
+        let place = entered(&self.rest, self.chunks, self.groups);
+        let (front, units, back) = place.rest.split_whole(most);
+        self.rest = back;
+        self.chunks = place.chunks;
+        self.groups = place.groups;
         (front, units)
     }
 
-    /// The chunks that stand there as a whole and have at most so many code units together, with that number, and steps over them.
+    /// The chunks up to the group's end that stand there as a whole and have at most so many code units together, with that number,
+    /// and steps over them.
     pub(crate) fn next_chunks(&mut self, most: u64) -> (&'a [Chunk], u64)
-        ensures parts { units_of_chunks result.0.now ++ self.new ≡ self.old }
-        ensures chunks { AreChunks result.0.now }
-        ensures units { result.1 ≡ length (units_of_chunks result.0.now) }
+        ensures parts { units_of_parts result.0.now ++ self.new ≡ self.old }
+        ensures chunks { AreParts result.0.now }
+        ensures units { result.1 ≡ length (units_of_parts result.0.now) }
         ensures none { (result.1 ≡ 0) → (self.new ≡ self.old) }
         ensures most { result.1 ≤ most }
     {
-        if self.begun.is_some() || !self.runs.is_empty() {
+        if self.begun.is_some() || !self.rest.is_empty() {
             return (&[], 0);
         }
-        let (count, units) = whole_chunks(self.chunks, most);
-        let (front, back) = self.chunks.split_at(count);
+        let (chunks, groups) = entered_group(self.chunks, self.groups);
+        let (count, units) = whole_chunks(chunks, most);
+        let (front, back) = chunks.split_at(count);
         self.chunks = back;
+        self.groups = groups;
         (front, units)
     }
 
-    /// How many bytes are left of a text that is begun; 0 where none is.
-    pub(crate) fn bytes_begun(&self) -> usize {
-        match self.begun {
-            Some(Piece::Text(text, _, _)) => text.len(),
-            Some(Piece::Embed(_, _, _)) => 0,
-            None => 0,
+    /// The groups that stand there as a whole and have at most so many code units together, with that number, and steps over them.
+    pub(crate) fn next_groups(&mut self, most: u64) -> (&'a [Group], u64)
+        ensures parts { units_of_parts result.0.now ++ self.new ≡ self.old }
+        ensures groups { AreParts result.0.now }
+        ensures units { result.1 ≡ length (units_of_parts result.0.now) }
+        ensures none { (result.1 ≡ 0) → (self.new ≡ self.old) }
+        ensures most { result.1 ≤ most }
+    {
+        if self.begun.is_some() || !self.rest.is_empty() || !self.chunks.is_empty() {
+            return (&[], 0);
         }
+        let (count, units) = whole_groups(self.groups, most);
+        let (front, back) = self.groups.split_at(count);
+        self.groups = back;
+        (front, units)
+    }
+
+    /// How many bytes and how many runs are left of the chunk.
+    pub(crate) fn sizes_left(&self) -> (usize, usize) {
+        self.rest.sizes()
     }
 
     /// The weight of the units from there on, and 2^64 - 1 where that is more.
@@ -177,76 +170,112 @@ impl<'a> Cursor<'a> {
             None => 0,
         };
         begun
-            .saturating_add(runs_weight(self.runs))
+            .saturating_add(self.rest.weight())
             .saturating_add(chunks_weight(self.chunks))
+            .saturating_add(groups_weight(self.groups))
     }
 }
 
-// what is left of the run begun, or the next run, and the runs and chunks after it
+// A place where no run is begun.
+struct Place<'a> {
+    rest: Rest<'a>,
+    chunks: &'a [Chunk],
+    groups: &'a [Group],
+}
+
+// what is left of the run begun, or the next run, and the place behind it
 fn first<'a>(
     begun: Option<Piece<'a>>,
-    runs: &'a [SharedRun],
+    rest: &Rest<'a>,
     chunks: &'a [Chunk],
-) -> (Piece<'a>, &'a [SharedRun], &'a [Chunk])
-    requires some { 0 < length (begun_units begun ++ (units_of_runs runs.now ++ units_of_chunks chunks.now)) }
+    groups: &'a [Group],
+) -> (Piece<'a>, Place<'a>)
+    requires some { 0 < length (begun_units begun ++ (rest.now ++ (units_of_parts chunks.now ++ units_of_parts groups.now))) }
     requires begun { IsBegun begun }
-    requires runs { AreRuns runs.now }
-    requires few { length runs.now ≤ 128 }
-    requires chunks { AreChunks chunks.now }
-    ensures parts { piece_units result.0 ++ (units_of_runs result.1.now ++ units_of_chunks result.2.now)
-        ≡ begun_units begun.entry ++ (units_of_runs runs.now ++ units_of_chunks chunks.now) }
+    requires chunks { AreParts chunks.now }
+    requires groups { AreParts groups.now }
+    ensures parts { piece_units result.0
+        ++ (result.1.rest ++ (units_of_parts result.1.chunks.now ++ units_of_parts result.1.groups.now))
+        ≡ begun_units begun.entry ++ (rest.now ++ (units_of_parts chunks.now ++ units_of_parts groups.now)) }
     ensures piece { IsPiece result.0 }
-    ensures runs { AreRuns result.1.now }
-    ensures few { length result.1.now ≤ 128 }
-    ensures chunks { AreChunks result.2.now }
+    ensures chunks { AreParts result.1.chunks.now }
+    ensures groups { AreParts result.1.groups.now }
 {
-    match begun {
-        Some(piece) => (piece, runs, chunks),
-        None => {
-            let (runs, chunks) = entered(runs, chunks);
-            (runs[0].piece(), &runs[1..], chunks)
+    if let Some(piece) = begun {
+        let place = Place {
+            rest: rest.again(),
+            chunks,
+            groups,
+        };
+        return (piece, place);
+    }
+    let place = entered(rest, chunks, groups);
+    match place.rest.split_first() {
+        Some((piece, rest)) => {
+            let place = Place {
+                rest,
+                chunks: place.chunks,
+                groups: place.groups,
+            };
+            (piece, place)
         }
+        None => unreachable!(),
     }
 }
 
 // the same place, within a chunk where there is one
-fn entered<'a>(runs: &'a [SharedRun], chunks: &'a [Chunk]) -> (&'a [SharedRun], &'a [Chunk])
-    requires runs { AreRuns runs.now }
-    requires few { length runs.now ≤ 128 }
-    requires chunks { AreChunks chunks.now }
-    ensures same { units_of_runs result.0.now ++ units_of_chunks result.1.now
-        ≡ units_of_runs runs.now ++ units_of_chunks chunks.now }
-    ensures some { 0 < length (units_of_runs runs.now ++ units_of_chunks chunks.now) → 0 < length result.0.now }
-    ensures runs { AreRuns result.0.now }
-    ensures few { length result.0.now ≤ 128 }
-    ensures chunks { AreChunks result.1.now }
+fn entered<'a>(rest: &Rest<'a>, chunks: &'a [Chunk], groups: &'a [Group]) -> Place<'a>
+    requires chunks { AreParts chunks.now }
+    requires groups { AreParts groups.now }
+    ensures same { result.rest ++ (units_of_parts result.chunks.now ++ units_of_parts result.groups.now)
+        ≡ rest.now ++ (units_of_parts chunks.now ++ units_of_parts groups.now) }
+    ensures some { 0 < length (rest.now ++ (units_of_parts chunks.now ++ units_of_parts groups.now))
+        → 0 < length result.rest }
+    ensures chunks { AreParts result.chunks.now }
+    ensures groups { AreParts result.groups.now }
 {
-    if runs.is_empty() && !chunks.is_empty() {
-        return (chunks[0].runs(), &chunks[1..]);
+    if !rest.is_empty() {
+        return Place {
+            rest: rest.again(),
+            chunks,
+            groups,
+        };
     }
-    (runs, chunks)
+    let (chunks, groups) = entered_group(chunks, groups);
+    if chunks.is_empty() {
+        return Place {
+            rest: Rest::none(),
+            chunks,
+            groups,
+        };
+    }
+    Place {
+        rest: chunks[0].rest(),
+        chunks: &chunks[1..],
+        groups,
+    }
 }
 
-// how many runs have at most so many code units together, and how many that is
-fn whole_runs(runs: &[SharedRun], most: u64) -> (usize, u64)
-    ensures within { result.0 ≤ length runs.now }
-    ensures units { result.1 ≡ length (units_of_runs (take result.0 runs.now)) }
-    ensures most { result.1 ≤ most }
+// the same place between chunks, within a group where there is one
+fn entered_group<'a>(chunks: &'a [Chunk], groups: &'a [Group]) -> (&'a [Chunk], &'a [Group])
+    requires chunks { AreParts chunks.now }
+    requires groups { AreParts groups.now }
+    ensures same { units_of_parts result.0.now ++ units_of_parts result.1.now
+        ≡ units_of_parts chunks.now ++ units_of_parts groups.now }
+    ensures some { 0 < length (units_of_parts chunks.now ++ units_of_parts groups.now) → 0 < length result.0.now }
+    ensures chunks { AreParts result.0.now }
+    ensures groups { AreParts result.1.now }
 {
-    let mut units: u64 = 0;
-    for (count, run) in runs.iter().enumerate() {
-        if run.units() > most - units {
-            return (count, units);
-        }
-        units += run.units();
+    if chunks.is_empty() && !groups.is_empty() {
+        return (groups[0].chunks(), &groups[1..]);
     }
-    (runs.len(), units)
+    (chunks, groups)
 }
 
 // how many chunks have at most so many code units together, and how many that is
 fn whole_chunks(chunks: &[Chunk], most: u64) -> (usize, u64)
     ensures within { result.0 ≤ length chunks.now }
-    ensures units { result.1 ≡ length (units_of_chunks (take result.0 chunks.now)) }
+    ensures units { result.1 ≡ length (units_of_parts (take result.0 chunks.now)) }
     ensures most { result.1 ≤ most }
 {
     let mut units: u64 = 0;
@@ -257,6 +286,22 @@ fn whole_chunks(chunks: &[Chunk], most: u64) -> (usize, u64)
         units += chunk.len16();
     }
     (chunks.len(), units)
+}
+
+// how many groups have at most so many code units together, and how many that is
+fn whole_groups(groups: &[Group], most: u64) -> (usize, u64)
+    ensures within { result.0 ≤ length groups.now }
+    ensures units { result.1 ≡ length (units_of_parts (take result.0 groups.now)) }
+    ensures most { result.1 ≤ most }
+{
+    let mut units: u64 = 0;
+    for (count, group) in groups.iter().enumerate() {
+        if group.len16() > most - units {
+            return (count, units);
+        }
+        units += group.len16();
+    }
+    (groups.len(), units)
 }
 
 // parts a piece after at most so many code units

@@ -223,3 +223,26 @@ bytes_before rs i = omega (arith, bytes_append (take i rs) (drop i rs), ap bytes
 
 pub count_before : (rs : List Run) (i : ℕ) → count_laid (take i rs) ≤ count_laid rs
 count_before rs i = omega (arith, count_append (take i rs) (drop i rs), ap count_laid (take-append-drop i rs))
+
+-- runs parted after so many of them
+pub boundary_at : (text : List ℕ) (rs : List Run) (count bytes : ℕ) → IsUtf8 text → AreLaid text rs → bytes ≡ bytes_laid (take count rs) → IsCharBoundary text bytes
+boundary_at text rs count bytes utf8 laid is =
+    let parts = laid_parts text (take count rs) (drop count rs) utf8 (subst (AreLaid text) (sym (take-append-drop count rs)) laid) in
+    subst (IsCharBoundary text) (sym is) (IsCharBoundary-from_take text (bytes_laid (take count rs)) utf8 parts.within parts.utf8)
+
+pub parted_at : (text front back : List ℕ) (rs fs bs : List Run) (count bytes : ℕ) → IsUtf8 text → AreLaid text rs → bytes ≡ bytes_laid (take count rs)
+    → front ≡ take bytes text → back ≡ drop bytes text → fs ≡ take count rs → bs ≡ drop count rs
+    → AreLaid front fs × AreLaid back bs × (units_laid front fs ++ units_laid back bs ≡ units_laid text rs)
+parted_at text front back rs fs bs count bytes utf8 laid is front_is back_is fs_is bs_is =
+    let parts = laid_parts text (take count rs) (drop count rs) utf8 (subst (AreLaid text) (sym (take-append-drop count rs)) laid) in
+    let front_at : front ≡ take (bytes_laid (take count rs)) text = front_is ∙ ap (λ n. take n text) is in
+    let back_at : back ≡ drop (bytes_laid (take count rs)) text = back_is ∙ ap (λ n. drop n text) is in
+    (
+      subst (λ t. AreLaid t fs) (sym front_at) (subst (AreLaid (take (bytes_laid (take count rs)) text)) (sym fs_is) parts.front),
+      subst (λ t. AreLaid t bs) (sym back_at) (subst (AreLaid (drop (bytes_laid (take count rs)) text)) (sym bs_is) parts.back),
+      ap (λ t. units_laid t fs ++ units_laid back bs) front_at
+      ∙ (ap (λ r. units_laid (take (bytes_laid (take count rs)) text) r ++ units_laid back bs) fs_is
+      ∙ (ap (λ t. units_laid (take (bytes_laid (take count rs)) text) (take count rs) ++ units_laid t bs) back_at
+      ∙ (ap (λ r. units_laid (take (bytes_laid (take count rs)) text) (take count rs) ++ units_laid (drop (bytes_laid (take count rs)) text) r) bs_is
+      ∙ (parts.units ∙ ap (units_laid text) (take-append-drop count rs))))),
+    )

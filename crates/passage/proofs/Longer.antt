@@ -1,6 +1,7 @@
 -- A last run that takes a text in, and a run behind others.
-use Rattle.std.proofs.Common.{◌≡◌, ℕ, ◌+◌, ◌-◌, ◌^◌, ◌<◌, ◌≤◌, min, List, [], ◌∷◌, ◌++◌, length, take, drop, refl, sym, ap, subst, ◌∙◌, arith, append_assoc, append-nil, length-append}
-use Rattle.std.proofs.lemmas.List.{take-append-drop, take_all, length-drop}
+use Rattle.std.proofs.Common.{◌≡◌, ℕ, ◌+◌, ◌-◌, ◌^◌, ◌<◌, ◌≤◌, min, List, [], ◌∷◌, ◌++◌, length, take, drop, get_or, refl, sym, ap, subst, ◌∙◌, arith, append_assoc, append-nil, length-append}
+use Rattle.std.proofs.Math.ListN.{set, length-set}
+use Rattle.std.proofs.lemmas.List.{take-append-drop, take_all, take_more, take_more_set, length-drop}
 use Rattle.std.proofs.lemmas.Str.{IsUtf8-append}
 use Rattle.std.specs.Str.{IsUtf8}
 use Rattle.utf16.specs.Units.{units_of}
@@ -123,3 +124,30 @@ behind_embed old rs ns r embed a laid ns_is is attrs weighs =
       ap (λ k. drop (content_bytes k) []) is,
     )
     (ap (λ l. l ++ units_laid (drop (content_bytes r.content) []) []) same) (sym (append-nil old)) ns_is
+
+-- the last run, as it was and as it is
+ends_with : (rs : List Run) (n : ℕ) (last : Run) → n + 1 ≡ length rs → last ≡ get_or rs n last → rs ≡ take n rs ++ last ∷ []
+ends_with rs n last at is =
+    sym (take_all (n + 1) rs (omega arith)) ∙ (take_more rs n last (omega arith) ∙ ap (λ r. take n rs ++ r ∷ []) (sym is))
+
+set_last : (rs : List Run) (n : ℕ) (longer : Run) → n + 1 ≡ length rs → set rs n longer ≡ take n rs ++ longer ∷ []
+set_last rs n longer at =
+    sym (take_all (n + 1) (set rs n longer) (omega (arith, length-set rs n longer))) ∙ take_more_set rs n longer (omega arith)
+
+pub last_lengthened : (rs : List Run) (n : ℕ) (last longer : Run) (bytes units weight : ℕ) (a : Attributes) → n + 1 ≡ length rs → last ≡ get_or rs n last
+    → IsLonger last.content longer.content bytes units → (last.attrs ≡ a) × (longer.attrs ≡ a) → longer.weight ≡ min (last.weight + weight) (2 ^ 64 - 1)
+    → IsLengthened rs (set rs n longer) bytes units a weight
+last_lengthened rs n last longer bytes units weight a at is content_is attrs weighs = record {
+  before = take n rs;
+  last = last;
+  longer = longer;
+  was = ends_with rs n last at is;
+  is = set_last rs n longer at;
+  content = content_is;
+  attrs = attrs;
+  weighs = weighs;
+}
+
+pub last_same : (rs : List Run) (n : ℕ) (last same : Run) → n + 1 ≡ length rs → last ≡ get_or rs n last → same ≡ last → set rs n same ≡ rs
+last_same rs n last same at is e =
+    set_last rs n same at ∙ (ap (λ r. take n rs ++ r ∷ []) e ∙ sym (ends_with rs n last at is))

@@ -1,5 +1,5 @@
 //! Texts cut by their bytes.
-ghost use Rattle.std.specs.Prelude.{◌≡◌, ◌++◌, ◌≤◌, length};
+ghost use Rattle.std.specs.Prelude.{◌≡◌, ℕ, ◌+◌, ◌++◌, ◌<◌, ◌≤◌, length};
 ghost use Rattle.std.specs.Str.{IsCharBoundary};
 ghost use Rattle.utf16.specs.Units.{units_of};
 
@@ -13,6 +13,7 @@ pub fn cut_text(text: &str, units: u64, most: usize) -> (&str, u64, &str)
     ensures whole { result.1 + length (units_of result.2.now) ≡ units }
     ensures letters { units_of result.0.now ++ units_of result.2.now ≡ units_of text.now }
     ensures most { length result.0.now ≤ most }
+    ensures some { 4 ≤ most → 0 < length text.now → 0 < length result.0.now }
 {
     if text.len() <= most {
         return (text, units, "");
@@ -27,6 +28,7 @@ fn boundary_before(text: &str, most: usize) -> usize
     requires { most ≤ length text.now }
     ensures boundary { IsCharBoundary text.now result }
     ensures most { result ≤ most }
+    ensures last { (k : ℕ) → IsCharBoundary text.now k → k ≤ most → k ≤ result }
 {
     let mut at = most;
     while !text.is_char_boundary(at) {

@@ -91,16 +91,13 @@ impl Run {
         ensures weighs { IsTrue result → self.new.weight ≡ min (self.old.weight + weight) (2 ^ 64 - 1) }
         ensures same { (result ≡ false) → (self.new ≡ self.old) }
     {
-        if self.attrs != *attrs {
-            return false;
+        if self.attrs == *attrs
+            && let Some(content) = self.content.longer(bytes, units)
+        {
+            self.content = content;
+            self.weight = self.weight.saturating_add(weight);
+            return true;
         }
-        match self.content.longer(bytes, units) {
-            Some(content) => {
-                self.content = content;
-                self.weight = self.weight.saturating_add(weight);
-                true
-            }
-            None => false,
-        }
+        false
     }
 }

@@ -1,0 +1,10 @@
+use Rattle.std.proofs.Common.{◌≡◌, ◌≤◌, take}
+use Rattle.passage.specs.Laid.{bytes_laid, count_laid}
+use Rattle.passage.proofs.parting.whole_runs.Given as goal
+
+abbrev pub invariant-loop-count : goal.invariant-loop-count
+invariant-loop-count l = record {
+  bytes : l.bytes ≡ bytes_laid (take l.count l.runs);
+  units : l.units ≡ count_laid (take l.count l.runs);
+  most : l.units ≤ l.most;
+}
