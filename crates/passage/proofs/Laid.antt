@@ -1,5 +1,6 @@
 -- Runs over one buffer: parts of them, runs behind others, and what they have together.
-use Rattle.std.proofs.Common.{◌≡◌, ℕ, ◌+◌, ◌-◌, ◌^◌, ◌<◌, ◌≤◌, min, List, [], ◌∷◌, ◌++◌, length, take, drop, get_or, refl, sym, ap, subst, ◌∙◌, arith, append_assoc, append-nil, length-append}
+use Rattle.std.proofs.Common.{◌≡◌, ℕ, ◌+◌, ◌-◌, ◌^◌, ◌<◌, ◌≤◌, min, Bool, IsTrue, ◌↔◌, nat_eq, List, [], ◌∷◌, ◌++◌, length, take, drop, get_or, refl, sym, ap, subst, ◌∙◌, arith, append_assoc, append-nil, length-append}
+use Rattle.std.proofs.lemmas.Bool.{eqb-true}
 use Rattle.std.proofs.lemmas.List.{take-append-drop, take-append-le, drop-append-le, drop-drop, drop-take, take-take, take_all, drop_all, take_more, length-take, length-drop}
 use Rattle.std.proofs.lemmas.Str.{IsUtf8-append, IsUtf8-drop, IsUtf8-nil, IsCharBoundary-from_take}
 use Rattle.std.specs.Str.{IsUtf8, IsCharBoundary}
@@ -245,4 +246,43 @@ parted_at text front back rs fs bs count bytes utf8 laid is front_is back_is fs_
       ∙ (ap (λ t. units_laid (take (bytes_laid (take count rs)) text) (take count rs) ++ units_laid t bs) back_at
       ∙ (ap (λ r. units_laid (take (bytes_laid (take count rs)) text) (take count rs) ++ units_laid (drop (bytes_laid (take count rs)) text) r) bs_is
       ∙ (parts.units ∙ ap (units_laid text) (take-append-drop count rs))))),
+    )
+
+-- no run, no unit
+some_content : (k : Content) (a : Attributes) (text : List ℕ) → IsContentLaid text k → 0 < length (content_laid text k a)
+some_content (content.Text bytes units) a text laid = omega (arith, length-letters (units_of (take bytes text)) a, laid.2, laid.3)
+some_content (content.Embed embed) a text laid = omega arith
+
+pub some_units : (text : List ℕ) (r : Run) (rs : List Run) → AreLaid text (r ∷ rs) → 0 < length (units_laid text (r ∷ rs))
+some_units text r rs laid =
+    omega (
+      arith,
+      some_content r.content r.attrs text laid.0.counted,
+      length-append (content_laid text r.content r.attrs) (units_laid (drop (content_bytes r.content) text) rs),
+    )
+
+pub empty_laid : (text : List ℕ) (rs : List Run) (units : List Element) (test : Bool) → AreLaid text rs → units_laid text rs ≡ units → test ≡ nat_eq (length rs) 0
+    → IsTrue test ↔ (units ≡ [])
+empty_laid text [] units test laid is test_is = (λ yes. sym is, λ none. test_is)
+empty_laid text (r ∷ rs) units test laid is test_is = (
+  λ yes. absurd (omega (arith, eqb-true (length (r ∷ rs)) 0 (sym test_is ∙ yes))),
+  λ none. absurd (omega (arith, some_units text r rs laid, ap length is, ap length none)),
+)
+
+-- the first of runs
+pub first_laid : (text : List ℕ) (rs : List Run) (r : Run) → r ≡ get_or rs 0 r → 0 < length rs → AreLaid text rs → IsRunLaid text r
+first_laid text [] r is some laid = absurd (omega arith)
+first_laid text (s ∷ rs) r is some laid = subst (IsRunLaid text) (sym is) laid.0
+
+pub boundary_of_first : (text : List ℕ) (r : Run) (bytes units : ℕ) → IsUtf8 text → IsRunLaid text r → r.content ≡ content.Text bytes units → IsCharBoundary text bytes
+boundary_of_first text r bytes units utf8 laid is =
+    subst (λ k. IsCharBoundary text (content_bytes k)) is (boundary_of r.content text utf8 laid.counted)
+
+pub piece_of_first : (text own : List ℕ) (r : Run) (a : Attributes) (bytes units count : ℕ) → IsRunLaid text r → r.content ≡ content.Text bytes units
+    → own ≡ take bytes text → count ≡ units → ((count ≡ length (units_of own)) × (0 < count)) × IsWellFormed (letters (units_of own) a)
+piece_of_first text own r a bytes units count laid is own_is same =
+    let counted : IsContentLaid text (content.Text bytes units) = subst (IsContentLaid text) is laid.counted in
+    (
+      (same ∙ (counted.2 ∙ ap (λ t. length (units_of t)) (sym own_is)), omega (arith, same, counted.3)),
+      subst (λ t. IsWellFormed (letters (units_of t) a)) (sym own_is) (IsWellFormed-text (take bytes text) a counted.1),
     )

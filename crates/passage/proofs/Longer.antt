@@ -151,3 +151,20 @@ last_lengthened rs n last longer bytes units weight a at is content_is attrs wei
 pub last_same : (rs : List Run) (n : ℕ) (last same : Run) → n + 1 ≡ length rs → last ≡ get_or rs n last → same ≡ last → set rs n same ≡ rs
 last_same rs n last same at is e =
     set_last rs n same at ∙ (ap (λ r. take n rs ++ r ∷ []) e ∙ sym (ends_with rs n last at is))
+
+-- the content of an embed that was made
+pub embed_is : (embed named : List ℕ × Scalar) → embed ≡ named → content.Embed embed ≡ content.Embed named
+embed_is embed named is = ap content.Embed is
+
+-- the same, where the runs are named once more
+pub text_taken : (old more both : List ℕ) (rs mid ns : List Run) (bytes units weight : ℕ) (a : Attributes) → IsUtf8 old → IsUtf8 more → AreLaid old rs
+    → both ≡ old ++ more → IsLengthened rs mid bytes units a weight → ns ≡ mid → bytes ≡ length more → units ≡ length (units_of more)
+    → weight ≡ min (weight_of (letters (units_of more) a)) (2 ^ 64 - 1) → IsBehind old both rs ns (letters (units_of more) a)
+text_taken old more both rs mid ns bytes units weight a utf8 utf8_more laid both_is l same count counted weight_is =
+    lengthened old more both rs ns bytes units weight a utf8 utf8_more laid both_is (subst (λ n. IsLengthened rs n bytes units a weight) (sym same) l) count counted weight_is
+
+pub text_pushed : (old more both : List ℕ) (rs mid ns : List Run) (r : Run) (bytes units : ℕ) (a : Attributes) → AreLaid old rs → both ≡ old ++ more → mid ≡ rs → ns ≡ mid ++ r ∷ []
+    → r.content ≡ content.Text bytes units → bytes ≡ length more → IsUtf8 more → units ≡ length (units_of more) → 0 < units → r.attrs ≡ a
+    → r.weight ≡ min (weight_of (letters (units_of more) a)) (2 ^ 64 - 1) → IsBehind old both rs ns (letters (units_of more) a)
+text_pushed old more both rs mid ns r bytes units a laid both_is same ns_is is count utf8 counted some attrs weighs =
+    behind_text old more both rs ns r bytes units a laid both_is (ns_is ∙ ap (λ l. l ++ r ∷ []) same) is count utf8 counted some attrs weighs

@@ -4,8 +4,8 @@ ghost use Rattle.passage.specs.Pairs.{IsWellFormed};
 ghost use Rattle.passage.specs.Weight.{weight_of};
 
 use crate::piece::Piece;
-use crate::parting::{first_runs, parted, runs_before, whole_runs};
-use crate::run::{Content, Run};
+use crate::parting::{first_of, first_runs, parted, runs_before, runs_units, runs_weight, whole_runs};
+use crate::run::Run;
 use std::marker::Model;
 
 /// Runs of a passage with the bytes of their texts, seen as their units.
@@ -73,22 +73,14 @@ impl<'a> Rest<'a> {
         ensures units { result ≡ length self.now }
         ensures well_formed { IsWellFormed self.now }
     {
-        let mut units: u64 = 0;
-        for run in self.runs {
-            units += run.content.units();
-        }
-        units
+        runs_units(self.runs)
     }
 
     /// Its weight, and 2^64 - 1 where that is more.
     pub fn weight(&self) -> u64
         ensures { result ≡ min (weight_of self.now) (2 ^ 64 - 1) }
     {
-        let mut weight: u64 = 0;
-        for run in self.runs {
-            weight = weight.saturating_add(run.weight);
-        }
-        weight
+        runs_weight(self.runs)
     }
 
     /// The first run, and what is behind it.
@@ -98,28 +90,7 @@ impl<'a> Rest<'a> {
         ensures short { IfSome result (λ p. piece_bytes p.0 < 2 ^ 32) }
         ensures none { (result ≡ None) → (self.now ≡ []) }
     {
-        if self.runs.is_empty() {
-            return None;
-        }
-        let run = &self.runs[0];
-        let runs = &self.runs[1..];
-        match &run.content {
-            Content::Text(bytes, units) => {
-                let (own, text) = self.text.split_at(*bytes as usize);
-                let piece = Piece::Text(own, u64::from(*units), &run.attrs);
-                Some((piece, Rest { text, runs }))
-            }
-            Content::Embed(embed) => {
-                let piece = Piece::Embed(embed.key(), embed.value(), &run.attrs);
-                Some((
-                    piece,
-                    Rest {
-                        text: self.text,
-                        runs,
-                    },
-                ))
-            }
-        }
+        first_of(self.text, self.runs)
     }
 
     /// The first runs that have at most so many code units together, with that number, and what is behind them.
@@ -129,7 +100,7 @@ impl<'a> Rest<'a> {
         ensures most { result.1 ≤ most }
         ensures well_formed { IsWellFormed result.0 }
     {
-        let (count, bytes, units) = whole_runs(self.runs, most);
+        let (count, bytes, units) = whole_runs(self.runs, self.text.len(), most);
         let (front, back) = parted(self.text, self.runs, count, bytes);
         (front, units, back)
     }
@@ -143,7 +114,7 @@ impl<'a> Rest<'a> {
         let (count, bytes) = if self.text.len() > most_bytes {
             runs_before(self.runs, most)
         } else {
-            first_runs(self.runs, self.runs.len() / 2)
+            first_runs(self.runs, self.text.len(), self.runs.len() / 2)
         };
         parted(self.text, self.runs, count, bytes)
     }
