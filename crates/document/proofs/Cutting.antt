@@ -5,14 +5,14 @@ use Rattle.std.proofs.lemmas.List.{take-append-drop, length-drop, length-take}
 use Rattle.attributes.specs.Attributes.{Attributes}
 use Rattle.utf16.specs.Units.{units_of, IsHigh, IsLow, IsInPair}
 use Rattle.std.specs.Borrow.{Bor}
-use Rattle.document.specs.declared.run.Piece.{Piece}
-use Rattle.document.specs.declared.run.Piece.TheVariants as piece
+use Rattle.passage.specs.declared.piece.Piece.{Piece}
+use Rattle.passage.specs.declared.piece.Piece.TheVariants as piece
 use Rattle.document.specs.Pieces.{IsPiece}
 use Rattle.utf16.specs.declared.cut.Cut.{Cut}
 use Rattle.utf16.specs.declared.cut.Cut.TheVariants.{PastEnd, InPair}
 use Rattle.delta.specs.Element.{letters}
 use Rattle.document.specs.Pairs.{IsPairAt, IsWithinPair, IsWellFormed}
-use Rattle.document.proofs.Formed.{IsWellFormed-parts}
+use Rattle.passage.proofs.Formed.{IsWellFormed-parts}
 use Rattle.document.proofs.Letters.{letters-append, length-letters}
 
 -- a high and a low code unit side by side are a pair of the letters

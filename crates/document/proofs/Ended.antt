@@ -6,7 +6,7 @@ use Rattle.attributes.specs.Attributes.{Attributes}
 use Rattle.delta.specs.Element.{Element}
 use Rattle.document.specs.Runs.{units_of_runs, text_attributes, last_attributes, IsApart, IsRun, AreRuns, TakesText}
 use Rattle.document.specs.Pairs.{IsWellFormed}
-use Rattle.document.proofs.Formed.{IsWellFormed-append}
+use Rattle.passage.proofs.Formed.{IsWellFormed-append}
 use Rattle.document.proofs.Joined.{units_of_runs-last}
 
 -- a list with an element, parted before its last

@@ -5,7 +5,7 @@ use Rattle.std.proofs.lemmas.Bool.{false≢true}
 use Rattle.std.proofs.lemmas.List.{take-append-drop, nil_from_length}
 use Rattle.delta.specs.Element.{Element}
 use Rattle.document.specs.Chunks.{units_of_chunks}
-use Rattle.document.specs.declared.run.Piece.{Piece}
+use Rattle.passage.specs.declared.piece.Piece.{Piece}
 use Rattle.document.specs.Pieces.{begun_units}
 use Rattle.document.specs.Runs.{units_of_runs}
 use Rattle.document.proofs.Joined.{units_of_runs-append}

@@ -5,7 +5,7 @@ use Rattle.std.proofs.Common.{drop}
 use Rattle.delta.specs.Element.{Element}
 use Rattle.document.specs.Pairs.{IsWellFormed}
 use Rattle.document.specs.Runs.{units_of_runs, AreRuns}
-use Rattle.document.proofs.Formed.{IsWellFormed-append, well_formed-of_formed}
+use Rattle.passage.proofs.Formed.{IsWellFormed-append, well_formed-of_formed}
 
 pub units_of_runs-append : (a b : List (List Element)) → units_of_runs (a ++ b) ≡ units_of_runs a ++ units_of_runs b
 units_of_runs-append [] b = refl

@@ -9,7 +9,7 @@ use Rattle.document.specs.Pairs.{IsPair}
 use Rattle.delta.specs.Places.{inserted_at}
 use Rattle.document.specs.Places.{Cuts}
 use Rattle.document.specs.Laws.{StaysWellFormed}
-use Rattle.document.proofs.Formed.{Formed, IsSingle, Formed-append, formed-of_well_formed, well_formed-of_formed, IsPairAt-later}
+use Rattle.passage.proofs.Formed.{Formed, IsSingle, Formed-append, formed-of_well_formed, well_formed-of_formed, IsPairAt-later}
 
 -- fates that can't differ are equal
 same_keep : (c e : Changes) (b : Bool) → same_changes c e ≡ b → ¬ (Keep c ≢ Keep e) → Keep c ≡ Keep e

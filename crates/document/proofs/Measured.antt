@@ -10,8 +10,8 @@ use Rattle.delta.specs.Operation.{Operation, retain, delete, base_of}
 use Rattle.delta.proofs.CallerLemmas.{base_of-append, effect_of_parts, effect_past_end, effect_of_retain, effect_of_delete}
 use Rattle.document.specs.Pairs.{IsWellFormed}
 use Rattle.document.specs.Weight.{weight_of, attributes_weight}
-use Rattle.document.specs.declared.run.Piece.{Piece}
-use Rattle.document.specs.declared.run.Piece.TheVariants as piece
+use Rattle.passage.specs.declared.piece.Piece.{Piece}
+use Rattle.passage.specs.declared.piece.Piece.TheVariants as piece
 use Rattle.document.specs.steps.Passes.{IsSteppedOver, with_change}
 use Rattle.document.specs.Pieces.{piece_units, piece_attributes, piece_dressed, IsCounted, IsPiece}
 use Rattle.document.specs.steps.Weighing.{piece_weight, IsRetainedWeighed, IsWeighed}

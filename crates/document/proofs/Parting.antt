@@ -12,7 +12,7 @@ use Rattle.document.specs.Pairs.{IsPairAt}
 use Rattle.document.specs.steps.Passes.{StopsInPair}
 use Rattle.delta.specs.Places.{fate_at, inserted_at}
 use Rattle.document.specs.Places.{Cuts}
-use Rattle.document.proofs.Formed.{IsPairAt-later, IsPairAt-earlier}
+use Rattle.passage.proofs.Formed.{IsPairAt-later, IsPairAt-earlier}
 use Rattle.document.proofs.Kept.{cuts_later}
 use Rattle.delta.proofs.CallerLemmas.{normal-rest}
 

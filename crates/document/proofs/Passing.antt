@@ -3,12 +3,12 @@ use Rattle.std.proofs.Common.{◌≡◌, ℕ, zero, suc, ◌+◌, List, [], ◌�
 use Rattle.std.proofs.lemmas.List.{map-append, length-map}
 use Rattle.attributes.specs.Attributes.{Attributes, Changes, changed}
 use Rattle.delta.specs.Element.{Element, lettered, letters}
-use Rattle.document.specs.declared.run.Piece.{Piece}
-use Rattle.document.specs.declared.run.Piece.TheVariants as piece
+use Rattle.passage.specs.declared.piece.Piece.{Piece}
+use Rattle.passage.specs.declared.piece.Piece.TheVariants as piece
 use Rattle.document.specs.Pairs.{IsPairAt, IsWithinPair, IsWellFormed}
 use Rattle.document.specs.steps.Passes.{IsSteppedOver, IsRetained, with_change}
 use Rattle.document.specs.Pieces.{piece_units, piece_attributes, piece_dressed}
-use Rattle.document.proofs.Formed.{IsPairAt-later, IsWellFormed-append, well_formed-of_formed}
+use Rattle.passage.proofs.Formed.{IsPairAt-later, IsWellFormed-append, well_formed-of_formed}
 
 -- a pair of a document is one with more before it
 pub IsPairAt-after : (a b : List Element) (i k : ℕ) → IsPairAt b i → k ≡ length a + i → IsPairAt (a ++ b) k

@@ -12,7 +12,7 @@ use Rattle.delta.specs.Gaps.{counted, apply}
 use Rattle.delta.proofs.CallerLemmas.{base_of-append, out_of-append, length-apply_counted, effect_of_parts, effect_past_end, effect_of_retain, effect_of_delete}
 use Rattle.document.specs.Pairs.{IsPairAt, IsWithinPair, IsWellFormed}
 use Rattle.document.specs.steps.Passes.{StopsInPair, IsOneApplied, IsSteppedOver, IsRetained, with_change}
-use Rattle.document.proofs.Formed.{IsWellFormed-seam}
+use Rattle.passage.proofs.Formed.{IsWellFormed-seam}
 use Rattle.document.proofs.Passing.{length-parts, kept_run}
 pub use Rattle.attributes.proofs.CallerLemmas.{drop-here}
 

@@ -6,5 +6,6 @@ pub mod Making
 pub mod steps
 pub mod Pieces
 pub mod Parts
+pub mod Held
 pub mod Laws
 mod Examples

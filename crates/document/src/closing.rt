@@ -1,5 +1,5 @@
 //! Lists of chunks and of groups that grow at their end.
-ghost use Rattle.std.specs.Prelude.{◌≡◌, ◌<◌, ◌^◌, ◌++◌, length, OnOk};
+ghost use Rattle.std.specs.Prelude.{◌≡◌, ◌<◌, ◌≤◌, ◌^◌, ◌++◌, length, IfOk, OnOk};
 ghost use Rattle.document.specs.Parts.{units_of_parts, AreParts};
 
 use crate::chunk::{Chunk, Group};
@@ -68,9 +68,28 @@ fn close_front(
 {
     let len = made.len();
     let count = if len > 2 * MANY { MANY } else { len / 2 };
-    let back = made.split_off(count)?;
+    let back = split_off(alloc, made, count)?;
     let front = mem::replace(made, back);
     push_group(alloc, groups, front)
+}
+
+// takes the chunks from this one on out
+fn split_off(alloc: Global, chunks: &mut Vec<Chunk>, from: usize) -> Result<Vec<Chunk>, AllocError>
+    requires within { from ≤ length chunks.old.items }
+    requires parts { AreParts chunks.old.items }
+    ensures parts { IfOk result (λ back. chunks.new.items ++ back.items ≡ chunks.old.items) }
+    ensures front { OnOk result (length chunks.new.items ≡ from) }
+    ensures kept { AreParts chunks.new.items }
+{
+    let mut back = Vec::with_capacity(alloc, chunks.len() - from)?;
+    for _ in from..chunks.len() {
+        match chunks.pop() {
+            Some(chunk) => back.push(chunk)?,
+            None => unreachable!(),
+        }
+    }
+    back.reverse();
+    Ok(back)
 }
 
 // puts a group of these chunks at the end, where there is one

@@ -177,6 +177,7 @@ impl<'a> Cursor<'a> {
 }
 
 // A place where no run is begun.
+#[derive(Drop)]
 struct Place<'a> {
     rest: Rest<'a>,
     chunks: &'a [Chunk],

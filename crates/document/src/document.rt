@@ -5,34 +5,57 @@ ghost use Rattle.delta.specs.Gaps.{counted, apply, End};
 ghost use Rattle.delta.specs.Normal.{nf};
 ghost use Rattle.document.specs.Weight.{weight_of};
 ghost use Rattle.document.specs.steps.Passes.{StopsInPair};
-ghost use Rattle.document.specs.Chunks.{units_of_chunks, AreChunks};
-ghost use Rattle.document.specs.Runs.{units_of_runs, AreRuns};
-ghost use Rattle.utf16.specs.Units.{units_of};
-ghost use Rattle.delta.specs.Element.{letters};
+ghost use Rattle.document.specs.Parts.{units_of_parts, AreParts};
 ghost use Rattle.delta.specs.Operation.{base_of, out_of};
 ghost use Rattle.delta.specs.Places.{IsDefined};
 ghost use Rattle.document.specs.Places.{Cuts};
 ghost use Rattle.document.specs.Making.{document_from};
 ghost use Rattle.document.specs.Outcome.{IsAccepted, IsTooLong, IsRefused};
 
-use crate::appending::text_behind;
 use crate::applying::{built, parts_pair};
-use crate::building::{ChunkBuilder, extend_made};
-use crate::chunk::Chunk;
+use crate::building::ChunkBuilder;
+use crate::chunk::Group;
 use crate::cursor::Cursor;
 use crate::reweighing::weighed;
-use crate::weights::{chunks_units, chunks_weight};
-use attributes::Attrs;
+use crate::weights::{groups_units, groups_weight};
 use delta::{Builder, Delta, MAX_LEN};
 use refusal::Refusal;
 use std::alloc::{AllocError, Global};
 use std::marker::Model;
+use std::sync::Arc;
 
 /// A document of rich text, seen as its list of units: UTF-16 code units and embeds, each with attributes. It has at
-/// most 2^48 units. It is kept as chunks of runs, which it shares with the documents that come of it.
+/// most 2^48 units. It is kept as groups of chunks of runs, which it shares with the documents that come of it.
 #[derive(Drop)]
 pub struct Document {
-    chunks: Vec<Chunk>,
+    // none where it has no unit
+    list: Option<Arc<List>>,
+}
+
+// Groups, with their number of code units and their weight.
+#[derive(Drop)]
+struct List {
+    groups: Vec<Group>,
+    units: u64,
+    weight: u64,
+}
+
+impl Model for List {
+    ghost use Rattle.std.specs.Prelude.{◌≡◌, ◌≤◌, ◌-◌, ◌^◌, min, List, length};
+    ghost use Rattle.std.specs.Coded.{coded_list};
+    ghost use Rattle.delta.specs.Element.{Element};
+    ghost use Rattle.delta.specs.ElementCode.{element_code};
+    ghost use Rattle.document.specs.Parts.{units_of_parts, AreParts};
+    ghost use Rattle.document.specs.Weight.{weight_of};
+
+    ghost Value = { List Element };
+
+    ghost coded = { coded_list element_code };
+
+    ghost view = { λ l. units_of_parts l.groups.items };
+
+    ghost invariant = { λ l. (l.units ≡ length (units_of_parts l.groups.items)) × (l.units ≤ 2 ^ 48)
+        × (l.weight ≡ min (weight_of (units_of_parts l.groups.items)) (2 ^ 64 - 1)) × AreParts l.groups.items };
 }
 
 impl Model for Document {
@@ -40,15 +63,13 @@ impl Model for Document {
     ghost use Rattle.std.specs.Coded.{coded_list};
     ghost use Rattle.delta.specs.Element.{Element};
     ghost use Rattle.delta.specs.ElementCode.{element_code};
-    ghost use Rattle.document.specs.Chunks.{units_of_chunks, AreChunks};
+    ghost use Rattle.document.specs.Held.{held};
 
     ghost Value = { List Element };
 
     ghost coded = { coded_list element_code };
 
-    ghost view = { λ d. units_of_chunks d.chunks.items };
-
-    ghost invariant = { λ d. (length (units_of_chunks d.chunks.items) ≤ 2 ^ 48) × AreChunks d.chunks.items };
+    ghost view = { λ d. held d.list };
 }
 
 impl Document {
@@ -56,9 +77,8 @@ impl Document {
     pub fn empty(alloc: Global) -> Self
         ensures { result ≡ [] }
     {
-        Document {
-            chunks: Vec::new(alloc),
-        }
+        let _ = alloc;
+        Document { list: None }
     }
 
     /// The document that a delta makes of the empty one. Refused as PastEnd exactly where the delta retains or deletes a unit,
@@ -77,37 +97,45 @@ impl Document {
         }
     }
 
-    /// Its chunks. Each has 1 to 128 runs, and no run merges with the next one, across chunks too: no two neighbours among all
-    /// runs are texts of equal attributes. The document without a unit has no chunk. It takes no memory.
-    pub fn chunks(&self) -> &[Chunk]
-        ensures units { units_of_chunks result.now ≡ self.now }
-        ensures chunks { AreChunks result.now }
+    // its groups
+    fn groups(&self) -> &[Group]
+        ensures units { units_of_parts result.now ≡ self.now }
+        ensures groups { AreParts result.now }
     {
-        self.chunks.as_slice()
+        match &self.list {
+            Some(list) => list.groups(),
+            None => &[],
+        }
     }
 
     /// A walk over its units, from the start. It takes no memory.
     pub fn cursor(&self) -> Cursor<'_>
         ensures { result ≡ self.now }
     {
-        Cursor::new(self.chunks.as_slice())
+        Cursor::new(self.groups())
     }
 
-    /// How many code units it has; an embed counts as one. Linear in the chunks.
+    /// How many code units it has; an embed counts as one. In constant time.
     pub fn len16(&self) -> u64
         ensures len { result ≡ length self.now }
         ensures bounded { length self.now ≤ 2 ^ 48 }
         ensures well_formed { IsWellFormed self.now }
     {
-        chunks_units(self.chunks.as_slice())
+        match &self.list {
+            Some(list) => list.len16(),
+            None => 0,
+        }
     }
 
     /// Its weight: 12 for each unit; for each attribute of each unit, and for each embed's value, 12, the bytes of its
-    /// name and the bytes of a text value. 2^64 - 1 where it is more. Linear in the chunks.
+    /// name and the bytes of a text value. 2^64 - 1 where it is more. In constant time.
     pub fn weight(&self) -> u64
         ensures { result ≡ min (weight_of self.now) (2 ^ 64 - 1) }
     {
-        chunks_weight(self.chunks.as_slice())
+        match &self.list {
+            Some(list) => list.weight(),
+            None => 0,
+        }
     }
 
     /// What its weight would be after a delta: 2^64 - 1 where it would be more. Refused as PastEnd where the delta reaches past
@@ -123,16 +151,21 @@ impl Document {
         ensures only { IfErr result (λ e. (e ≡ Refusal.PastEnd) ⊎ (e ≡ Refusal.CutsPair)) }
     {
         self.fits(delta)?;
-        Ok(weighed(self.chunks.as_slice(), self.weight(), delta.ops()))
+        Ok(weighed(self.groups(), self.weight(), delta.ops()))
     }
 
-    /// An equal document, which shares its chunks with this one: no text or attribute is copied. Linear in the chunks. Refused as
-    /// out of memory alone, which also comes where a chunk can have no more owners.
+    /// An equal document, which has all together with this one. In constant time, and it takes no memory: refused, as out of memory,
+    /// only where the document can have no more owners.
     pub fn copy(&self, alloc: Global) -> Result<Self, AllocError>
         ensures same { IfOk result (λ document. document ≡ self.now) }
     {
-        let chunks = share_chunks(alloc, self.chunks.as_slice())?;
-        Ok(Document { chunks })
+        let _ = alloc;
+        match &self.list {
+            Some(list) => Ok(Document {
+                list: Some(Arc::try_clone(list)?),
+            }),
+            None => Ok(Document { list: None }),
+        }
     }
 
     /// The delta that makes it of the empty document, by inserts alone. Refused as out of memory alone.
@@ -142,7 +175,7 @@ impl Document {
         ensures back { IfOk result (λ delta. apply [] (counted delta) ≡ self.now) }
     {
         let mut builder = Builder::new(alloc);
-        let mut cursor = Cursor::new(self.chunks.as_slice());
+        let mut cursor = self.cursor();
         let mut left = self.len16();
         while left > 0 {
             let piece = match cursor.next(left) {
@@ -160,10 +193,9 @@ impl Document {
 
     /// Applies a delta. It is refused as PastEnd where the delta reaches past the end, else as CutsPair where it parts a
     /// surrogate pair, else as BadOps where the document would have more than 2^48 code units, and as NoMemory; the
-    /// document is then unchanged. Linear in the chunks, the operations, the runs of the chunks in which an operation begins or ends,
-    /// those that it changes, and the texts of the runs that it cuts or changes. The other chunks are shared with the document
-    /// before, and so are the other runs; no text is copied more than once, and none of a run that it leaves whole. Where it only
-    /// puts a text behind the whole document, no other text is copied.
+    /// document is then unchanged. Linear in the groups, the operations, the chunks of the groups and the runs and the text of the
+    /// chunks in which an operation begins or ends, and those that it changes. The other groups and chunks are shared with the
+    /// document before.
     pub fn apply(&mut self, alloc: Global, delta: &Delta) -> Result<(), Refusal>
         ensures ok { OnOk result (self.new ≡ apply self.old (counted delta.now)) }
         ensures well_formed { OnOk result (IsWellFormed self.new) }
@@ -178,13 +210,7 @@ impl Document {
             Ok(behind) => behind,
             Err(refused) => return Err(refused),
         };
-        if behind == 0
-            && let Some((text, units, attrs)) = text_behind(delta.ops())
-        {
-            self.append(alloc, delta, text, units, attrs)?;
-            return Ok(());
-        }
-        self.remake(alloc, delta, behind)?;
+        *self = self.remade(alloc, delta, behind)?;
         Ok(())
     }
 
@@ -215,105 +241,25 @@ impl Document {
         ensures ok { IfOk result (λ after. after ≡ apply self.now (counted delta.now)) }
         ensures well_formed { IfOk result (λ after. IsWellFormed after) }
     {
-        let made = self.built(alloc, delta, behind)?;
-        let chunks = made.finish(alloc)?;
-        Ok(Document::of_chunks(chunks))
+        let made = built(alloc, self.groups(), delta.ops(), behind)?;
+        Document::of_groups(alloc, made.finish(alloc)?)
     }
 
-    // the runs of it
-    fn built(&self, alloc: Global, delta: &Delta, behind: u64) -> Result<ChunkBuilder, AllocError>
-        requires accepted { IsAccepted self.now (counted delta.now) }
-        requires behind { length self.now ≡ base_of delta.now + behind }
-        ensures units { IfOk result (λ made. units_of_runs made ≡ apply self.now (counted delta.now)) }
-        ensures runs { IfOk result (λ made. AreRuns made) }
-        ensures bound { IfOk result (λ made. length (units_of_runs made) ≤ 2 ^ 48) }
+    // the document of groups
+    fn of_groups(alloc: Global, groups: Vec<Group>) -> Result<Self, AllocError>
+        requires groups { AreParts groups.items }
+        requires bound { length (units_of_parts groups.items) ≤ 2 ^ 48 }
+        ensures units { IfOk result (λ made. made ≡ units_of_parts groups.items) }
+        ensures well_formed { IfOk result (λ made. IsWellFormed made) }
     {
-        let made = built(alloc, self.chunks.as_slice(), delta.ops(), behind)?;
-        Ok(made)
-    }
-
-    // applies a delta that is accepted and leaves so many code units behind it as they are. Where the document is one chunk before
-    // and after it, the chunk is changed in place
-    fn remake(&mut self, alloc: Global, delta: &Delta, behind: u64) -> Result<(), AllocError>
-        requires accepted { IsAccepted self.old (counted delta.now) }
-        requires behind { length self.old ≡ base_of delta.now + behind }
-        ensures ok { OnOk result (self.new ≡ apply self.old (counted delta.now)) }
-        ensures well_formed { OnOk result (IsWellFormed self.new) }
-        ensures err { OnErr result (self.new ≡ self.old) }
-    {
-        if self.chunks.len() != 1 {
-            *self = self.remade(alloc, delta, behind)?;
-            return Ok(());
+        if groups.is_empty() {
+            return Ok(Document { list: None });
         }
-        let made = self.built(alloc, delta, behind)?;
-        match made.into_one() {
-            Ok(runs) => {
-                self.chunks[0].replace(alloc, runs)?;
-                Ok(())
-            }
-            Err(made) => {
-                let chunks = made.finish(alloc)?;
-                *self = Document::of_chunks(chunks);
-                Ok(())
-            }
+        let list = List::new(groups);
+        match Arc::new(alloc, list) {
+            Ok(list) => Ok(Document { list: Some(list) }),
+            Err(_) => Err(AllocError),
         }
-    }
-
-    // the document of chunks
-    fn of_chunks(chunks: Vec<Chunk>) -> Self
-        requires chunks { AreChunks chunks.items }
-        requires bound { length (units_of_chunks chunks.items) ≤ 2 ^ 48 }
-        ensures units { result ≡ units_of_chunks chunks.items }
-        ensures well_formed { IsWellFormed result }
-    {
-        Document { chunks }
-    }
-
-    // applies a delta that puts a text behind the document and does nothing else
-    fn append(
-        &mut self,
-        alloc: Global,
-        delta: &Delta,
-        text: &str,
-        units: u64,
-        attrs: &Attrs,
-    ) -> Result<(), AllocError>
-        requires counted { units ≡ length (units_of text.now) }
-        requires accepted { IsAccepted self.old (counted delta.now) }
-        requires behind { length self.old ≡ base_of delta.now }
-        requires puts { apply self.old (counted delta.now) ≡ self.old ++ letters (units_of text.now) attrs.now }
-        ensures ok { OnOk result (self.new ≡ apply self.old (counted delta.now)) }
-        ensures well_formed { OnOk result (IsWellFormed self.new) }
-        ensures err { OnErr result (self.new ≡ self.old) }
-    {
-        if self.merge_last(alloc, text, units, attrs)? {
-            return Ok(());
-        }
-        self.remake(alloc, delta, 0)?;
-        Ok(())
-    }
-
-    // puts a text behind the document, where its last run takes the text in, and says whether it does
-    fn merge_last(
-        &mut self,
-        alloc: Global,
-        text: &str,
-        units: u64,
-        attrs: &Attrs,
-    ) -> Result<bool, AllocError>
-        requires counted { units ≡ length (units_of text.now) }
-        requires bound { length self.old + units ≤ 2 ^ 48 }
-        ensures ok { IfOk result (λ yes. MatchBool yes (self.new ≡ self.old ++ letters (units_of text.now) attrs.now)
-            (self.new ≡ self.old)) }
-        ensures well_formed { OnOk result (IsWellFormed self.new) }
-        ensures err { OnErr result (self.new ≡ self.old) }
-    {
-        let len = self.chunks.len();
-        if len == 0 {
-            return Ok(false);
-        }
-        let merged = self.chunks[len - 1].merge_last(alloc, text, units, attrs)?;
-        Ok(merged)
     }
 
     // how many code units a delta leaves behind it as they are, where it may be applied
@@ -351,18 +297,47 @@ impl Document {
         if delta.base_len() > len {
             return Err(Refusal::PastEnd);
         }
-        if parts_pair(self.chunks.as_slice(), ops) {
+        if parts_pair(self.groups(), ops) {
             return Err(Refusal::CutsPair);
         }
         Ok(len)
     }
 }
 
-// one more owner of each chunk
-fn share_chunks(alloc: Global, chunks: &[Chunk]) -> Result<Vec<Chunk>, AllocError>
-    ensures same { IfOk result (λ shared. shared.items ≡ chunks.now) }
-{
-    let mut shared = Vec::with_capacity(alloc, chunks.len())?;
-    extend_made(&mut shared, chunks)?;
-    Ok(shared)
+impl List {
+    // these groups
+    fn new(groups: Vec<Group>) -> Self
+        requires groups { AreParts groups.items }
+        requires bound { length (units_of_parts groups.items) ≤ 2 ^ 48 }
+        ensures { result ≡ units_of_parts groups.items }
+    {
+        let units = groups_units(groups.as_slice());
+        let weight = groups_weight(groups.as_slice());
+        List {
+            groups,
+            units,
+            weight,
+        }
+    }
+
+    fn groups(&self) -> &[Group]
+        ensures units { units_of_parts result.now ≡ self.now }
+        ensures groups { AreParts result.now }
+    {
+        self.groups.as_slice()
+    }
+
+    fn len16(&self) -> u64
+        ensures len { result ≡ length self.now }
+        ensures bounded { length self.now ≤ 2 ^ 48 }
+        ensures well_formed { IsWellFormed self.now }
+    {
+        self.units
+    }
+
+    fn weight(&self) -> u64
+        ensures { result ≡ min (weight_of self.now) (2 ^ 64 - 1) }
+    {
+        self.weight
+    }
 }

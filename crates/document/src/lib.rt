@@ -36,23 +36,17 @@
 //! ```
 #![tactic(auto)]
 
-mod appending;
 mod applying;
 mod building;
 mod chunk;
+mod closing;
 mod cursor;
 mod document;
-mod joining;
 pub mod laws;
 mod reweighing;
-mod run;
-mod runs;
-mod shared;
 mod walk;
 mod weights;
 
-pub use chunk::Chunk;
 pub use cursor::Cursor;
 pub use document::Document;
-pub use run::Piece;
-pub use shared::SharedRun;
+pub use passage::Piece;

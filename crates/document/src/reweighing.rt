@@ -1,45 +1,45 @@
-//! The weight of chunks after a delta, without making them.
+//! The weight of a document after a delta, without making it.
 ghost use Rattle.std.specs.Prelude.{◌≡◌, ◌-◌, ◌<◌, ◌≤◌, ◌^◌, ◌∷◌, [], min, length};
 ghost use Rattle.delta.specs.Gaps.{counted, apply};
 ghost use Rattle.delta.specs.Operation.{base_of, op_base};
-ghost use Rattle.document.specs.Chunks.{units_of_chunks, AreChunks};
+ghost use Rattle.document.specs.Parts.{units_of_parts, AreParts};
 ghost use Rattle.document.specs.Pairs.{IsWithinPair};
 ghost use Rattle.document.specs.Weight.{weight_of};
 ghost use Rattle.document.specs.steps.Passes.{StopsInPair};
 ghost use Rattle.document.specs.steps.Weighing.{IsExchanged};
 
-use crate::chunk::Chunk;
+use crate::chunk::Group;
 use crate::cursor::Cursor;
 use crate::walk::skip;
 use crate::weights::{made_weight, passed_weight};
 use delta::Op;
 
-/// The weight of the chunks after the operations, by the weight of the chunks: that, less what goes, with what comes. So no run is
+/// The weight of groups after the operations, by the weight of the groups: that, less what goes, with what comes. So no run is
 /// weighed that the operations leave as it is.
-pub fn weighed(chunks: &[Chunk], weight: u64, ops: &[Op]) -> u64
-    requires weight { weight ≡ min (weight_of (units_of_chunks chunks.now)) (2 ^ 64 - 1) }
-    requires chunks { AreChunks chunks.now }
-    requires there { base_of ops.now ≤ length (units_of_chunks chunks.now) }
-    requires whole { ¬ (StopsInPair (units_of_chunks chunks.now) ops.now) }
-    ensures { result ≡ min (weight_of (apply (units_of_chunks chunks.now) (counted ops.now))) (2 ^ 64 - 1) }
+pub fn weighed(groups: &[Group], weight: u64, ops: &[Op]) -> u64
+    requires weight { weight ≡ min (weight_of (units_of_parts groups.now)) (2 ^ 64 - 1) }
+    requires groups { AreParts groups.now }
+    requires there { base_of ops.now ≤ length (units_of_parts groups.now) }
+    requires whole { ¬ (StopsInPair (units_of_parts groups.now) ops.now) }
+    ensures { result ≡ min (weight_of (apply (units_of_parts groups.now) (counted ops.now))) (2 ^ 64 - 1) }
 {
     if weight == u64::MAX {
         // how much more it is nobody knows, so nothing can be taken away from it
-        return weighed_anew(chunks, ops);
+        return weighed_anew(groups, ops);
     }
-    reweighed(chunks, weight, ops)
+    reweighed(groups, weight, ops)
 }
 
 // the same, where the weight of the runs is no more than it says
-fn reweighed(chunks: &[Chunk], weight: u64, ops: &[Op]) -> u64
-    requires weight { weight ≡ weight_of (units_of_chunks chunks.now) }
+fn reweighed(groups: &[Group], weight: u64, ops: &[Op]) -> u64
+    requires weight { weight ≡ weight_of (units_of_parts groups.now) }
     requires below { weight < 2 ^ 64 - 1 }
-    requires chunks { AreChunks chunks.now }
-    requires there { base_of ops.now ≤ length (units_of_chunks chunks.now) }
-    requires whole { ¬ (StopsInPair (units_of_chunks chunks.now) ops.now) }
-    ensures { result ≡ min (weight_of (apply (units_of_chunks chunks.now) (counted ops.now))) (2 ^ 64 - 1) }
+    requires groups { AreParts groups.now }
+    requires there { base_of ops.now ≤ length (units_of_parts groups.now) }
+    requires whole { ¬ (StopsInPair (units_of_parts groups.now) ops.now) }
+    ensures { result ≡ min (weight_of (apply (units_of_parts groups.now) (counted ops.now))) (2 ^ 64 - 1) }
 {
-    let mut cursor = Cursor::new(chunks);
+    let mut cursor = Cursor::new(groups);
     let mut goes: u64 = 0;
     let mut comes: u64 = 0;
     for op in ops {
@@ -70,13 +70,13 @@ fn exchange(cursor: &mut Cursor<'_>, op: &Op) -> (u64, u64)
 }
 
 // the weight of the runs after the operations, where all that comes of them is weighed
-fn weighed_anew(chunks: &[Chunk], ops: &[Op]) -> u64
-    requires chunks { AreChunks chunks.now }
-    requires there { base_of ops.now ≤ length (units_of_chunks chunks.now) }
-    requires whole { ¬ (StopsInPair (units_of_chunks chunks.now) ops.now) }
-    ensures { result ≡ min (weight_of (apply (units_of_chunks chunks.now) (counted ops.now))) (2 ^ 64 - 1) }
+fn weighed_anew(groups: &[Group], ops: &[Op]) -> u64
+    requires groups { AreParts groups.now }
+    requires there { base_of ops.now ≤ length (units_of_parts groups.now) }
+    requires whole { ¬ (StopsInPair (units_of_parts groups.now) ops.now) }
+    ensures { result ≡ min (weight_of (apply (units_of_parts groups.now) (counted ops.now))) (2 ^ 64 - 1) }
 {
-    let mut cursor = Cursor::new(chunks);
+    let mut cursor = Cursor::new(groups);
     let mut weight: u64 = 0;
     for op in ops {
         weight = weight.saturating_add(made_weight(&mut cursor, op));

@@ -7,45 +7,20 @@ ghost use Rattle.utf16.specs.Units.{units_of};
 ghost use Rattle.delta.specs.Element.{letters};
 ghost use Rattle.delta.specs.Operation.{op_base};
 ghost use Rattle.document.specs.Pairs.{IsWithinPair};
-ghost use Rattle.document.specs.Chunks.{units_of_chunks};
+ghost use Rattle.document.specs.Parts.{units_of_parts};
 ghost use Rattle.document.specs.Weight.{weight_of, attributes_weight};
-ghost use Rattle.document.specs.Runs.{units_of_runs};
 ghost use Rattle.document.specs.steps.Weighing.{kept_weight, set_weight, IsRetainedWeighed, IsWeighed};
 
-use crate::chunk::Chunk;
+use crate::chunk::{Chunk, Group};
 use crate::cursor::Cursor;
-use crate::run::{Piece, named_weight};
-use crate::shared::SharedRun;
 use crate::walk::skip;
 use attributes::{Attrs, Change, Key, Value};
 use delta::{Op, OpRef};
-
-/// The weight of runs.
-pub fn runs_weight(runs: &[SharedRun]) -> u64
-    ensures { result ≡ min (weight_of (units_of_runs runs.now)) (2 ^ 64 - 1) }
-{
-    let mut weight: u64 = 0;
-    for run in runs {
-        weight = weight.saturating_add(run.weight());
-    }
-    weight
-}
-
-/// How many code units runs have.
-pub fn runs_units(runs: &[SharedRun]) -> u64
-    requires { length (units_of_runs runs.now) < 2 ^ 64 }
-    ensures { result ≡ length (units_of_runs runs.now) }
-{
-    let mut units: u64 = 0;
-    for run in runs {
-        units += run.units();
-    }
-    units
-}
+use passage::{Piece, named_weight};
 
 /// The weight of chunks.
-pub fn chunks_weight(chunks: &[Chunk]) -> u64
-    ensures { result ≡ min (weight_of (units_of_chunks chunks.now)) (2 ^ 64 - 1) }
+pub(crate) fn chunks_weight(chunks: &[Chunk]) -> u64
+    ensures { result ≡ min (weight_of (units_of_parts chunks.now)) (2 ^ 64 - 1) }
 {
     let mut weight: u64 = 0;
     for chunk in chunks {
@@ -55,13 +30,36 @@ pub fn chunks_weight(chunks: &[Chunk]) -> u64
 }
 
 /// How many code units chunks have.
-pub fn chunks_units(chunks: &[Chunk]) -> u64
-    requires { length (units_of_chunks chunks.now) < 2 ^ 64 }
-    ensures { result ≡ length (units_of_chunks chunks.now) }
+pub(crate) fn chunks_units(chunks: &[Chunk]) -> u64
+    requires { length (units_of_parts chunks.now) < 2 ^ 64 }
+    ensures { result ≡ length (units_of_parts chunks.now) }
 {
     let mut units: u64 = 0;
     for chunk in chunks {
         units += chunk.len16();
+    }
+    units
+}
+
+/// The weight of groups.
+pub(crate) fn groups_weight(groups: &[Group]) -> u64
+    ensures { result ≡ min (weight_of (units_of_parts groups.now)) (2 ^ 64 - 1) }
+{
+    let mut weight: u64 = 0;
+    for group in groups {
+        weight = weight.saturating_add(group.weight());
+    }
+    weight
+}
+
+/// How many code units groups have.
+pub(crate) fn groups_units(groups: &[Group]) -> u64
+    requires { length (units_of_parts groups.now) < 2 ^ 64 }
+    ensures { result ≡ length (units_of_parts groups.now) }
+{
+    let mut units: u64 = 0;
+    for group in groups {
+        units += group.len16();
     }
     units
 }
@@ -110,7 +108,7 @@ pub fn passed_weight(cursor: &mut Cursor<'_>, len: u64) -> u64
     weight
 }
 
-// steps over the next chunks or runs, or a piece of a run, of at most so many code units: how many they have, and their weight
+// steps over the next groups, chunks or runs, or a piece of a run, of at most so many code units: how many they have, and their weight
 fn passed_next_weight(cursor: &mut Cursor<'_>, most: u64) -> (u64, u64)
     requires some { 0 < most }
     requires there { most ≤ length cursor.old }
@@ -119,14 +117,18 @@ fn passed_next_weight(cursor: &mut Cursor<'_>, most: u64) -> (u64, u64)
     ensures some { 0 < result.0 }
     ensures most { result.0 ≤ most }
 {
-    // no chunk or run that is passed as a whole is looked into
+    // no group, chunk or run that is passed as a whole is looked into
+    let (groups, units) = cursor.next_groups(most);
+    if units > 0 {
+        return (units, groups_weight(groups));
+    }
     let (chunks, units) = cursor.next_chunks(most);
     if units > 0 {
         return (units, chunks_weight(chunks));
     }
     let (runs, units) = cursor.next_runs(most);
     if units > 0 {
-        return (units, runs_weight(runs));
+        return (units, runs.weight());
     }
     let piece = match cursor.next(most) {
         Ok(piece) => piece,

@@ -1,9 +1,8 @@
 -- The two passes of a delta over a document, operation by operation: whether a pair is parted, and what is made.
 use Rattle.std.specs.Prelude.{◌≡◌, ℕ, ◌⊎◌, List, [], ◌∷◌, ◌++◌, length, drop, map}
-use Rattle.attributes.specs.Attributes.{Attributes, Changes, changed}
-use Rattle.attributes.specs.Map.{empty}
-use Rattle.delta.specs.Element.{Element, letters}
-use Rattle.delta.specs.Operation.{Operation, retain, op_base, base_of}
+use Rattle.attributes.specs.Attributes.{Changes, changed}
+use Rattle.delta.specs.Element.{Element}
+use Rattle.delta.specs.Operation.{Operation, op_base}
 use Rattle.delta.specs.Gaps.{counted, apply}
 use Rattle.document.specs.Pairs.{IsWithinPair, IsWellFormed}
 
@@ -34,11 +33,3 @@ pub record IsOneApplied (old new : List Element) (op : Operation) (out made : Li
   pub parts : old ≡ taken ++ new
   pub count : length taken ≡ op_base op
   pub made_of : made ≡ out ++ apply taken (counted (op ∷ []))
-
--- the last of operations, before which at most one retains units as they are
-abbrev pub IsBehind : List Operation → Operation → Type 0
-IsBehind ops op = (n : ℕ) × ((ops ≡ op ∷ []) ⊎ (ops ≡ retain n empty ∷ op ∷ []))
-
--- on a document of just the units that they retain, the operations put a text behind them, and do nothing else
-abbrev pub PutsBehind : List Operation → List ℕ → Attributes → Type 0
-PutsBehind ops us a = (d : List Element) → length d ≡ base_of ops → apply d (counted ops) ≡ d ++ letters us a

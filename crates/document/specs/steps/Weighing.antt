@@ -7,8 +7,6 @@ use Rattle.delta.specs.Element.{Element}
 use Rattle.delta.specs.Operation.{Operation, base_of}
 use Rattle.delta.specs.Gaps.{counted, apply}
 use Rattle.document.specs.Weight.{weight_of, named_weight}
-use Rattle.document.specs.declared.run.Piece.{Piece}
-use Rattle.document.specs.declared.run.Piece.TheVariants as piece
 use Rattle.document.specs.steps.Passes.{IsSteppedOver, with_change}
 
 -- an entry of attributes, which stays where a change hasn't its name
@@ -23,11 +21,6 @@ value_weight name (Some v) = named_weight name v
 -- an entry of a change: what it sets
 abbrev pub set_weight : List ℕ × Option Scalar → ℕ
 set_weight e = value_weight e.0 e.1
-
--- a piece's embed; a text has none
-abbrev pub piece_weight : Piece → ℕ
-piece_weight (piece.Text text units a) = 0
-piece_weight (piece.Embed key value a) = named_weight key.now value.now
 
 -- so many units were stepped over, and with a change they weigh so much
 pub record IsRetainedWeighed (old new : List Element) (len : ℕ) (c : Changes) (weight : ℕ) : Type 0 where

@@ -1,6 +1,6 @@
 use Rattle.std.proofs.Common.{lit<, ◌∙◌}
 use Rattle.document.specs.Runs.{last_attributes}
-use Rattle.document.proofs.Characters.{IsWellFormed-embed}
+use Rattle.passage.proofs.Characters.{IsWellFormed-embed}
 use Rattle.document.proofs.Ended.{units_more, AreRuns-one_more, apart_from_embed}
 use Rattle.document.proofs.runs.put_embed.Goals as goal
 

@@ -3,7 +3,7 @@ use Rattle.utf16.specs.Units.{units_of}
 use Rattle.delta.specs.Element.{letters}
 use Rattle.document.specs.Runs.{last_attributes, IsApart}
 use Rattle.document.proofs.Letters.{length-letters, text_attributes-letters}
-use Rattle.document.proofs.Characters.{IsWellFormed-text}
+use Rattle.passage.proofs.Characters.{IsWellFormed-text}
 use Rattle.document.proofs.Ended.{units_more, AreRuns-one_more, apart_from_text, units-taken, AreRuns-taken, on_true, on_false}
 use Rattle.document.proofs.runs.put_text.Goals as goal
 

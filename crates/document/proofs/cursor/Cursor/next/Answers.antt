@@ -1,7 +1,7 @@
 use Rattle.std.proofs.Common.{subst, ◌∙◌}
 use Rattle.document.specs.Pairs.{IsWithinPair}
 use Rattle.document.proofs.Cutting.{on_err}
-use Rattle.document.proofs.Formed.{IsWithinPair-append}
+use Rattle.passage.proofs.Formed.{IsWithinPair-append}
 use Rattle.document.proofs.cursor.Cursor.next.Goals as goal
 
 pub returns-in_err-piece-clause-parted : goal.returns-in_err-piece-clause-parted

@@ -3,7 +3,7 @@ use Rattle.utf16.specs.Units.{units_of}
 use Rattle.delta.specs.Element.{letters}
 use Rattle.document.specs.Chunks.{runs_of_chunks, units_of_chunks}
 use Rattle.document.proofs.Appended.{appended_chunks, length_chunk}
-use Rattle.document.proofs.Characters.{IsWellFormed-text}
+use Rattle.passage.proofs.Characters.{IsWellFormed-text}
 use Rattle.document.proofs.Joined.{IsWellFormed-runs}
 use Rattle.document.proofs.Letters.{length-letters}
 use Rattle.document.proofs.document.Document.merge_last.Goals as goal
