@@ -1,9 +1,7 @@
+pub mod Parts
+pub mod Letters
 pub mod Kept
-pub mod Joined
-pub mod Ended
-pub mod Chunked
 pub mod Entering
-pub mod Appended
 pub mod Cutting
 pub mod Passing
 pub mod Progress
@@ -12,7 +10,6 @@ pub mod Deciding
 pub mod Weighing
 pub mod Inserting
 pub mod Making
-pub mod Behind
 pub mod Changing
 pub mod Measured
 pub mod Exchanged

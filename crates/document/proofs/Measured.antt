@@ -13,37 +13,12 @@ use Rattle.document.specs.Weight.{weight_of, attributes_weight}
 use Rattle.passage.specs.declared.piece.Piece.{Piece}
 use Rattle.passage.specs.declared.piece.Piece.TheVariants as piece
 use Rattle.document.specs.steps.Passes.{IsSteppedOver, with_change}
-use Rattle.document.specs.Pieces.{piece_units, piece_attributes, piece_dressed, IsCounted, IsPiece}
-use Rattle.document.specs.steps.Weighing.{piece_weight, IsRetainedWeighed, IsWeighed}
+use Rattle.document.specs.Pieces.{piece_units, piece_attributes, piece_dressed, piece_weight, IsPiece}
+use Rattle.document.specs.steps.Weighing.{IsRetainedWeighed, IsWeighed}
 use Rattle.document.proofs.Letters.{length-letters}
 use Rattle.document.proofs.Passing.{passed_none, passed_more, passed_on, passed_run, kept-piece}
 use Rattle.document.proofs.Progress.{kept_same}
-use Rattle.document.proofs.Weighing.{letters_weight, weight_of-append, saturated_sum, saturated_product}
-
--- a piece
-pub dressed_itself : (p : Piece) → piece_dressed p (piece_attributes p) ≡ piece_units p
-dressed_itself (piece.Text text units a) = refl
-dressed_itself (piece.Embed key value a) = refl
-
-some_units : (p : Piece) → IsCounted p → 0 < length (piece_units p)
-some_units (piece.Text text units a) counted = omega (arith, counted.0, counted.1, length-letters (units_of text.now) a.now)
-some_units (piece.Embed key value a) counted = omega arith
-
-weight_dressed : (p : Piece) (b : Attributes) → weight_of (piece_dressed p b) ≡ (attributes_weight b + (12 + piece_weight p)) * length (piece_units p)
-weight_dressed (piece.Text text units a) b =
-    letters_weight (units_of text.now) b
-    ∙ (ap (λ n. (12 + attributes_weight b) * n) (sym (length-letters (units_of text.now) a.now))
-    ∙ ap (λ n. n * length (piece_units (piece.Text text units a))) (let same : 12 + attributes_weight b ≡ attributes_weight b + (12 + 0) = omega arith in same))
-weight_dressed (piece.Embed key value a) b = omega arith
-
-pub dressed_weight : (p : Piece) (b : Attributes) (attributes weight most : ℕ) → IsCounted p → attributes ≡ min (attributes_weight b) most
-    → weight ≡ min (min (attributes + (12 + piece_weight p)) most * length (piece_units p)) most → weight ≡ min (weight_of (piece_dressed p b)) most
-dressed_weight p b attributes weight most counted attributes_are weighs =
-    weighs
-    ∙ (ap (λ n. min (min (n + (12 + piece_weight p)) most * length (piece_units p)) most) attributes_are
-    ∙ (ap (λ n. min (n * length (piece_units p)) most) (saturated_sum (attributes_weight b) (12 + piece_weight p) most)
-    ∙ (saturated_product (attributes_weight b + (12 + piece_weight p)) (length (piece_units p)) most (some_units p counted)
-    ∙ ap (λ n. min n most) (sym (weight_dressed p b)))))
+use Rattle.passage.proofs.Weighing.{dressed_weight, weight_of-append}
 
 -- units that are kept: none, and a piece more
 pub kept_none : (d : List Element) (c : Changes) (n : ℕ) → n ≡ 0 → IsRetainedWeighed d d n c 0

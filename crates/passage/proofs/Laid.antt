@@ -137,8 +137,7 @@ pub laid_append : (text more : List ℕ) (rs ss : List Run) → AreLaid text rs 
 laid_append text more [] ss laid others = subst (λ t. AreLaid (t ++ more) ss) (sym laid) others
 laid_append text more (r ∷ rs) ss laid others =
     let b : ℕ = content_bytes r.content in
-    let within : content_bytes r.content ≤ length text = within_content r.content text laid.0.counted in
-    (
+    let within : content_bytes r.content ≤ length text = within_content r.content text laid.0.counted in (
       same_run r text (text ++ more) (sym (take-append-le b text more within)) (omega (arith, within, length-append text more)) laid.0,
       subst (λ t. AreLaid t (rs ++ ss)) (sym (drop-append-le b text more within)) (laid_append (drop b text) more rs ss laid.1 others),
     )
@@ -173,8 +172,7 @@ pub one_text : (r : Run) (text : List ℕ) (bytes units : ℕ) (a : Attributes) 
     → AreLaid text (r ∷ []) × (units_laid text (r ∷ []) ≡ letters (units_of text) a)
 one_text r text bytes units a is count utf8 counted some attrs weighs =
     let same : content_laid text r.content r.attrs ≡ letters (units_of text) a =
-    laid_text r.content r.attrs text bytes units is count ∙ ap (λ b. letters (units_of text) b) attrs in
-    (
+    laid_text r.content r.attrs text bytes units is count ∙ ap (λ b. letters (units_of text) b) attrs in (
       (
         record {
           counted = counted_text r.content text bytes units is count utf8 counted some;
@@ -237,15 +235,14 @@ pub parted_at : (text front back : List ℕ) (rs fs bs : List Run) (count bytes 
 parted_at text front back rs fs bs count bytes utf8 laid is front_is back_is fs_is bs_is =
     let parts = laid_parts text (take count rs) (drop count rs) utf8 (subst (AreLaid text) (sym (take-append-drop count rs)) laid) in
     let front_at : front ≡ take (bytes_laid (take count rs)) text = front_is ∙ ap (λ n. take n text) is in
-    let back_at : back ≡ drop (bytes_laid (take count rs)) text = back_is ∙ ap (λ n. drop n text) is in
-    (
+    let back_at : back ≡ drop (bytes_laid (take count rs)) text = back_is ∙ ap (λ n. drop n text) is in (
       subst (λ t. AreLaid t fs) (sym front_at) (subst (AreLaid (take (bytes_laid (take count rs)) text)) (sym fs_is) parts.front),
       subst (λ t. AreLaid t bs) (sym back_at) (subst (AreLaid (drop (bytes_laid (take count rs)) text)) (sym bs_is) parts.back),
       ap (λ t. units_laid t fs ++ units_laid back bs) front_at
-      ∙ (ap (λ r. units_laid (take (bytes_laid (take count rs)) text) r ++ units_laid back bs) fs_is
-      ∙ (ap (λ t. units_laid (take (bytes_laid (take count rs)) text) (take count rs) ++ units_laid t bs) back_at
-      ∙ (ap (λ r. units_laid (take (bytes_laid (take count rs)) text) (take count rs) ++ units_laid (drop (bytes_laid (take count rs)) text) r) bs_is
-      ∙ (parts.units ∙ ap (units_laid text) (take-append-drop count rs))))),
+          ∙ (ap (λ r. units_laid (take (bytes_laid (take count rs)) text) r ++ units_laid back bs) fs_is
+          ∙ (ap (λ t. units_laid (take (bytes_laid (take count rs)) text) (take count rs) ++ units_laid t bs) back_at
+          ∙ (ap (λ r. units_laid (take (bytes_laid (take count rs)) text) (take count rs) ++ units_laid (drop (bytes_laid (take count rs)) text) r) bs_is
+          ∙ (parts.units ∙ ap (units_laid text) (take-append-drop count rs))))),
     )
 
 -- no run, no unit
@@ -281,8 +278,7 @@ boundary_of_first text r bytes units utf8 laid is =
 pub piece_of_first : (text own : List ℕ) (r : Run) (a : Attributes) (bytes units count : ℕ) → IsRunLaid text r → r.content ≡ content.Text bytes units
     → own ≡ take bytes text → count ≡ units → ((count ≡ length (units_of own)) × (0 < count)) × IsWellFormed (letters (units_of own) a)
 piece_of_first text own r a bytes units count laid is own_is same =
-    let counted : IsContentLaid text (content.Text bytes units) = subst (IsContentLaid text) is laid.counted in
-    (
+    let counted : IsContentLaid text (content.Text bytes units) = subst (IsContentLaid text) is laid.counted in (
       (same ∙ (counted.2 ∙ ap (λ t. length (units_of t)) (sym own_is)), omega (arith, same, counted.3)),
       subst (λ t. IsWellFormed (letters (units_of t) a)) (sym own_is) (IsWellFormed-text (take bytes text) a counted.1),
     )

@@ -63,13 +63,12 @@ longer_last t more last longer bytes units weight a utf8 laid content_is attrs a
     (IsUtf8-append t more whole.1 utf8)
     (omega (arith, whole.2, counted, ap length joined, length-append (units_of t) (units_of more)))
     (omega (arith, whole.3)) attrs_too
-    (both_weights t more a last.weight weight longer.weight (2 ^ 64 - 1) joined own_weight weight_is weighs) in
-    (
+    (both_weights t more a last.weight weight longer.weight (2 ^ 64 - 1) joined own_weight weight_is weighs) in (
       one.0,
       one.1
-      ∙ (ap (λ us. letters us a) joined
-      ∙ (letters-append (units_of t) (units_of more) a
-      ∙ ap (λ l. l ++ letters (units_of more) a) (sym (append-nil (letters (units_of t) a)) ∙ ap (λ l. l ++ []) (sym own_units)))),
+          ∙ (ap (λ us. letters us a) joined
+          ∙ (letters-append (units_of t) (units_of more) a
+          ∙ ap (λ l. l ++ letters (units_of more) a) (sym (append-nil (letters (units_of t) a)) ∙ ap (λ l. l ++ []) (sym own_units)))),
     )
 
 -- a text taken into the last run
@@ -82,15 +81,14 @@ lengthened old more both rs ns bytes units weight a utf8 utf8_more laid both_is 
     let tail =
     longer_last (drop (bytes_laid l.before) old) more l.last l.longer bytes units weight a utf8_more parts.back l.content l.attrs.0 l.attrs.1 l.weighs count counted weight_is in
     let text : take n old ++ (drop n old ++ more) ≡ both =
-    sym (append_assoc (take n old) (drop n old) more) ∙ (ap (λ t. t ++ more) (take-append-drop n old) ∙ sym both_is) in
-    (
+    sym (append_assoc (take n old) (drop n old) more) ∙ (ap (λ t. t ++ more) (take-append-drop n old) ∙ sym both_is) in (
       subst (AreLaid both) (sym l.is) (subst (λ t. AreLaid t (l.before ++ l.longer ∷ [])) text (laid_append (take n old) (drop n old ++ more) l.before (l.longer ∷ []) parts.front tail.0)),
       ap (units_laid both) l.is
-      ∙ (ap (λ t. units_laid t (l.before ++ l.longer ∷ [])) (sym text)
-      ∙ (units_append (take n old) (drop n old ++ more) l.before (l.longer ∷ []) parts.front
-      ∙ (ap (λ x. units_laid (take n old) l.before ++ x) tail.1
-      ∙ (sym (append_assoc (units_laid (take n old) l.before) (units_laid (drop n old) (l.last ∷ [])) (letters (units_of more) a))
-      ∙ ap (λ x. x ++ letters (units_of more) a) (parts.units ∙ ap (units_laid old) (sym l.was)))))),
+          ∙ (ap (λ t. units_laid t (l.before ++ l.longer ∷ [])) (sym text)
+          ∙ (units_append (take n old) (drop n old ++ more) l.before (l.longer ∷ []) parts.front
+          ∙ (ap (λ x. units_laid (take n old) l.before ++ x) tail.1
+          ∙ (sym (append_assoc (units_laid (take n old) l.before) (units_laid (drop n old) (l.last ∷ [])) (letters (units_of more) a))
+          ∙ ap (λ x. x ++ letters (units_of more) a) (parts.units ∙ ap (units_laid old) (sym l.was)))))),
     )
 
 -- runs behind others
@@ -115,8 +113,7 @@ pub behind_embed : (old : List ℕ) (rs ns : List Run) (r : Run) (embed : List �
 behind_embed old rs ns r embed a laid ns_is is attrs weighs =
     let same : content_laid [] r.content r.attrs ≡ embedded embed.0 embed.1 a ∷ [] =
     ap (λ k. content_laid [] k r.attrs) is ∙ ap (λ c. embedded embed.0 embed.1 c ∷ []) attrs in
-    behind old [] old rs (r ∷ []) ns (embedded embed.0 embed.1 a ∷ []) laid
-    (
+    behind old [] old rs (r ∷ []) ns (embedded embed.0 embed.1 a ∷ []) laid (
       record {
         counted = subst (IsContentLaid []) (sym is) tt;
         weighs = weighs ∙ ap (λ l. min (weight_of l) (2 ^ 64 - 1)) (sym same);

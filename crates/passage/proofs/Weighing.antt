@@ -72,4 +72,3 @@ dressed_weight p b attributes weight most counted attributes_are weighs =
     ∙ (ap (λ n. min (n * length (piece_units p)) most) (saturated_sum (attributes_weight b) (12 + piece_weight p) most)
     ∙ (saturated_product (attributes_weight b + (12 + piece_weight p)) (length (piece_units p)) most (some_units p counted)
     ∙ ap (λ n. min n most) (sym (weight_dressed p b)))))
-

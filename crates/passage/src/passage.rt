@@ -165,7 +165,12 @@ impl Passage {
     }
 
     // with about so many bytes of the first run behind it, where that is a text, and a passage of what is left of the runs
-    fn and_cut(self, alloc: Global, more: &Rest<'_>, bytes: usize) -> Result<(Self, Self), AllocError>
+    fn and_cut(
+        self,
+        alloc: Global,
+        more: &Rest<'_>,
+        bytes: usize,
+    ) -> Result<(Self, Self), AllocError>
         ensures { IfOk result (λ parts. parts.0 ++ parts.1 ≡ self ++ more.now) }
     {
         match more.split_first() {

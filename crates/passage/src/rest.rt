@@ -3,8 +3,10 @@ ghost use Rattle.std.specs.Prelude.{◌≡◌, ◌+◌, ◌-◌, min, ◌<◌, �
 ghost use Rattle.passage.specs.Pairs.{IsWellFormed};
 ghost use Rattle.passage.specs.Weight.{weight_of};
 
+use crate::parting::{
+    first_of, first_runs, parted, runs_before, runs_units, runs_weight, whole_runs,
+};
 use crate::piece::Piece;
-use crate::parting::{first_of, first_runs, parted, runs_before, runs_units, runs_weight, whole_runs};
 use crate::run::Run;
 use std::marker::Model;
 

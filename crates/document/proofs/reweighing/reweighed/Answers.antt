@@ -1,7 +1,7 @@
 use Rattle.std.proofs.Common.{ap, subst, arith}
 use Rattle.std.proofs.lemmas.List.{take_all}
 use Rattle.delta.specs.Operation.{base_of}
-use Rattle.document.specs.Chunks.{units_of_chunks}
+use Rattle.document.specs.Parts.{units_of_parts}
 use Rattle.document.specs.steps.Weighing.{IsExchanged}
 use Rattle.document.proofs.Exchanged.{exchanged_more, exchanged_whole, rest_within, length_ahead}
 use Rattle.document.proofs.Progress.{drop-here, take-here, lengths-split, parts_before}
@@ -40,5 +40,5 @@ overflow_sub-weight c = omega (arith, rest_within _ _ _ _ _ c.loop-op.invariant.
 pub returns : goal.returns
 returns c =
     let all = take_all c.loop-op.op-index c.args.ops.now c.loop-op-test.false in
-    exchanged_whole (units_of_chunks c.args.chunks.now) c.loop-op.cursor c.args.ops.now c.loop-op.goes c.loop-op.comes c.args.weight _
-    (subst (λ ops. IsExchanged (units_of_chunks c.args.chunks.now) c.loop-op.cursor ops c.loop-op.goes c.loop-op.comes) all c.loop-op.invariant.done) c.requires.weight c.saturating_add.ensures
+    exchanged_whole (units_of_parts c.args.groups.now) c.loop-op.cursor c.args.ops.now c.loop-op.goes c.loop-op.comes c.args.weight _
+    (subst (λ ops. IsExchanged (units_of_parts c.args.groups.now) c.loop-op.cursor ops c.loop-op.goes c.loop-op.comes) all c.loop-op.invariant.done) c.requires.weight c.saturating_add.ensures

@@ -1,7 +1,7 @@
 use Rattle.std.proofs.Common.{ap, subst, arith}
 use Rattle.std.proofs.lemmas.List.{take_all}
 use Rattle.delta.specs.Operation.{base_of}
-use Rattle.document.specs.Chunks.{units_of_chunks}
+use Rattle.document.specs.Parts.{units_of_parts}
 use Rattle.document.specs.steps.Weighing.{IsWeighed}
 use Rattle.document.proofs.Measured.{weighed_more, weighed_whole, length_ahead}
 use Rattle.document.proofs.Progress.{drop-here, take-here, lengths-split, parts_before}
@@ -24,5 +24,5 @@ loop-op-preserved c =
 pub returns : goal.returns
 returns c =
     let all = take_all c.loop-op.op-index c.args.ops.now c.loop-op-test.false in
-    weighed_whole (units_of_chunks c.args.chunks.now) c.loop-op.cursor c.args.ops.now c.loop-op.weight c.weight.result _
-    (subst (λ ops. IsWeighed (units_of_chunks c.args.chunks.now) c.loop-op.cursor ops c.loop-op.weight) all c.loop-op.invariant.weighed) c.weight.ensures c.saturating_add.ensures
+    weighed_whole (units_of_parts c.args.groups.now) c.loop-op.cursor c.args.ops.now c.loop-op.weight c.weight.result _
+    (subst (λ ops. IsWeighed (units_of_parts c.args.groups.now) c.loop-op.cursor ops c.loop-op.weight) all c.loop-op.invariant.weighed) c.weight.ensures c.saturating_add.ensures

@@ -1,6 +1,5 @@
 use Rattle.std.proofs.Common.{◌-◌, arith, subst}
 use Rattle.document.specs.steps.Passes.{IsRetained}
-use Rattle.document.specs.Runs.{units_of_runs}
 use Rattle.document.proofs.Passing.{kept_none, kept_on, kept_left, kept_length, kept_whole}
 use Rattle.document.proofs.walk.keep.Goals as goal
 
@@ -11,7 +10,6 @@ loop-left-init c = record {
   there = c.requires.there;
   whole = c.requires.whole;
   bound = c.requires.bound;
-  runs = c.requires.runs;
 }
 
 pub loop-left-preserved : goal.loop-left-preserved
@@ -26,10 +24,9 @@ loop-left-preserved c =
       there = omega (arith, kept_left _ _ _ _ _ _ step, c.loop-left.invariant.there, c.in_ok-left.ensures.most);
       whole = kept_whole _ _ _ _ _ stepped _ _ step c.loop-left.invariant.whole (omega (arith, c.in_ok-left.ensures.most));
       bound = omega (arith, kept_length _ _ _ _ _ _ step, c.in_ok-left.ensures.most, c.loop-left.invariant.bound);
-      runs = c.in_ok-left.ensures.runs;
     }
 
 pub returns-clause-kept : goal.returns-clause-kept
 returns-clause-kept c =
-    subst (λ n. IsRetained c.args.cursor.now c.loop-left.cursor n c.args.change.now (units_of_runs c.args.out.now) (units_of_runs c.loop-left.out))
+    subst (λ n. IsRetained c.args.cursor.now c.loop-left.cursor n c.args.change.now c.args.out.now c.loop-left.out)
     (omega (arith, c.loop-left.invariant.less)) c.loop-left.invariant.kept

@@ -1,9 +1,8 @@
 use Rattle.std.proofs.Common.{◌≡◌, ◌-◌, ◌^◌, ◌++◌, min, ap, sym, ◌∙◌, arith}
-use Rattle.document.specs.Chunks.{units_of_chunks}
+use Rattle.document.specs.Parts.{units_of_parts}
 use Rattle.document.specs.Weight.{weight_of}
 use Rattle.document.specs.Pieces.{begun_units}
-use Rattle.document.specs.Runs.{units_of_runs}
-use Rattle.document.proofs.Weighing.{weight_of-append}
+use Rattle.passage.proofs.Weighing.{weight_of-append}
 use Rattle.document.proofs.cursor.Cursor.weight.Goals as goal
 use Rattle.document.proofs.cursor.Cursor.weight.Goals.{in-Some, in-None}
 
@@ -18,10 +17,13 @@ returns c =
       arith,
       c.saturating_add.ensures,
       c.saturating_add-2.ensures,
-      c.runs_weight.ensures,
+      c.saturating_add-3.ensures,
+      c.weight.ensures,
       c.chunks_weight.ensures,
+      c.groups_weight.ensures,
       begun,
-      weight_of-append (begun_units c.self.inside.begun) (units_of_runs c.self.inside.runs.now ++ units_of_chunks c.self.inside.chunks.now),
-      weight_of-append (units_of_runs c.self.inside.runs.now) (units_of_chunks c.self.inside.chunks.now),
+      weight_of-append (begun_units c.self.inside.begun) (c.self.inside.rest ++ (units_of_parts c.self.inside.chunks.now ++ units_of_parts c.self.inside.groups.now)),
+      weight_of-append c.self.inside.rest (units_of_parts c.self.inside.chunks.now ++ units_of_parts c.self.inside.groups.now),
+      weight_of-append (units_of_parts c.self.inside.chunks.now) (units_of_parts c.self.inside.groups.now),
       ap weight_of c.self.view_is,
     )

@@ -1,5 +1,4 @@
-use Rattle.std.proofs.Common.{refl, arith, ap}
-use Rattle.document.specs.Chunks.{runs_of_chunks}
+use Rattle.std.proofs.Common.{refl, arith}
 use Rattle.std.proofs.lemmas.Bool.{false≢true}
 use Rattle.document.proofs.Parting.{cut_of_parts}
 use Rattle.document.proofs.Deciding.{defined_by, base_by, cut_by_runs, runs_parted}
@@ -27,7 +26,7 @@ pub returns-then-parts_pair-clause-cuts : goal.returns-then-parts_pair-clause-cu
 returns-then-parts_pair-clause-cuts c = (
   λ e. (
     defined_by c.args.self.now c.args.delta.now (omega (arith, c.base_len.ensures, c.len16-len.ensures.len)),
-    cut_by_runs (runs_of_chunks c.as_slice.result.now) (runs_of_chunks c.self.inside.chunks.items) c.args.self.now c.ops-ops.result.now c.args.delta.now (ap runs_of_chunks c.as_slice.ensures.value) c.self.view_is c.ops-ops.ensures.ops c.ops-ops.ensures.normal
+    cut_by_runs c.groups.result.now c.groups.result.now c.args.self.now c.ops-ops.result.now c.args.delta.now refl c.groups.ensures.units c.ops-ops.ensures.ops c.ops-ops.ensures.normal
         (c.if-parts_pair.ensures.0 refl),
   ),
   λ both. refl,
@@ -37,7 +36,7 @@ pub returns-clause-defined : goal.returns-clause-defined
 returns-clause-defined c = defined_by c.args.self.now c.args.delta.now (omega (arith, c.base_len.ensures, c.len16-len.ensures.len))
 
 pub returns-clause-whole : goal.returns-clause-whole
-returns-clause-whole c = λ cut. absurd (false≢true (c.if-parts_pair.ensures.1 (runs_parted (runs_of_chunks c.as_slice.result.now) (runs_of_chunks c.self.inside.chunks.items) c.args.self.now c.ops-ops.result.now c.args.delta.now (ap runs_of_chunks c.as_slice.ensures.value) c.self.view_is c.ops-ops.ensures.ops c.ops-ops.ensures.normal cut)))
+returns-clause-whole c = λ cut. absurd (false≢true (c.if-parts_pair.ensures.1 (runs_parted c.groups.result.now c.groups.result.now c.args.self.now c.ops-ops.result.now c.args.delta.now refl c.groups.ensures.units c.ops-ops.ensures.ops c.ops-ops.ensures.normal cut)))
 
 pub returns-clause-past_end : goal.returns-clause-past_end
 returns-clause-past_end c = (
@@ -48,7 +47,7 @@ returns-clause-past_end c = (
 pub returns-clause-cuts : goal.returns-clause-cuts
 returns-clause-cuts c = (
   λ e. absurd (cc),
-  λ both. let cut = both.1 in absurd (false≢true (c.if-parts_pair.ensures.1 (runs_parted (runs_of_chunks c.as_slice.result.now) (runs_of_chunks c.self.inside.chunks.items) c.args.self.now c.ops-ops.result.now c.args.delta.now (ap runs_of_chunks c.as_slice.ensures.value) c.self.view_is c.ops-ops.ensures.ops c.ops-ops.ensures.normal cut))),
+  λ both. let cut = both.1 in absurd (false≢true (c.if-parts_pair.ensures.1 (runs_parted c.groups.result.now c.groups.result.now c.args.self.now c.ops-ops.result.now c.args.delta.now refl c.groups.ensures.units c.ops-ops.ensures.ops c.ops-ops.ensures.normal cut))),
 )
 
 pub returns-clause-stops : goal.returns-clause-stops
