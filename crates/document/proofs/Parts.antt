@@ -1,6 +1,7 @@
 -- Parts of a document: their units, one after another, in two lists, and one more at a time.
-use Rattle.std.proofs.Common.{◌≡◌, ℕ, ◌+◌, ◌<◌, ◌≤◌, List, [], ◌∷◌, ◌++◌, length, take, drop, get_or, refl, sym, ap, subst, ◌∙◌, arith, length-append, append_assoc, append-nil}
-use Rattle.std.proofs.lemmas.List.{take_more, take_all, take-append-drop, drop_more}
+use Rattle.std.proofs.Common.{◌≡◌, ℕ, ◌+◌, ◌<◌, ◌≤◌, ◌-◌, Bool, false, IsTrue, ◌↔◌, List, [], ◌∷◌, ◌++◌, length, take, drop, get_or, refl, sym, ap, subst, ◌∙◌, arith, length-append, append_assoc, append-nil}
+use Rattle.std.proofs.lemmas.Bool.{false≢true}
+use Rattle.std.proofs.lemmas.List.{take_more, take_rest, take-append-drop, nil_from_length}
 use Rattle.delta.specs.Element.{Element}
 use Rattle.document.specs.Pairs.{IsWellFormed}
 use Rattle.document.specs.Parts.{units_of_parts, IsPart, AreParts}
@@ -76,3 +77,55 @@ pub first_of_parts : (ps : List (List Element)) (p : List Element) → 0 < lengt
     → IsPart p × AreParts (drop 1 ps) × (p ++ units_of_parts (drop 1 ps) ≡ units_of_parts ps)
 first_of_parts [] p some is parts = absurd (omega arith)
 first_of_parts (q ∷ ps) p some is parts = (subst IsPart (sym is) parts.0, parts.1, ap (λ l. l ++ units_of_parts ps) is)
+
+-- what isn't empty has a unit
+pub some_of_not_empty : (test : Bool) (rest runs p : List Element) → test ≡ false → (IsTrue test ↔ (rest ≡ [])) → rest ≡ runs → p ≡ runs → 0 < length p
+some_of_not_empty test rest runs [] failed is same all = absurd (false≢true (sym failed ∙ is.1 (same ∙ sym all)))
+some_of_not_empty test rest runs (x ∷ p) failed is same all = omega arith
+
+-- parts put behind others, so far
+pub parts_so_far : (old items ps : List (List Element)) (i : ℕ) → items ≡ old ++ take i ps → AreParts old → AreParts ps → AreParts items
+parts_so_far old items ps i so before parts = subst AreParts (sym so) (AreParts-append old (take i ps) before (AreParts-split i ps parts).0)
+
+-- the front of a list with some taken out at its end
+pub front_of_parts : (items old taken : List (List Element)) → items ++ taken ≡ old → AreParts old → AreParts items
+front_of_parts items old taken is parts = (AreParts-parts items taken (subst AreParts (sym is) parts)).0
+
+-- the first of a list that is read at its front, and those after it
+pub first_read : (ps : List (List Element)) (p : List Element) → 0 < length ps → p ≡ get_or ps 0 p → AreParts ps
+    → IsPart p × AreParts (take (length ps - 1) (drop 1 ps)) × (p ++ units_of_parts (take (length ps - 1) (drop 1 ps)) ≡ units_of_parts ps)
+first_read ps p some is parts =
+    let first = first_of_parts ps p some is parts in
+    let same : drop 1 ps ≡ take (length ps - 1) (drop 1 ps) = sym (take_rest ps 1) in
+    (first.0, subst AreParts same first.1, ap (λ l. p ++ units_of_parts l) (sym same) ∙ first.2)
+
+-- a group that is entered: its chunks, and the groups after it
+pub entered_first : (cs ds gs : List (List Element)) (g : List Element) → length cs ≡ 0 → 0 < length gs → g ≡ get_or gs 0 g → units_of_parts ds ≡ g → AreParts gs
+    → (units_of_parts ds ++ units_of_parts (take (length gs - 1) (drop 1 gs)) ≡ units_of_parts cs ++ units_of_parts gs)
+    × AreParts (take (length gs - 1) (drop 1 gs)) × (0 < length ds)
+entered_first cs ds gs g none some is same parts =
+    let first = first_read gs g some is parts in
+    (
+      ap (λ l. l ++ units_of_parts (take (length gs - 1) (drop 1 gs))) same
+      ∙ (first.2 ∙ ap (λ l. units_of_parts l ++ units_of_parts gs) (sym (nil_from_length cs none))),
+      first.1,
+      some_parts ds (omega (arith, ap length same, first.0.0)),
+    )
+  where
+    some_parts : (ds : List (List Element)) → 0 < length (units_of_parts ds) → 0 < length ds
+    some_parts [] some = some
+    some_parts (d ∷ ds) some = omega arith
+
+-- a chunk that is entered where nothing stood before it
+pub entered_chunk : (cs : List (List Element)) (c units : List Element) (before after : List Element) → before ≡ [] → 0 < length cs → c ≡ get_or cs 0 c → units ≡ c → AreParts cs
+    → (units ++ (units_of_parts (take (length cs - 1) (drop 1 cs)) ++ after) ≡ before ++ (units_of_parts cs ++ after))
+    × AreParts (take (length cs - 1) (drop 1 cs)) × (0 < length units)
+entered_chunk cs c units before after none some is same parts =
+    let first = first_read cs c some is parts in
+    (
+      sym (append_assoc units (units_of_parts (take (length cs - 1) (drop 1 cs))) after)
+      ∙ (ap (λ l. (l ++ units_of_parts (take (length cs - 1) (drop 1 cs))) ++ after) same
+      ∙ (ap (λ l. l ++ after) first.2 ∙ ap (λ l. l ++ (units_of_parts cs ++ after)) (sym none))),
+      first.1,
+      omega (arith, ap length same, first.0.0),
+    )
