@@ -1,5 +1,5 @@
 -- What a file was asked and what it answered, and the device that a list of that represents, newest first.
-use Rattle.std.specs.Prelude.{◌≡◌, ◌+◌, ℕ, List, [], ◌∷◌, length, slice_range}
+use Rattle.std.specs.Prelude.{◌≡◌, ◌+◌, ℕ, Bool, true, false, List, [], ◌∷◌, length, slice_range}
 use Rattle.disk.specs.Device.{State, overwritten}
 
 -- a call of the system with its answer
@@ -39,6 +39,14 @@ states (Write at bytes ∷ events) = record { seen = content events; unsynced = 
 states (FailedWrite at count ∷ events) = record { seen = content events; unsynced = ranges events } ∷ states events
 states (Sync ∷ events) = record { seen = content events; unsynced = ranges events } ∷ states events
 states (event ∷ events) = states events
+
+-- A write or a sync has failed. From then on memory and disk may be apart, and a good sync says nothing, until the file is opened again.
+abbrev pub is_broken : List Event → Bool
+is_broken [] = false
+is_broken (Opened bytes ∷ events) = false
+is_broken (FailedWrite at count ∷ events) = true
+is_broken (FailedSync ∷ events) = true
+is_broken (event ∷ events) = is_broken events
 
 -- each read gave what stood there
 abbrev pub IsHonest : List Event → Type 0

@@ -4,7 +4,7 @@
 //! see `raw`.
 ghost use Rattle.std.specs.Prelude.{◌≡◌, ◌+◌, ◌-◌, ◌<◌, min, false, [], length, IfOk};
 ghost use Rattle.disk.specs.Device.{most_faults};
-ghost use Rattle.disk.specs.Event.{content, ranges, states, IsHonest};
+ghost use Rattle.disk.specs.Event.{is_broken, content, ranges, states, IsHonest};
 
 use crate::device::count_failure;
 use crate::raw::{HostFile, RawFile};
@@ -26,6 +26,7 @@ pub struct FileDisk<F: RawFile = HostFile> {
     failures: u64,
     has_failed: bool,
     ghost is_whole: { size ≡ length (content (F.events file)) },
+    ghost knows: { has_failed ≡ is_broken (F.events file) },
 }
 
 impl<F: RawFile> FileDisk<F> {
@@ -52,6 +53,7 @@ impl<F: RawFile> FileDisk<F> {
     // No further call is made.
     fn refuses(&self) -> bool
         ensures open { result ≡ false → self.now.failures < most_faults }
+        ensures good { result ≡ false → is_broken (F.events self.now.file) ≡ false }
     {
         self.has_failed || self.failures == u64::MAX
     }

@@ -3,8 +3,8 @@
 //! **What is not proved**, for a device over a file: that each method of `HostFile` makes the call that it
 //! notes, that what `settle` notes is what the file's disk holds, and that the system and this disk keep the model.
 //! docs/PROMISES.md, "What is trusted", says what that asks of them. So the few lines of `HostFile` are to be read.
-ghost use Rattle.std.specs.Prelude.{◌≡◌, ◌∷◌, [], ℕ, List, length, OnOk, OnErr};
-ghost use Rattle.disk.specs.Event.{Event, Opened, Read, FailedRead, Write, FailedWrite, Sync, FailedSync};
+ghost use Rattle.std.specs.Prelude.{◌≡◌, ◌∷◌, [], false, ℕ, List, length, OnOk, OnErr};
+ghost use Rattle.disk.specs.Event.{is_broken, Event, Opened, Read, FailedRead, Write, FailedWrite, Sync, FailedSync};
 
 use crate::Fault;
 use crate::record::Record;
@@ -14,7 +14,8 @@ use std::io;
 use std::os::fd::AsRawFd;
 use std::os::unix::fs::FileExt;
 
-/// A file whose calls are kept, with their answers.
+/// A file whose calls are kept, with their answers. Once a write or a sync has failed none is made any more: the system may call pages written
+/// that the disk lacks, and a later sync that is good doesn't bring them there.
 pub trait RawFile: Drop {
     /// The calls and their answers, newest first.
     ghost events: { Self → List Event };
@@ -27,14 +28,17 @@ pub trait RawFile: Drop {
             ((bytes : List ℕ) × ((length bytes ≡ len) × (events self.new ≡ Opened bytes ∷ events self.old))) };
 
     fn read_at(&mut self, at: u64, out: &mut [u8]) -> Result<(), Fault>
+        requires { is_broken (events self.old) ≡ false }
         ensures good { OnOk result (events self.new ≡ Read at out.new ∷ events self.old) }
         ensures failed { OnErr result (events self.new ≡ FailedRead ∷ events self.old) };
 
     fn write_at(&mut self, at: u64, bytes: &[u8]) -> Result<(), Fault>
+        requires { is_broken (events self.old) ≡ false }
         ensures good { OnOk result (events self.new ≡ Write at bytes.now ∷ events self.old) }
         ensures failed { OnErr result (events self.new ≡ FailedWrite at (length bytes.now) ∷ events self.old) };
 
     fn sync(&mut self) -> Result<(), Fault>
+        requires { is_broken (events self.old) ≡ false }
         ensures good { OnOk result (events self.new ≡ Sync ∷ events self.old) }
         ensures failed { OnErr result (events self.new ≡ FailedSync ∷ events self.old) };
 }
